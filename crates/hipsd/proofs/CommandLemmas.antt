@@ -1,0 +1,96 @@
+-- Lemmas for the proof that the words of a command line are read exactly.
+use Rattle.std.proofs.Common.{◌≡◌, ◌≢◌, ℕ, zero, suc, ◌^◌, ◌<◌, ◌≤◌, ◌+◌, List, [], ◌∷◌, length, get_or, decimal, codes, Result, Ok, Err, MatchOption, refl, sym, ◌∙◌, ap, subst, arith}
+use Rattle.std.proofs.Math.ListN.{drop, drop_of_length-le}
+use Rattle.std.proofs.Math.Seq.{drop-cons}
+use Rattle.std.specs.Result.{result_ok}
+use Rattle.std.specs.Str.Parse.{AllDigits, digits_value, ParsesUnsigned}
+use Rattle.std.proofs.lemmas.Str.Parse.{IsNumeralModel, numerals_by_value, tells_digits, parse_plain, digit_at}
+use Rattle.std.proofs.lemmas.Fmt.{decimal_digit, decimal_nonempty, first_decimal, digits_decimal, decimal-digits_value, decimal_injective, parse-decimal}
+use Rattle.hipsd.specs.Command.{Asks, IsProbe, IsCommand, words_of}
+use Rattle.hipsd.specs.declared.command.Probe.{Probe}
+use Rattle.hipsd.specs.declared.command.Command.{Command}
+use Rattle.hipsd.specs.declared.command.Command.TheVariants.{Probe as ProbeCommand}
+
+own : IsNumeralModel (AllDigits 10) (digits_value 10)
+own = numerals_by_value (AllDigits 10) tells_digits
+
+-- how a number in plain decimals starts
+pub record StartsPlain (word : List ℕ) : Type 0 where
+  pub some : 0 < length word
+  pub least : 48 ≤ get_or word 0 0
+  pub greatest : get_or word 0 0 ≤ 57
+  pub alone : get_or word 0 0 ≡ 48 → length word ≡ 1
+
+decimal-starts_plain : (n : ℕ) → n < 2 ^ 64 → StartsPlain (decimal n)
+decimal-starts_plain zero small =
+    rw (decimal_digit 0 (omega arith))
+    record { some = omega arith; least = omega arith; greatest = omega arith; alone = λ _. refl }
+decimal-starts_plain (suc m) small =
+    let first : 48 < get_or (decimal (suc m)) 0 0 = first_decimal (suc m) (omega arith) small in
+    let some : 0 < length (decimal (suc m)) = decimal_nonempty (suc m) small in
+    let digit = digit_at (decimal (suc m)) 0 (digits_decimal own (suc m) small) some in
+    record { some = some; least = omega arith; greatest = omega arith; alone = λ e. absurd (omega arith) }
+
+pub starts_plain : (word : List ℕ) (n : ℕ) → n < 2 ^ 64 → word ≡ decimal n → StartsPlain word
+starts_plain word n small e = subst StartsPlain (sym e) (decimal-starts_plain n small)
+
+-- what `parse` gives of a word that starts so
+pub parsed_plain : {E : Type 0} (word : List ℕ) (r : Result ℕ E) → ParsesUnsigned 64 10 word r
+    → 48 ≤ get_or word 0 0 → (get_or word 0 0 ≡ 48 → length word ≡ 1)
+    → MatchOption (result_ok r) ((n : ℕ) → n < 2 ^ 64 → word ≢ decimal n) (λ n. word ≡ decimal n)
+parsed_plain {E = E} word (Ok n) parses least alone =
+    let p = parse_plain own {E = E} 64 word (Ok n) parses (λ e. omega arith) in
+    sym (decimal-digits_value own word p.0.0 p.0.1 alone p.0.2) ∙ ap decimal (sym p.1)
+parsed_plain {E = E} word (Err e) parses least alone =
+    λ n small same. let r : Err e ≡ Ok n = parse-decimal {E = E} 64 n word (Err e) small small same parses in cc
+
+-- ys are the items of xs from index i on
+abbrev pub HasItemsAt : {A : Type 0} → List A → ℕ → List A → Type 0
+HasItemsAt xs i [] = Unit {0}
+HasItemsAt xs i (y ∷ ys) = (y ≡ get_or xs i y) × HasItemsAt xs (suc i) ys
+
+items_on : {A : Type 0} (xs ys : List A) (i : ℕ) → length xs ≡ i + length ys → HasItemsAt xs i ys → drop i xs ≡ ys
+items_on xs [] i n h = drop_of_length-le xs (omega arith)
+items_on xs (y ∷ ys) i n h =
+    drop-cons xs i y (omega arith) ∙ (λ k. sym h.0 k ∷ items_on xs ys (suc i) (omega arith) h.1 k)
+
+-- what a slice pattern of this length reads is the whole list
+pub items_from_reads : {A : Type 0} (xs ys : List A) → length xs ≡ length ys → HasItemsAt xs 0 ys → xs ≡ ys
+items_from_reads xs ys n h = items_on xs ys 0 (omega arith) h
+
+-- where the order is none of 0 to top, no probe is asked
+pub no_order : (top : ℕ) → top ≤ 11 → (name n order npix : List ℕ)
+    → ((m : ℕ) → 0 ≤ m → m ≤ top → order ≢ decimal m)
+    → (asked : Probe) → ¬ Asks (name ∷ decimal top ∷ n ∷ order ∷ npix ∷ []) (ProbeCommand asked)
+no_order top high name n order npix none asked asks =
+    let spelled = asks.spelled in
+    let probe : IsProbe asked = asks.in_range in
+    let e : decimal top ≡ decimal asked.top = cc in
+    let same : top ≡ asked.top = decimal_injective top asked.top (omega arith) (omega arith) e in
+    none asked.order (omega arith) (omega arith) cc
+
+-- words that begin with `probe` and ask for no probe ask for nothing
+pub no_command : (top n order npix : List ℕ)
+    → ((asked : Probe) → ¬ Asks (codes "probe" ∷ top ∷ n ∷ order ∷ npix ∷ []) (ProbeCommand asked))
+    → ¬ IsCommand (codes "probe" ∷ top ∷ n ∷ order ∷ npix ∷ [])
+no_command top n order npix none (ProbeCommand asked, asks) = none asked asks
+
+-- words ask for one probe only
+pub same_probe : (words : List (List ℕ)) (a b : Probe) → Asks words (ProbeCommand a) → Asks words (ProbeCommand b) → a ≡ b
+same_probe words a b asks_a asks_b =
+    let e : words_of (ProbeCommand a) ≡ words_of (ProbeCommand b) = sym asks_a.spelled ∙ asks_b.spelled in
+    let top : decimal a.top ≡ decimal b.top = cc in
+    let n : decimal a.n ≡ decimal b.n = cc in
+    let order : decimal a.order ≡ decimal b.order = cc in
+    let npix : decimal a.npix ≡ decimal b.npix = cc in
+    let range_a : IsProbe a = asks_a.in_range in
+    let range_b : IsProbe b = asks_b.in_range in
+    let same_top : a.top ≡ b.top = decimal_injective a.top b.top (omega arith) (omega arith) top in
+    let same_n : a.n ≡ b.n = decimal_injective a.n b.n (omega arith) (omega arith) n in
+    let same_order : a.order ≡ b.order = decimal_injective a.order b.order (omega arith) (omega arith) order in
+    let same_npix : a.npix ≡ b.npix = decimal_injective a.npix b.npix (omega arith) (omega arith) npix in
+    λ i. record { top = same_top i; n = same_n i; order = same_order i; npix = same_npix i }
+
+-- and for one command only
+pub same_command : (words : List (List ℕ)) (a b : Command) → Asks words a → Asks words b → a ≡ b
+same_command words (ProbeCommand a) (ProbeCommand b) asks_a asks_b = ap (λ p. ProbeCommand p) (same_probe words a b asks_a asks_b)

@@ -1,0 +1,4 @@
+pub mod CommandLemmas
+pub mod EncodeLemmas
+pub mod LeavesLemmas
+pub mod ReadLemmas

@@ -1,0 +1,40 @@
+use Rattle.std.proofs.Common.{rules, arith, ◌∷◌, [], ◌≡◌, codes, string_bytes}
+use Rattle.hipsd.proofs.CommandLemmas.{items_from_reads, no_command}
+use Rattle.hipsd.proofs.command.read_command.Goals as goal
+
+pub returns-in_err-probe-in-len5-clause-none : goal.returns-in_err-probe-in-len5-clause-none
+returns-in_err-probe-in-len5-clause-none c =
+    let words =
+    items_from_reads c.args.words.now
+    (c.name-item.result ∷ c.top-item.result ∷ c.n-item.result ∷ c.order-item.result ∷ c.npix-item.result ∷ [])
+    (omega arith)
+    (c.name-item.is, (c.top-item.is, (c.n-item.is, (c.order-item.is, (c.npix-item.is, tt))))) in
+    let name : string_bytes c.name-item.result ≡ codes "probe" = search rules in
+    rw (
+      c.from_residual.ensures,
+      words,
+      name,
+      ← c.as_str-in-len5.ensures.value,
+      ← c.as_str-in-len5-2.ensures.value,
+      ← c.as_str-in-len5-3.ensures.value,
+      ← c.as_str-in-len5-4.ensures.value,
+    )
+    (no_command _ _ _ _ c.in_err-probe-in-len5.ensures.none)
+
+pub returns-in_ok-probe-in-len5-clause-asked : goal.returns-in_ok-probe-in-len5-clause-asked
+returns-in_ok-probe-in-len5-clause-asked c =
+    let words =
+    items_from_reads c.args.words.now
+    (c.name-item.result ∷ c.top-item.result ∷ c.n-item.result ∷ c.order-item.result ∷ c.npix-item.result ∷ [])
+    (omega arith)
+    (c.name-item.is, (c.top-item.is, (c.n-item.is, (c.order-item.is, (c.npix-item.is, tt))))) in
+    let name : string_bytes c.name-item.result ≡ codes "probe" = search rules in
+    rw (
+      words,
+      name,
+      ← c.as_str-in-len5.ensures.value,
+      ← c.as_str-in-len5-2.ensures.value,
+      ← c.as_str-in-len5-3.ensures.value,
+      ← c.as_str-in-len5-4.ensures.value,
+    )
+    c.in_ok-probe-in-len5.ensures.asked

@@ -1,0 +1,5 @@
+pub mod Command
+pub mod Records
+pub mod Reading
+pub mod Probe
+pub mod Run

@@ -1,0 +1,50 @@
+-- What `probe` answers.
+use Rattle.std.specs.Prelude.{ℕ, ◌/◌, List, [], flat_map, length, negsuc, ℤ, nat_le, ◌==◌, if◌then◌else◌}
+use Rattle.std.specs.Int.{cast_unsigned, w16}
+use Rattle.byteorder.specs.Endian.{big_bytes}
+use Rattle.healpix_nested.specs.Cells.{cell_count}
+use Rattle.parent_rule.specs.declared.combine.Combine.TheVariants.{Mean}
+use Rattle.parent_rule.specs.Depth.{PixelDepth}
+use Rattle.pyramid_model.specs.Shape.{PyramidShape, LeafMap}
+use Rattle.pyramid_model.specs.Tile.{exists, pixels}
+use Rattle.hipsd.specs.declared.command.Probe.{Probe}
+use Rattle.hipsd.specs.Records.{leaves_of, reading_status, record_length}
+
+-- the numbers of a probe: 16 bits, the blank number -32768, combined by the mean
+abbrev pub probe_depth : PixelDepth
+probe_depth = record { bitpix = 16; blank = negsuc 32767; combine = Mean }
+
+-- what was asked is of a pyramid of these numbers
+abbrev pub shape_of : Probe → PyramidShape
+shape_of asked = record { top = asked.top; low = 0; n = asked.n; depth = probe_depth }
+
+-- a status, and what is written
+pub record Answer : Type 0 where
+  pub status : ℕ
+  pub output : List ℕ
+
+-- nothing is written
+abbrev pub only_status : ℕ → Answer
+only_status status = record { status = status; output = [] }
+
+-- the leaves of an input of whole records
+abbrev pub leaves_read : Probe → List ℕ → LeafMap
+leaves_read asked input = leaves_of asked.n input (length input / record_length asked.n)
+
+-- stored numbers of 16 bits as bytes
+abbrev pub stored_bytes : List ℤ → List ℕ
+stored_bytes numbers = flat_map (λ v. big_bytes 2 (cast_unsigned w16 v)) numbers
+
+-- the tile of these leaves, or status 10 where no leaf lies at or under it
+abbrev pub tile_answer : Probe → LeafMap → Answer
+tile_answer asked leaves = if exists (shape_of asked) leaves asked.order asked.npix
+    then record { status = 0; output = stored_bytes (pixels (shape_of asked) leaves asked.order asked.npix) }
+    else only_status 10
+
+-- what is answered of an input: 13 for a tile that is no cell of its order, before the input is looked at; else as reading
+-- the records ends, and the tile where it ends by 0
+abbrev pub probe_answer : Probe → List ℕ → Answer
+probe_answer asked input =
+    if nat_le (cell_count asked.order) asked.npix then only_status 13
+    else (if reading_status asked.top asked.n input == 0 then tile_answer asked (leaves_read asked input)
+    else only_status (reading_status asked.top asked.n input))

@@ -1,0 +1,157 @@
+ghost use Rattle.std.specs.Prelude.{◌≡◌, ◌≢◌, ℕ, ◌^◌, ◌<◌, ◌≤◌, true, false, [], ◌∷◌, length, slice_index, IfSome, IfNone, MatchOption, codes, decimal};
+ghost use Rattle.hipsd.specs.Command.{texts, Asks, IsCommand};
+ghost use Rattle.hipsd.specs.declared.command.Probe.{Probe as AskedProbe};
+ghost use Rattle.hipsd.specs.declared.command.Command.TheVariants.{Probe as ProbeCommand};
+
+/// What `probe K N k p` asks for: tile `npix` of order `order`, over leaves of order `top` and tiles of `2^n` columns and
+/// lines.
+#[derive(Clone, Copy, Debug, PartialEq, Eq)]
+pub struct Probe {
+    pub top: u8,
+    pub n: u8,
+    pub order: u8,
+    pub npix: u64,
+}
+
+/// What the words of a command line ask for.
+#[derive(Clone, Copy, Debug, PartialEq, Eq)]
+pub enum Command {
+    /// One tile of the leaves that are read.
+    Probe(Probe),
+}
+
+/// The command that the words ask for; `None` exactly where they are no row of the table of commands.
+pub fn read_command(words: &[String]) -> Option<Command>
+    ensures asked { IfSome result (Asks (texts words.now)) }
+    ensures none { IfNone result (¬ IsCommand (texts words.now)) }
+{
+    match words {
+        [name, top, n, order, npix] if name.as_str() == "probe" => {
+            let probe = read_probe(top.as_str(), n.as_str(), order.as_str(), npix.as_str())?;
+            Some(Command::Probe(probe))
+        }
+        _ => None,
+    }
+}
+
+// The probe that the words after `probe` ask for.
+fn read_probe(top: &str, n: &str, order: &str, npix: &str) -> Option<Probe>
+    ensures asked { IfSome result (λ asked.
+        Asks (codes "probe" ∷ top.now ∷ n.now ∷ order.now ∷ npix.now ∷ []) (ProbeCommand asked)) }
+    ensures none { IfNone result ((asked : AskedProbe) →
+        ¬ Asks (codes "probe" ∷ top.now ∷ n.now ∷ order.now ∷ npix.now ∷ []) (ProbeCommand asked)) }
+{
+    let top = small_number(top, 3, 11)?;
+    let n = small_number(n, 1, 9)?;
+    let order = small_number(order, 0, top)?;
+    let npix = number(npix)?;
+    Some(Probe {
+        top,
+        n,
+        order,
+        npix,
+    })
+}
+
+// A number from `least` to `greatest`, in plain decimals.
+fn small_number(word: &str, least: u8, greatest: u8) -> Option<u8>
+    ensures { MatchOption result ((n : ℕ) → least ≤ n → n ≤ greatest → word.now ≢ decimal n)
+        (λ n. (word.now ≡ decimal n) × (least ≤ n) × (n ≤ greatest)) }
+{
+    let n = number(word)?;
+    if u64::from(least) <= n && n <= u64::from(greatest) {
+        Some(n as u8)
+    } else {
+        None
+    }
+}
+
+// A number of 64 bits in plain decimals, without a sign and without leading zeros.
+fn number(word: &str) -> Option<u64>
+    ensures { MatchOption result ((n : ℕ) → n < 2 ^ 64 → word.now ≢ decimal n) (λ n. word.now ≡ decimal n) }
+{
+    if starts_plain(word.as_bytes()) {
+        word.parse::<u64>().ok()
+    } else {
+        None
+    }
+}
+
+// Whether the word starts with a digit, and with `0` only where that is the whole word.
+fn starts_plain(word: &[u8]) -> bool
+    ensures yes { result ≡ true → (48 ≤ slice_index word.now 0) × (slice_index word.now 0 ≡ 48 → length word.now ≡ 1) }
+    ensures no { result ≡ false → (n : ℕ) → n < 2 ^ 64 → word.now ≢ decimal n }
+{
+    match word.first() {
+        Some(b'0') => word.len() == 1,
+        Some(first) => first.is_ascii_digit(),
+        None => false,
+    }
+}
+
+#[cfg(test)]
+mod tests {
+    use super::*;
+    use std::alloc::Global;
+    use std::test::Fail;
+
+    fn strings(alloc: Global, words: &[&str]) -> Result<Vec<String>, Fail> {
+        let mut strings = Vec::new(alloc);
+        for word in words {
+            strings.push(String::from_str(alloc, word)?)?;
+        }
+        Ok(strings)
+    }
+
+    #[test]
+    fn reads_the_rows_of_the_table(rt: HostRuntime) -> Result<(), Fail> {
+        let alloc = rt.alloc();
+        let last = "18446744073709551615";
+        for (words, top, n, order, npix) in [
+            (["probe", "4", "1", "3", "0"], 4, 1, 3, 0),
+            (["probe", "11", "9", "11", last], 11, 9, 11, u64::MAX),
+            (["probe", "3", "1", "0", "768"], 3, 1, 0, 768),
+        ] {
+            let asked = Command::Probe(Probe {
+                top,
+                n,
+                order,
+                npix,
+            });
+            assert_eq!(rt;
+                read_command(&strings(alloc, &words)?),
+                Some(asked),
+                "at {npix}"
+            );
+        }
+        Ok(())
+    }
+
+    #[test]
+    fn refuses_what_is_no_row_of_the_table(rt: HostRuntime) -> Result<(), Fail> {
+        let alloc = rt.alloc();
+        let rows: [&[&str]; 17] = [
+            &[],
+            &["probe"],
+            &["probe", "4", "1", "3"],
+            &["probe", "4", "1", "3", "0", "0"],
+            &["probe", "4", "1", "5", "0"],
+            &["probe", "2", "1", "2", "0"],
+            &["probe", "12", "1", "3", "0"],
+            &["probe", "4", "0", "3", "0"],
+            &["probe", "4", "10", "3", "0"],
+            &["probe", "04", "1", "3", "0"],
+            &["probe", "+4", "1", "3", "0"],
+            &["probe", "4", "1", "3", "-0"],
+            &["probe", "4", "1", "3", "00"],
+            &["probe", "4", "1", "3", "18446744073709551616"],
+            &["probe", "", "1", "3", "0"],
+            &["Probe", "4", "1", "3", "0"],
+            &["session"],
+        ];
+        for (row, words) in rows.iter().enumerate() {
+            assert_eq!(rt; read_command(&strings(alloc, words)?), None, "at {row}");
+        }
+        Ok(())
+    }
+}

@@ -1,0 +1,60 @@
+//! The leaves that the records of `probe` give.
+ghost use Rattle.std.specs.Prelude.{◌≡◌, ℕ, ◌+◌, ◌≤◌, ◌/◌, List, length, IfOk, IfErr, OnOk, Some, IsErrOf};
+ghost use Rattle.std.specs.Io.KnownBytes.{IsAtEnd};
+ghost use Rattle.survey_link.specs.Link.{Rises};
+ghost use Rattle.pyramid_model.specs.Shape.{FitsShape};
+ghost use Rattle.pyramid_model.specs.Leaves.{leaf_map};
+ghost use Rattle.hipsd.specs.Records.{leaves_of, record_length, reading_status};
+ghost use Rattle.hipsd.specs.Reading.{StandsFor, IsOfReading};
+ghost use Rattle.hipsd.specs.Probe.{probe_depth};
+
+use crate::probe::ProbeFault;
+use crate::records::next_record;
+use pyramid_model::plain::Leaves;
+use std::alloc::Global;
+use std::collections::BTreeMap;
+use survey_link::Source;
+
+/// The most records that are read.
+const MOST_RECORDS: u32 = 65_536;
+
+/// Reads leaf records to the end of the input; a later record of a leaf replaces the earlier.
+///
+/// # Errors
+///
+/// The first in the input: `OutOfRange` where a record's number is no leaf's, `Cut` where the input ends within a record,
+/// `TooMany` where it goes on after 65,536 records; `Read` only where the source's count of faults rose; `OutOfMemory`.
+pub fn read_leaves<S: Source>(
+    alloc: Global,
+    top: u8,
+    n: u8,
+    source: &mut S,
+) -> Result<Leaves, ProbeFault>
+    requires top { top ≤ 20 }
+    requires n { n ≤ 9 }
+    ensures whole { (input : List ℕ) → S.left source.old ≡ Some input → OnOk result (reading_status top n input ≡ 0) }
+    ensures leaves { (input : List ℕ) → S.left source.old ≡ Some input
+        → IfOk result (λ leaves. leaf_map leaves.entries ≡ leaves_of n input (length input / record_length n)) }
+    ensures refused { (input : List ℕ) → S.left source.old ≡ Some input
+        → IfErr result (λ fault. StandsFor fault (reading_status top n input)) }
+    ensures kinds { IfErr result IsOfReading }
+    ensures fits { IfOk result (λ leaves. FitsShape (record { top = top; low = 0; n = n; depth = probe_depth }) (leaf_map leaves.entries)) }
+    ensures end { OnOk result (IsAtEnd (S.left source.new)) }
+    ensures failed { IsErrOf result ProbeFault.Read → Rises (S.faults source.old) (S.faults source.new) }
+    ensures never_falls { S.faults source.old ≤ S.faults source.new }
+{
+    let mut leaves = BTreeMap::new(alloc);
+    for _count in 0..MOST_RECORDS {
+        match next_record(alloc, top, n, source)? {
+            None => return Ok(leaves),
+            Some((leaf, numbers)) => {
+                leaves.insert(leaf, numbers)?;
+            }
+        }
+    }
+    let mut more = [0];
+    if source.read(&mut more)? > 0 {
+        return Err(ProbeFault::TooMany);
+    }
+    Ok(leaves)
+}

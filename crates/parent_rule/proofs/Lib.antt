@@ -1,0 +1,5 @@
+mod Sums
+mod Medians
+mod Cases
+mod Rows
+mod Examples

@@ -1,0 +1,4 @@
+pub mod Depth
+pub mod Combined
+pub mod CombinedLaws
+pub mod Permit

@@ -1,0 +1,11 @@
+-- One merge of four tiles into the tile above them, which a permit allows and a counter counts.
+use Rattle.std.specs.Prelude.{ℕ, ◌+◌, ◌-◌, ◌^◌, min}
+
+-- the cell whose tile may be merged once
+pub record PermittedCell : Type 0 where
+  pub order : ℕ
+  pub npix : ℕ
+
+-- one step more; the counter stands still at its type's end
+abbrev pub one_more : ℕ → ℕ
+one_more count = min (count + 1) (2 ^ 64 - 1)

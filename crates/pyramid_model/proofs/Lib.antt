@@ -1,0 +1,3 @@
+pub mod Quads
+pub mod LeafLemmas
+pub mod ValueLemmas

@@ -1,0 +1,4 @@
+pub mod Shape
+pub mod Value
+pub mod Tile
+pub mod Leaves

@@ -1,0 +1,4 @@
+pub mod Copied
+pub mod Doors
+pub mod Paths
+pub mod Writes

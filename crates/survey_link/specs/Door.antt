@@ -1,0 +1,33 @@
+-- The connections that come through a door.
+use Rattle.std.specs.Prelude.{◌≡◌, ℕ, List, [], ◌∷◌, ◌++◌, length, Option, Some, None, ⊤, if◌then◌else◌, nat_lt}
+
+-- a connection: the bytes left in its source and those held by its sink, where they are told, and the counts of
+-- faults of both
+pub record Connection : Type 0 where
+  pub unread : Option (List ℕ)
+  pub written : Option (List ℕ)
+  pub source_faults : ℕ
+  pub sink_faults : ℕ
+
+-- the connections that are still to come, those that were taken and those that were given back, each in order
+pub record Connections : Type 0 where
+  pub waiting : List Connection
+  pub taken : List Connection
+  pub returned : List Connection
+
+-- the first of those to come was taken, and is this one; the others stay
+abbrev pub Takes : Option Connections → Option Connections → Connection → Type 0
+Takes None new connection = ⊤
+Takes (Some old) None connection = ⊥
+Takes (Some old) (Some new) connection =
+    (old.waiting ≡ connection ∷ new.waiting) × (new.taken ≡ old.taken ++ connection ∷ []) × (new.returned ≡ old.returned)
+
+-- no connection is still to come
+abbrev pub NoneWaits : Option Connections → Type 0
+NoneWaits None = ⊤
+NoneWaits (Some told) = told.waiting ≡ []
+
+-- the connection is the last of those given back, where fewer were given back than taken; all else stays
+abbrev pub given_back : Connection → Connections → Connections
+given_back connection old = if nat_lt (length old.returned) (length old.taken)
+    then record old { returned = old.returned ++ connection ∷ [] } else old

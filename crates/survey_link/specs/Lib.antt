@@ -1,0 +1,6 @@
+pub mod Link
+pub mod Shelf
+pub mod Door
+pub mod Memory
+pub mod Files
+pub mod Stream

@@ -1,0 +1,115 @@
+-- The forms in memory: what they hold, and what a call does to it. Calls are numbered from 0, and those whose numbers are
+-- listed fail.
+use Rattle.std.specs.Prelude.{ℕ, ◌+◌, ◌-◌, ◌^◌, ◌≤◌, ◌⊎◌, min, List, [], ◌∷◌, ◌++◌, length, take, drop, map, Some, Contains, if◌then◌else◌, nat_lt}
+use Rattle.survey_link.specs.Door.{Connection, Connections}
+use Rattle.survey_link.specs.Shelf.{ShelfFiles}
+
+-- one more, up to the end of a u64
+abbrev pub one_more : ℕ → ℕ
+one_more n = min (n + 1) (2 ^ 64 - 1)
+
+-- a source: the bytes left, how many a read gives at most, the calls that fail, and how many calls came and failed
+pub record SourceState : Type 0 where
+  pub unread : List ℕ
+  pub piece : ℕ
+  pub fails : List ℕ
+  pub calls : ℕ
+  pub faults : ℕ
+
+-- how many bytes a read into so much room gives
+abbrev pub piece_of : SourceState → ℕ → ℕ
+piece_of source space = min (min (length source.unread) source.piece) space
+
+-- a read gave the next m bytes
+abbrev pub after_read : ℕ → SourceState → SourceState
+after_read m source = record source { unread = drop m source.unread; calls = one_more source.calls }
+
+-- a read failed
+abbrev pub after_failed_read : SourceState → SourceState
+after_failed_read source = record source { calls = one_more source.calls; faults = one_more source.faults }
+
+-- a sink: the bytes written, how many it holds at most, the calls that fail, and how many calls came and failed
+pub record SinkState : Type 0 where
+  pub written : List ℕ
+  pub room : ℕ
+  pub fails : List ℕ
+  pub calls : ℕ
+  pub faults : ℕ
+
+-- the next write fails: its number is listed, or the sink is full
+abbrev pub WriteFails : SinkState → Type 0
+WriteFails sink = Contains sink.fails sink.calls ⊎ (sink.room ≤ length sink.written)
+
+-- how many of so many bytes a write takes
+abbrev pub taken_of : SinkState → ℕ → ℕ
+taken_of sink count = min count (sink.room - length sink.written)
+
+-- a write took these bytes
+abbrev pub after_write : List ℕ → SinkState → SinkState
+after_write bytes sink = record sink { written = sink.written ++ bytes; calls = one_more sink.calls }
+
+-- a flush went well
+abbrev pub after_flush : SinkState → SinkState
+after_flush sink = record sink { calls = one_more sink.calls }
+
+-- a write or a flush failed
+abbrev pub after_failed_write : SinkState → SinkState
+after_failed_write sink = record sink { calls = one_more sink.calls; faults = one_more sink.faults }
+
+-- a shelf: its files, the calls that fail, and how many calls came and failed
+pub record ShelfState : Type 0 where
+  pub files : ShelfFiles
+  pub fails : List ℕ
+  pub calls : ℕ
+  pub faults : ℕ
+
+-- a call went well, or there was no memory, and left these files
+abbrev pub after_call : ShelfFiles → ShelfState → ShelfState
+after_call files shelf = record shelf { files = files; calls = one_more shelf.calls }
+
+-- a call failed
+abbrev pub after_failed_call : ShelfState → ShelfState
+after_failed_call shelf = record shelf { calls = one_more shelf.calls; faults = one_more shelf.faults }
+
+-- a door: the connections it was given, how many of them it handed out, those given back, the calls that fail, and how many
+-- calls came and failed
+pub record DoorState : Type 0 where
+  pub all : List (SourceState × SinkState)
+  pub next : ℕ
+  pub returned : List (SourceState × SinkState)
+  pub fails : List ℕ
+  pub calls : ℕ
+  pub faults : ℕ
+
+-- what is told of a connection in memory
+abbrev pub connection_of : SourceState × SinkState → Connection
+connection_of ends = record {
+  unread = Some ends.0.unread;
+  written = Some ends.1.written;
+  source_faults = ends.0.faults;
+  sink_faults = ends.1.faults;
+}
+
+-- what is told of the connections of a door in memory
+abbrev pub connections_of : DoorState → Connections
+connections_of door = record {
+  waiting = map connection_of (drop door.next door.all);
+  taken = map connection_of (take door.next door.all);
+  returned = map connection_of door.returned;
+}
+
+-- the next connection was handed out
+abbrev pub after_accept : DoorState → DoorState
+after_accept door = record door { next = door.next + 1; calls = one_more door.calls }
+
+-- no connection was left
+abbrev pub after_none : DoorState → DoorState
+after_none door = record door { calls = one_more door.calls }
+
+-- an accept failed
+abbrev pub after_failed_accept : DoorState → DoorState
+after_failed_accept door = record door { calls = one_more door.calls; faults = one_more door.faults }
+
+-- a connection was given back: it is kept where fewer were given back than handed out
+abbrev pub after_done : SourceState × SinkState → DoorState → DoorState
+after_done ends door = if nat_lt (length door.returned) door.next then record door { returned = door.returned ++ ends ∷ [] } else door

@@ -1,0 +1,62 @@
+ghost use Rattle.std.specs.Prelude.{◌≡◌, ◌↔◌, Contains, IsTrue, IfOk};
+ghost use Rattle.survey_link.specs.Memory.{one_more};
+
+use std::alloc::{AllocError, Global};
+
+/// Which calls are to fail, by their numbers from 0, and how many came and failed.
+#[derive(Drop)]
+pub(crate) struct Calls {
+    pub(crate) fails: Vec<u64>,
+    pub(crate) made: u64,
+    pub(crate) faults: u64,
+}
+
+impl Calls {
+    pub(crate) fn new(fails: Vec<u64>) -> Calls
+        ensures fails { result.fails ≡ fails }
+        ensures made { result.made ≡ 0 }
+        ensures faults { result.faults ≡ 0 }
+    {
+        Calls {
+            fails,
+            made: 0,
+            faults: 0,
+        }
+    }
+
+    /// The same calls.
+    pub(crate) fn copy(&self, alloc: Global) -> Result<Calls, AllocError>
+        ensures fails { IfOk result (λ copy. copy.fails.items ≡ self.now.fails.items) }
+        ensures made { IfOk result (λ copy. copy.made ≡ self.now.made) }
+        ensures faults { IfOk result (λ copy. copy.faults ≡ self.now.faults) }
+    {
+        let fails = Vec::from_slice(alloc, self.fails.as_slice())?;
+        Ok(Calls {
+            fails,
+            made: self.made,
+            faults: self.faults,
+        })
+    }
+
+    /// Whether the next call is to fail.
+    pub(crate) fn fails_next(&self) -> bool
+        ensures { IsTrue result ↔ Contains self.now.fails.items self.now.made }
+    {
+        self.fails.contains(&self.made)
+    }
+
+    /// Counts a call.
+    pub(crate) fn count(&mut self)
+        ensures { self.new ≡ record self.old { made = one_more self.old.made } }
+    {
+        self.made = self.made.saturating_add(1);
+    }
+
+    /// Counts a call that fails.
+    pub(crate) fn fail(&mut self)
+        ensures { self.new ≡ record self.old { made = one_more self.old.made; faults = one_more self.old.faults } }
+    {
+        self.made = self.made.saturating_add(1);
+        self.faults = self.faults.saturating_add(1);
+    }
+}

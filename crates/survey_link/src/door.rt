@@ -1,0 +1,54 @@
+ghost use Rattle.std.specs.Prelude.{◌≡◌, ℕ, ◌≤◌, Option, IfOk, OnErr, IsErrOf, MatchOption, option_map};
+ghost use Rattle.survey_link.specs.Link.{Rises};
+ghost use Rattle.survey_link.specs.Door.{Connections, Takes, NoneWaits, given_back};
+
+use crate::faults::DoorFault;
+use crate::sink::Sink;
+use crate::source::Source;
+
+/// Where connections come through, each a source and a sink.
+pub trait Door {
+    /// What a connection's peer sends.
+    type In: Source + Drop;
+
+    /// What a connection's peer is sent.
+    type Out: Sink + Drop;
+
+    /// The connections to come, taken and given back, where they are told.
+    ghost connections: { Self → Option Connections };
+
+    /// How often it has failed. The count never falls.
+    ghost faults: { Self → ℕ };
+
+    /// The next connection; `None` exactly where none is left, where that is told.
+    ///
+    /// # Errors
+    ///
+    /// `DoorFault::Failed` only where the count of faults rose; `DoorFault::OutOfMemory`. The connections stay.
+    fn accept(&mut self) -> Result<Option<(Self::In, Self::Out)>, DoorFault>
+        ensures next { IfOk result (λ next. MatchOption next
+            (NoneWaits (connections self.old) × (connections self.new ≡ connections self.old))
+            (λ taken. Takes (connections self.old) (connections self.new) (record {
+              unread = Self.In.left taken.0;
+              written = Self.Out.held taken.1;
+              source_faults = Self.In.faults taken.0;
+              sink_faults = Self.Out.faults taken.1;
+            }))) }
+        ensures kept { OnErr result (connections self.new ≡ connections self.old) }
+        ensures failed { IsErrOf result DoorFault.Failed → Rises (faults self.old) (faults self.new) }
+        ensures never_falls { faults self.old ≤ faults self.new };
+
+    /// How often the door has failed.
+    fn faults(&self) -> u64
+        ensures { result ≡ faults self.now };
+
+    /// Takes a connection back. A door that tells keeps it where fewer were given back than taken, and else drops it.
+    fn done(&mut self, input: Self::In, output: Self::Out)
+        ensures returned { connections self.new ≡ option_map (given_back (record {
+          unread = Self.In.left input;
+          written = Self.Out.held output;
+          source_faults = Self.In.faults input;
+          sink_faults = Self.Out.faults output;
+        })) (connections self.old) }
+        ensures faults { faults self.new ≡ faults self.old };
+}

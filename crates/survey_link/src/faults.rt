@@ -1,0 +1,54 @@
+use std::error::Error;
+use std::fmt;
+
+/// The outside failed: its count of faults rose.
+#[derive(Clone, Copy, Debug, PartialEq, Eq, Hash)]
+pub struct Failed;
+
+/// Why a call on a shelf was refused.
+#[derive(Clone, Copy, Debug, PartialEq, Eq, Hash)]
+pub enum LinkFault {
+    /// The shelf failed: its count of faults rose.
+    Failed,
+    /// There was no memory.
+    OutOfMemory,
+}
+
+/// Why no connection was accepted.
+#[derive(Clone, Copy, Debug, PartialEq, Eq, Hash)]
+pub enum DoorFault {
+    /// The door failed: its count of faults rose.
+    Failed,
+    /// There was no memory.
+    OutOfMemory,
+}
+
+impl fmt::Display for Failed {
+    fn fmt<W: fmt::Write>(&self, f: &mut fmt::Formatter<W>) -> fmt::Result {
+        f.write_str("a read or a write failed")
+    }
+}
+
+impl fmt::Display for LinkFault {
+    fn fmt<W: fmt::Write>(&self, f: &mut fmt::Formatter<W>) -> fmt::Result {
+        f.write_str(match self {
+            LinkFault::Failed => "the shelf failed",
+            LinkFault::OutOfMemory => "out of memory",
+        })
+    }
+}
+
+impl fmt::Display for DoorFault {
+    fn fmt<W: fmt::Write>(&self, f: &mut fmt::Formatter<W>) -> fmt::Result {
+        f.write_str(match self {
+            DoorFault::Failed => "the door failed",
+            DoorFault::OutOfMemory => "out of memory",
+        })
+    }
+}
+
+impl Error for Failed {}
+
+impl Error for LinkFault {}
+
+impl Error for DoorFault {}

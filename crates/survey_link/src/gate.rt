@@ -1,0 +1,20 @@
+/// What is passed before each merge of tiles. It has no meaning of its own: tests hold a worker there.
+pub trait Gate {
+    /// Returns, sooner or later.
+    fn pass(&self, order: u8, npix: u64);
+}
+
+/// A gate that stands open.
+#[derive(Drop)]
+pub struct OpenGate;
+
+impl OpenGate {
+    /// A gate.
+    pub fn new() -> OpenGate {
+        OpenGate
+    }
+}
+
+impl Gate for OpenGate {
+    fn pass(&self, _order: u8, _npix: u64) {}
+}

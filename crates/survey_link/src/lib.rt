@@ -1,0 +1,37 @@
+//! The outside, as a survey sees it.
+//!
+//! Bytes come from a `Source` and go to a `Sink`; files lie on a `Shelf`; connections come through a `Door`; a `Gate` is
+//! passed before each merge of tiles. Each counts its faults. Those in memory tell what they hold; the real ones don't.
+#![tactic(auto)]
+
+mod calls;
+mod door;
+mod faults;
+mod gate;
+mod mem_door;
+mod mem_shelf;
+mod mem_sink;
+mod mem_source;
+mod null_sink;
+mod shelf;
+mod sink;
+mod source;
+mod stream;
+mod sure_source;
+
+pub use door::Door;
+pub use faults::{DoorFault, Failed, LinkFault};
+pub use gate::{Gate, OpenGate};
+pub use mem_door::MemDoor;
+pub use mem_shelf::MemShelf;
+pub use mem_sink::MemSink;
+pub use mem_source::MemSource;
+pub use null_sink::NullSink;
+pub use shelf::Shelf;
+pub use sink::{Sink, write_whole};
+pub use source::Source;
+pub use stream::{StreamSink, StreamSource};
+pub use sure_source::SureSource;
+
+#[cfg(test)]
+mod tests;

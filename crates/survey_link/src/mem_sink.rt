@@ -1,0 +1,119 @@
+ghost use Rattle.std.specs.Prelude.{◌≡◌, ◌<◌, ◌≤◌, ◌↔◌, [], Some, Contains, length, take, IfOk, OnOk, OnErr, IsErr};
+ghost use Rattle.survey_link.specs.Memory.{WriteFails, taken_of, after_write, after_flush, after_failed_write};
+
+use crate::calls::Calls;
+use crate::faults::Failed;
+use crate::sink::Sink;
+use std::alloc::{AllocError, Global};
+use std::marker::Model;
+
+/// A sink that holds what it takes, up to a given room, and which fails at given calls.
+#[derive(Drop)]
+pub struct MemSink {
+    bytes: Vec<u8>,
+    room: usize,
+    calls: Calls,
+}
+
+impl Model for MemSink {
+    ghost use Rattle.std.specs.Prelude.{◌≤◌, vec_len, vec_capacity};
+    ghost use Rattle.survey_link.specs.Memory.{SinkState};
+
+    ghost Value = { SinkState };
+
+    ghost view = { λ a. record {
+      written = a.bytes.items;
+      room = a.room;
+      fails = a.calls.fails.items;
+      calls = a.calls.made;
+      faults = a.calls.faults;
+    } };
+
+    ghost invariant = { λ a. (vec_len a.bytes ≤ a.room) × (a.room ≤ vec_capacity a.bytes) };
+}
+
+impl MemSink {
+    /// A sink with room for so many bytes, all reserved here, so that no write allocates. The calls numbered in `fails`,
+    /// writes and flushes counted together from 0, fail; so does a write where no room is left.
+    ///
+    /// # Errors
+    ///
+    /// `AllocError` where there is no memory for the room.
+    pub fn new(alloc: Global, room: usize, fails: Vec<u64>) -> Result<MemSink, AllocError>
+        ensures { IfOk result (λ sink. sink ≡ record {
+          written = [];
+          room = room;
+          fails = fails.items;
+          calls = 0;
+          faults = 0;
+        }) }
+    {
+        let bytes = Vec::with_capacity(alloc, room)?;
+        Ok(MemSink {
+            bytes,
+            room,
+            calls: Calls::new(fails),
+        })
+    }
+
+    /// The bytes written.
+    pub fn bytes(&self) -> &[u8]
+        ensures { result.now ≡ self.now.written }
+    {
+        &self.bytes
+    }
+
+    /// A sink in the same state, with room of its own.
+    pub(crate) fn copy(&self, alloc: Global) -> Result<MemSink, AllocError>
+        ensures { IfOk result (λ copy. copy ≡ self.now) }
+    {
+        let mut bytes = Vec::with_capacity(alloc, self.room)?;
+        bytes.extend_from_slice(self.bytes.as_slice())?;
+        let calls = self.calls.copy(alloc)?;
+        Ok(MemSink {
+            bytes,
+            room: self.room,
+            calls,
+        })
+    }
+}
+
+impl Sink for MemSink {
+    ghost held = { λ s. Some s.written };
+
+    ghost faults = { λ s. s.faults };
+
+    fn write(&mut self, buf: &[u8]) -> Result<usize, Failed>
+        requires { 0 < length buf.now }
+        ensures fails { IsErr result ↔ WriteFails self.old }
+        ensures count { IfOk result (λ m. m ≡ taken_of self.old (length buf.now)) }
+        ensures given { IfOk result (λ m. self.new ≡ after_write (take m buf.now) self.old) }
+        ensures refused { OnErr result (self.new ≡ after_failed_write self.old) }
+        ensures some { IfOk result (λ m. 0 < m) }
+        ensures never_falls { self.old.faults ≤ self.new.faults }
+    {
+        let left = self.room - self.bytes.len();
+        if left == 0 || self.calls.fails_next() {
+            self.calls.fail();
+            return Err(Failed);
+        }
+        self.calls.count();
+        let count = buf.len().min(left);
+        self.bytes.extend_from_slice(&buf[..count]).unwrap();
+        Ok(count)
+    }
+
+    fn flush(&mut self) -> Result<(), Failed>
+        ensures fails { IsErr result ↔ Contains self.old.fails self.old.calls }
+        ensures flushed { OnOk result (self.new ≡ after_flush self.old) }
+        ensures refused { OnErr result (self.new ≡ after_failed_write self.old) }
+        ensures never_falls { self.old.faults ≤ self.new.faults }
+    {
+        if self.calls.fails_next() {
+            self.calls.fail();
+            return Err(Failed);
+        }
+        self.calls.count();
+        Ok(())
+    }
+}

@@ -1,0 +1,57 @@
+ghost use Rattle.std.specs.Prelude.{◌≡◌, ℕ, ◌<◌, ◌≤◌, List, Option, length, take, IfOk, OnOk, OnErr};
+ghost use Rattle.std.specs.Io.KnownBytes.{Appends};
+ghost use Rattle.survey_link.specs.Link.{Rises, AppendsPrefix};
+
+use crate::faults::Failed;
+
+/// Where bytes go to.
+pub trait Sink {
+    /// The bytes held, where they are told.
+    ghost held: { Self → Option (List ℕ) };
+
+    /// How often it has failed. The count never falls.
+    ghost faults: { Self → ℕ };
+
+    /// Writes some first bytes of `buf`, at least one, and answers how many.
+    ///
+    /// # Errors
+    ///
+    /// `Failed` only where the count of faults rose; what is held stays.
+    fn write(&mut self, buf: &[u8]) -> Result<usize, Failed>
+        requires { 0 < length buf.now }
+        ensures some { IfOk result (λ m. 0 < m) }
+        ensures count { IfOk result (λ m. m ≤ length buf.now) }
+        ensures appended { IfOk result (λ m. Appends (held self.old) (held self.new) (take m buf.now)) }
+        ensures kept { OnErr result (held self.new ≡ held self.old) }
+        ensures failed { OnErr result (Rises (faults self.old) (faults self.new)) }
+        ensures never_falls { faults self.old ≤ faults self.new };
+
+    /// Hands on what was written. What is held stays.
+    ///
+    /// # Errors
+    ///
+    /// `Failed` only where the count of faults rose.
+    fn flush(&mut self) -> Result<(), Failed>
+        ensures kept { held self.new ≡ held self.old }
+        ensures failed { OnErr result (Rises (faults self.old) (faults self.new)) }
+        ensures never_falls { faults self.old ≤ faults self.new };
+}
+
+/// Writes all the bytes.
+///
+/// # Errors
+///
+/// `Failed` only where the sink's count of faults rose; some first bytes may have been written.
+pub fn write_whole<K: Sink>(sink: &mut K, bytes: &[u8]) -> Result<(), Failed>
+    ensures whole { OnOk result (Appends (K.held sink.old) (K.held sink.new) bytes.now) }
+    ensures part { OnErr result (AppendsPrefix (K.held sink.old) (K.held sink.new) bytes.now) }
+    ensures failed { OnErr result (Rises (K.faults sink.old) (K.faults sink.new)) }
+    ensures never_falls { K.faults sink.old ≤ K.faults sink.new }
+{
+    let mut rest = bytes;
+    while !rest.is_empty() {
+        let written = sink.write(rest)?;
+        rest = &rest[written..];
+    }
+    Ok(())
+}

@@ -1,0 +1,28 @@
+ghost use Rattle.std.specs.Prelude.{◌≡◌, ℕ, ◌<◌, ◌≤◌, List, Option, length, take, IfOk, OnErr, Ok};
+ghost use Rattle.std.specs.Io.KnownBytes.{Consumes, IsAtEnd};
+ghost use Rattle.survey_link.specs.Link.{Rises};
+
+use crate::faults::Failed;
+
+/// Where bytes come from.
+pub trait Source {
+    /// The bytes left, where they are told.
+    ghost left: { Self → Option (List ℕ) };
+
+    /// How often it has failed. The count never falls.
+    ghost faults: { Self → ℕ };
+
+    /// Reads the next bytes to the front of `buf`, and answers how many: 0 exactly where nothing is left.
+    ///
+    /// # Errors
+    ///
+    /// `Failed` only where the count of faults rose; what is left stays.
+    fn read(&mut self, buf: &mut [u8]) -> Result<usize, Failed>
+        requires { 0 < length buf.old }
+        ensures count { IfOk result (λ m. m ≤ length buf.old) }
+        ensures taken { IfOk result (λ m. Consumes (left self.old) (left self.new) (take m buf.new)) }
+        ensures end { result ≡ Ok 0 → IsAtEnd (left self.new) }
+        ensures kept { OnErr result (left self.new ≡ left self.old) }
+        ensures failed { OnErr result (Rises (faults self.old) (faults self.new)) }
+        ensures never_falls { faults self.old ≤ faults self.new };
+}

@@ -1,0 +1,142 @@
+ghost use Rattle.std.specs.Prelude.{◌≡◌, ◌<◌, ◌≤◌, None, length, take, IfOk, OnOk, OnErr};
+ghost use Rattle.std.specs.Io.KnownBytes.{Appends, Consumes, IsAtEnd, Keeps};
+ghost use Rattle.survey_link.specs.Memory.{one_more};
+
+use crate::faults::Failed;
+use crate::sink::Sink;
+use crate::source::Source;
+use std::io::{ErrorKind, Read, Write};
+use std::marker::Model;
+
+/// A source over a reader of std. It tells nothing of the bytes left.
+#[derive(Drop)]
+pub struct StreamSource<R> {
+    stream: R,
+    faults: u64,
+}
+
+impl<R> Model for StreamSource<R> {
+    ghost use Rattle.survey_link.specs.Stream.{StreamState, stream_code};
+
+    ghost Value = { StreamState R };
+
+    ghost coded = { stream_code R.code };
+
+    ghost view = { λ a. record { stream = a.stream; faults = a.faults } };
+}
+
+impl<R> StreamSource<R> {
+    /// A source over the reader.
+    pub fn new(stream: R) -> StreamSource<R>
+        ensures { result ≡ record { stream = stream; faults = 0 } }
+    {
+        StreamSource { stream, faults: 0 }
+    }
+}
+
+impl<R: Read> Source for StreamSource<R> {
+    ghost left = { λ _. None };
+
+    ghost faults = { λ s. s.faults };
+
+    fn read(&mut self, buf: &mut [u8]) -> Result<usize, Failed>
+        requires { 0 < length buf.old }
+        ensures count { IfOk result (λ m. m ≤ length buf.old) }
+        ensures given { IfOk result (λ m. Consumes (R.remaining self.old.stream) (R.remaining self.new.stream) (take m buf.new)) }
+        ensures end { result ≡ Ok 0 → IsAtEnd (R.remaining self.new.stream) }
+        ensures kept { OnErr result (Keeps (R.remaining self.old.stream) (R.remaining self.new.stream)) }
+        ensures sound { OnOk result (self.new.faults ≡ self.old.faults) }
+        ensures refused { OnErr result (self.new.faults ≡ one_more self.old.faults) }
+        ensures never_falls { self.old.faults ≤ self.new.faults }
+    {
+        for _ in 0..u64::MAX {
+            match self.stream.read(buf) {
+                Ok(count) => return Ok(count),
+                Err(error) => {
+                    if error.kind() != ErrorKind::Interrupted {
+                        break;
+                    }
+                }
+            }
+        }
+        self.faults = self.faults.saturating_add(1);
+        Err(Failed)
+    }
+}
+
+/// A sink over a writer of std. It tells nothing of the bytes written.
+#[derive(Drop)]
+pub struct StreamSink<W> {
+    stream: W,
+    faults: u64,
+}
+
+impl<W> Model for StreamSink<W> {
+    ghost use Rattle.survey_link.specs.Stream.{StreamState, stream_code};
+
+    ghost Value = { StreamState W };
+
+    ghost coded = { stream_code W.code };
+
+    ghost view = { λ a. record { stream = a.stream; faults = a.faults } };
+}
+
+impl<W> StreamSink<W> {
+    /// A sink over the writer.
+    pub fn new(stream: W) -> StreamSink<W>
+        ensures { result ≡ record { stream = stream; faults = 0 } }
+    {
+        StreamSink { stream, faults: 0 }
+    }
+}
+
+impl<W: Write> Sink for StreamSink<W> {
+    ghost held = { λ _. None };
+
+    ghost faults = { λ s. s.faults };
+
+    fn write(&mut self, buf: &[u8]) -> Result<usize, Failed>
+        requires { 0 < length buf.now }
+        ensures some { IfOk result (λ m. 0 < m) }
+        ensures count { IfOk result (λ m. m ≤ length buf.now) }
+        ensures given { IfOk result (λ m. Appends (W.contents self.old.stream) (W.contents self.new.stream) (take m buf.now)) }
+        ensures kept { OnErr result (Keeps (W.contents self.old.stream) (W.contents self.new.stream)) }
+        ensures sound { OnOk result (self.new.faults ≡ self.old.faults) }
+        ensures refused { OnErr result (self.new.faults ≡ one_more self.old.faults) }
+        ensures never_falls { self.old.faults ≤ self.new.faults }
+    {
+        for _ in 0..u64::MAX {
+            match self.stream.write(buf) {
+                Ok(0) => break,
+                Ok(count) => return Ok(count),
+                Err(error) => {
+                    if error.kind() != ErrorKind::Interrupted {
+                        break;
+                    }
+                }
+            }
+        }
+        self.faults = self.faults.saturating_add(1);
+        Err(Failed)
+    }
+
+    fn flush(&mut self) -> Result<(), Failed>
+        ensures kept { Keeps (W.contents self.old.stream) (W.contents self.new.stream) }
+        ensures sound { OnOk result (self.new.faults ≡ self.old.faults) }
+        ensures refused { OnErr result (self.new.faults ≡ one_more self.old.faults) }
+        ensures never_falls { self.old.faults ≤ self.new.faults }
+    {
+        for _ in 0..u64::MAX {
+            match self.stream.flush() {
+                Ok(()) => return Ok(()),
+                Err(error) => {
+                    if error.kind() != ErrorKind::Interrupted {
+                        break;
+                    }
+                }
+            }
+        }
+        self.faults = self.faults.saturating_add(1);
+        Err(Failed)
+    }
+}
