@@ -3,7 +3,7 @@ ghost use Rattle.parent_rule.specs.Permit.{one_more};
 
 use std::marker::Model;
 
-/// How many merges were allowed. The count stands still at `2^64 - 1`.
+/// How many tiles were read, and how many merges allowed. The count stands still at `2^64 - 1`.
 #[derive(Debug, Drop)]
 pub struct Steps {
     count: u64,
@@ -28,6 +28,14 @@ impl Steps {
         ensures { result ≡ self.now }
     {
         self.count
+    }
+
+    /// Counts one step: the reading or the merging of a tile.
+    pub fn tick(&mut self)
+        ensures counted { self.new ≡ one_more self.old }
+        ensures never_falls { self.old ≤ self.new }
+    {
+        self.count = self.count.saturating_add(1);
     }
 }
 
@@ -54,7 +62,7 @@ impl Permit {
         ensures counted { steps.new ≡ one_more steps.old }
         ensures never_falls { steps.old ≤ steps.new }
     {
-        steps.count = steps.count.saturating_add(1);
+        steps.tick();
         Permit { order, npix }
     }
 

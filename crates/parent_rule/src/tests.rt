@@ -90,6 +90,8 @@ fn counts_permits(rt: HostRuntime) {
         assert_eq!(rt; steps.count(), count);
         permit.spend();
     }
+    steps.tick();
+    assert_eq!(rt; steps.count(), 4);
 }
 
 // Compares each place of a combined row with the four numbers under it.
