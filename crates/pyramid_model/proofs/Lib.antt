@@ -1,3 +1,4 @@
 pub mod Quads
 pub mod LeafLemmas
 pub mod ValueLemmas
+pub mod Examples

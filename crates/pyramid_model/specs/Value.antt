@@ -15,7 +15,7 @@ unfoldable pub value_above : PyramidShape → LeafMap → ℕ → ℕ → ℤ
 value_above shape leaves zero q = pixel_of shape (leaf_numbers leaves (q / 4 ^ shape.n)) (q % 4 ^ shape.n)
 value_above shape leaves (suc height) q = combined shape.depth.combine shape.depth.blank
     (value_above shape leaves height (4 * q) ∷ value_above shape leaves height (4 * q + 1) ∷
-        value_above shape leaves height (4 * q + 2) ∷ value_above shape leaves height (4 * q + 3) ∷ [])
+    value_above shape leaves height (4 * q + 2) ∷ value_above shape leaves height (4 * q + 3) ∷ [])
 
 -- the value of cell q of order j, from 0 to the order of the leaves' pixels
 abbrev pub value : PyramidShape → LeafMap → ℕ → ℕ → ℤ

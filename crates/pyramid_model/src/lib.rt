@@ -2,7 +2,10 @@
 //! above cites, and the plain program that computes them cell by cell.
 #![tactic(auto)]
 
+pub mod laws;
 pub mod plain;
 mod shape;
+#[cfg(test)]
+mod tests;
 
 pub use shape::Shape;

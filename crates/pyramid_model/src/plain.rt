@@ -45,7 +45,8 @@ pub fn exists(leaves: &Leaves, shape: &Shape, order: u8, npix: u64) -> bool
     any_in(leaves, npix * below, (npix + 1) * below)
 }
 
-// Whether some leaf has pixels under a cell. An order past that of the leaves names a part of one leaf.
+// Whether some leaf has pixels under a cell. An order past that of the leaves names a part of one leaf. Callers rest on a
+// `false` alone: a `true` only costs them time.
 fn has_pixels(leaves: &Leaves, shape: &Shape, order: u8, cell: u64) -> bool
     requires order { order ≤ shape.now.top + shape.now.n }
     requires cell { cell < cell_count order }

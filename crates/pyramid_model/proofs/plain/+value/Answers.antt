@@ -1,8 +1,9 @@
-use Rattle.std.proofs.Common.{◌≡◌, ℕ, ◌+◌, ◌-◌, ◌*◌, ◌/◌, ◌%◌, ◌^◌, ◌<◌, ◌≤◌, ◌∙◌, sym, ap, arith, rules, w64}
+use Rattle.std.proofs.Common.{◌≡◌, ◌+◌, ◌-◌, ◌∙◌, sym, ap, arith, rules, w64}
 use Rattle.std.proofs.lemmas.Int.{to_z-of_z}
 use Rattle.pyramid_model.specs.Leaves.{leaf_map}
 use Rattle.pyramid_model.proofs.Quads.{children_fit}
-use Rattle.pyramid_model.proofs.ValueLemmas.{blank_below, value_step, value_pixel, numbers_of_four, value_of_four}
+use Rattle.pyramid_model.specs.ValueLaws.{blank_below, value_pixel}
+use Rattle.pyramid_model.proofs.ValueLemmas.{numbers_of_four, value_of_four}
 use Rattle.pyramid_model.proofs.plain.+value.Goals as goal
 use mir.Val.{SFits}
 
@@ -52,5 +53,5 @@ returns-clause-value t c =
     let top_is : c.shape.inside.top + c.shape.inside.n ≡ c.args.shape.now.top + c.args.shape.now.n = ap (λ s. s.top + s.n) c.shape.view_is in
     to_z-of_z w64 c.mean4.result fits
     ∙ value_of_four c.args.shape.now (leaf_map c.args.leaves.now.entries) c.args.order c.args.cell c.shape.inside.depth c.mean4.result c.value-v0.result c.value-v1.result c.value-v2.result c.value-v3.result
-        (omega arith) (ap (λ s. s.depth) c.shape.view_is) (search rules) (search rules) (search rules) (search rules)
-        c.value-v0.ensures.value c.value-v1.ensures.value c.value-v2.ensures.value c.value-v3.ensures.value c.mean4.ensures.combined
+    (omega arith) (ap (λ s. s.depth) c.shape.view_is) (search rules) (search rules) (search rules) (search rules)
+    c.value-v0.ensures.value c.value-v1.ensures.value c.value-v2.ensures.value c.value-v3.ensures.value c.mean4.ensures.combined

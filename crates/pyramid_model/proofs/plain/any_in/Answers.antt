@@ -1,4 +1,4 @@
-use Rattle.std.proofs.Common.{◌≡◌, rules, ◌∙◌, sym}
+use Rattle.std.proofs.Common.{rules, ◌∙◌}
 use Rattle.pyramid_model.proofs.LeafLemmas.{first_there, list_any-same, contains-range}
 use Rattle.pyramid_model.proofs.plain.any_in.Goals as goal
 

@@ -1,4 +1,4 @@
-use Rattle.std.proofs.Common.{◌≡◌, ℕ, ◌+◌, ◌-◌, ◌*◌, ◌^◌, ◌<◌, ◌≤◌, ◌∙◌, ap, arith}
+use Rattle.std.proofs.Common.{◌≡◌, ◌+◌, ◌-◌, ◌*◌, ◌^◌, ◌<◌, ◌∙◌, ap, arith}
 use Rattle.pyramid_model.proofs.Quads.{end_fits, cells_fit}
 use Rattle.pyramid_model.proofs.LeafLemmas.{lies_under_range, list_any-leaf_map}
 use Rattle.pyramid_model.proofs.plain.exists.Goals as goal

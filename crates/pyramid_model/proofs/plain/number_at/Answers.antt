@@ -1,10 +1,9 @@
-use Rattle.std.proofs.Common.{◌≡◌, ℕ, ◌+◌, ◌-◌, ◌*◌, ◌/◌, ◌^◌, ◌<◌, ◌≤◌, ◌∙◌, sym, ap, arith, rules, length, get_or, w64, to_z, of_z, ℤ, pos, Some}
-use Rattle.std.specs.Prelude.{slice_get}
+use Rattle.std.proofs.Common.{◌≡◌, ◌^◌, ◌<◌, ◌≤◌, ◌∙◌, ap, arith, rules, length, get_or, w64, pos}
 use Rattle.std.proofs.lemmas.Int.{to_z-of_z}
 use Rattle.std.proofs.lemmas.Option.{slice_get-get_or}
-use Rattle.healpix_nested.specs.Place.{stored_at_z, line_of, column_of}
+use Rattle.healpix_nested.specs.Place.{stored_at_z, line_of}
 use Rattle.healpix_nested.specs.CellLaws.{four_pow_mono}
-use Rattle.healpix_nested.specs.PlaceLaws.{stored_at_z_below, line_of_below, side_at_most}
+use Rattle.healpix_nested.specs.PlaceLaws.{stored_at_z_below, line_of_below}
 use Rattle.pyramid_model.proofs.plain.number_at.Goals as goal
 use mir.Val.{SFits}
 

@@ -1,5 +1,4 @@
-use Rattle.std.proofs.Common.{◌≡◌, ℕ, ◌+◌, ◌-◌, ◌*◌, ◌/◌, ◌%◌, ◌^◌, ◌<◌, ◌≤◌, ◌∙◌, sym, ap, arith, rules, w64, map, to_z, of_z}
-use Rattle.std.specs.Prelude.{All}
+use Rattle.std.proofs.Common.{◌≡◌, ◌+◌, ◌*◌, ◌^◌, ◌<◌, ◌≤◌, ◌∙◌, ap, arith, rules, w64, map, to_z, of_z}
 use Rattle.std.specs.List.{range_with_len}
 use Rattle.parent_rule.specs.Depth.{IsNumber}
 use Rattle.std.proofs.lemmas.List.Elements.{All-push}
@@ -32,9 +31,10 @@ loop-place-preserved c =
     let fits : SFits w64 c.value.result = search rules in
     let n_is : c.shape.inside.n ≡ c.args.shape.now.n = ap (λ s. s.n) c.shape.view_is in
     let is : c.value.result ≡ pixel_at c.args.shape.now (leaf_map c.args.leaves.now.entries) c.args.order c.args.npix c.loop-place.place = rw (c.cell_at-cell.ensures, n_is) at c.value.ensures.value in
-    let number : IsNumber c.args.shape.now.depth.bitpix (to_z w64 (of_z w64 c.value.result)) = rw (to_z-of_z w64 c.value.result fits) c.value.ensures.number in
-    (rw c.in_ok-push.ensures.items (All-push (IsNumber c.args.shape.now.depth.bitpix) c.loop-place.numbers.items _ c.loop-place.invariant.0 number),
-        one_more_number (pixel_at c.args.shape.now (leaf_map c.args.leaves.now.entries) c.args.order c.args.npix) c.loop-place.place c.loop-place.numbers.items c.push.new.self.items _ c.loop-place.invariant.1 c.in_ok-push.ensures.items (to_z-of_z w64 c.value.result fits ∙ is))
+    let number : IsNumber c.args.shape.now.depth.bitpix (to_z w64 (of_z w64 c.value.result)) = rw (to_z-of_z w64 c.value.result fits) c.value.ensures.number in (
+      rw c.in_ok-push.ensures.items (All-push (IsNumber c.args.shape.now.depth.bitpix) c.loop-place.numbers.items _ c.loop-place.invariant.0 number),
+      one_more_number (pixel_at c.args.shape.now (leaf_map c.args.leaves.now.entries) c.args.order c.args.npix) c.loop-place.place c.loop-place.numbers.items c.push.new.self.items _ c.loop-place.invariant.1 c.in_ok-push.ensures.items (to_z-of_z w64 c.value.result fits ∙ is),
+    )
 
 pub returns-clause-pixels : goal.returns-clause-pixels
 unfolding pixels
