@@ -4,3 +4,4 @@ pub mod Door
 pub mod Memory
 pub mod Files
 pub mod Stream
+pub mod Faults

@@ -1,3 +1,6 @@
+ghost use Rattle.std.specs.Prelude.{Some, codes};
+ghost use Rattle.survey_link.specs.Faults.{link_fault_text, door_fault_text};
+
 use std::error::Error;
 use std::fmt;
 
@@ -24,12 +27,16 @@ pub enum DoorFault {
 }
 
 impl fmt::Display for Failed {
+    ghost output = { λ _. Some (codes "a read or a write failed") };
+
     fn fmt<W: fmt::Write>(&self, f: &mut fmt::Formatter<W>) -> fmt::Result {
         f.write_str("a read or a write failed")
     }
 }
 
 impl fmt::Display for LinkFault {
+    ghost output = { λ fault. Some (link_fault_text fault) };
+
     fn fmt<W: fmt::Write>(&self, f: &mut fmt::Formatter<W>) -> fmt::Result {
         f.write_str(match self {
             LinkFault::Failed => "the shelf failed",
@@ -39,6 +46,8 @@ impl fmt::Display for LinkFault {
 }
 
 impl fmt::Display for DoorFault {
+    ghost output = { λ fault. Some (door_fault_text fault) };
+
     fn fmt<W: fmt::Write>(&self, f: &mut fmt::Formatter<W>) -> fmt::Result {
         f.write_str(match self {
             DoorFault::Failed => "the door failed",

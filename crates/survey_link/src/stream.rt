@@ -1,6 +1,6 @@
-ghost use Rattle.std.specs.Prelude.{◌≡◌, ◌<◌, ◌≤◌, None, length, take, IfOk, OnOk, OnErr};
+ghost use Rattle.std.specs.Prelude.{◌≡◌, ◌<◌, ◌≤◌, None, length, take, IfOk, OnErr};
 ghost use Rattle.std.specs.Io.KnownBytes.{Appends, Consumes, IsAtEnd, Keeps};
-ghost use Rattle.survey_link.specs.Memory.{one_more};
+ghost use Rattle.survey_link.specs.Link.{Rises};
 
 use crate::faults::Failed;
 use crate::sink::Sink;
@@ -9,6 +9,8 @@ use std::io::{ErrorKind, Read, Write};
 use std::marker::Model;
 
 /// A source over a reader of std. It tells nothing of the bytes left.
+///
+/// Each `Err` of the reader counts as a fault; an interrupted call is counted and made again.
 #[derive(Drop)]
 pub struct StreamSource<R> {
     stream: R,
@@ -45,26 +47,27 @@ impl<R: Read> Source for StreamSource<R> {
         ensures given { IfOk result (λ m. Consumes (R.remaining self.old.stream) (R.remaining self.new.stream) (take m buf.new)) }
         ensures end { result ≡ Ok 0 → IsAtEnd (R.remaining self.new.stream) }
         ensures kept { OnErr result (Keeps (R.remaining self.old.stream) (R.remaining self.new.stream)) }
-        ensures sound { OnOk result (self.new.faults ≡ self.old.faults) }
-        ensures refused { OnErr result (self.new.faults ≡ one_more self.old.faults) }
+        ensures failed { OnErr result (Rises self.old.faults self.new.faults) }
         ensures never_falls { self.old.faults ≤ self.new.faults }
     {
         for _ in 0..u64::MAX {
             match self.stream.read(buf) {
                 Ok(count) => return Ok(count),
                 Err(error) => {
+                    self.faults = self.faults.saturating_add(1);
                     if error.kind() != ErrorKind::Interrupted {
-                        break;
+                        return Err(Failed);
                     }
                 }
             }
         }
-        self.faults = self.faults.saturating_add(1);
         Err(Failed)
     }
 }
 
 /// A sink over a writer of std. It tells nothing of the bytes written.
+///
+/// Each `Err` of the writer and each write that takes nothing count as a fault; an interrupted call is counted and made again.
 #[derive(Drop)]
 pub struct StreamSink<W> {
     stream: W,
@@ -101,42 +104,43 @@ impl<W: Write> Sink for StreamSink<W> {
         ensures count { IfOk result (λ m. m ≤ length buf.now) }
         ensures given { IfOk result (λ m. Appends (W.contents self.old.stream) (W.contents self.new.stream) (take m buf.now)) }
         ensures kept { OnErr result (Keeps (W.contents self.old.stream) (W.contents self.new.stream)) }
-        ensures sound { OnOk result (self.new.faults ≡ self.old.faults) }
-        ensures refused { OnErr result (self.new.faults ≡ one_more self.old.faults) }
+        ensures failed { OnErr result (Rises self.old.faults self.new.faults) }
         ensures never_falls { self.old.faults ≤ self.new.faults }
     {
         for _ in 0..u64::MAX {
             match self.stream.write(buf) {
-                Ok(0) => break,
+                Ok(0) => {
+                    self.faults = self.faults.saturating_add(1);
+                    return Err(Failed);
+                }
                 Ok(count) => return Ok(count),
                 Err(error) => {
+                    self.faults = self.faults.saturating_add(1);
                     if error.kind() != ErrorKind::Interrupted {
-                        break;
+                        return Err(Failed);
                     }
                 }
             }
         }
-        self.faults = self.faults.saturating_add(1);
         Err(Failed)
     }
 
     fn flush(&mut self) -> Result<(), Failed>
         ensures kept { Keeps (W.contents self.old.stream) (W.contents self.new.stream) }
-        ensures sound { OnOk result (self.new.faults ≡ self.old.faults) }
-        ensures refused { OnErr result (self.new.faults ≡ one_more self.old.faults) }
+        ensures failed { OnErr result (Rises self.old.faults self.new.faults) }
         ensures never_falls { self.old.faults ≤ self.new.faults }
     {
         for _ in 0..u64::MAX {
             match self.stream.flush() {
                 Ok(()) => return Ok(()),
                 Err(error) => {
+                    self.faults = self.faults.saturating_add(1);
                     if error.kind() != ErrorKind::Interrupted {
-                        break;
+                        return Err(Failed);
                     }
                 }
             }
         }
-        self.faults = self.faults.saturating_add(1);
         Err(Failed)
     }
 }

@@ -105,7 +105,7 @@ impl Write for Broken {
     }
 }
 
-// A stream whose first call is interrupted.
+// A stream whose first call is interrupted, and whose others give one byte.
 #[derive(Drop)]
 struct Bumpy {
     bumped: bool,
@@ -117,7 +117,13 @@ impl Read for Bumpy {
             self.bumped = true;
             return Err(ErrorKind::Interrupted.into());
         }
-        Ok(buf.len().min(1))
+        match buf.first_mut() {
+            None => Ok(0),
+            Some(first) => {
+                *first = b'x';
+                Ok(1)
+            }
+        }
     }
 }
 
@@ -243,10 +249,10 @@ fn streams_of_the_outside(rt: HostRuntime) -> Result<(), Fail> {
     assert_eq!(rt; all.as_slice(), b"hello".as_slice());
     assert_eq!(rt; failed, 0);
     assert_eq!(rt; StreamSource::new(Broken).read(&mut [0; 2]), Err(Failed));
-    assert_eq!(rt;
-        StreamSource::new(Bumpy { bumped: false }).read(&mut [0; 2]),
-        Ok(1)
-    );
+    let mut buf = [0; 2];
+    let mut bumpy = StreamSource::new(Bumpy { bumped: false });
+    assert_eq!(rt; bumpy.read(&mut buf), Ok(1));
+    assert_eq!(rt; buf, [b'x', 0]);
     let mut written = Vec::new(alloc);
     let mut sink = StreamSink::new(&mut written);
     assert_eq!(rt; write_whole(&mut sink, b"hello"), Ok(()));
