@@ -4,8 +4,8 @@ use Rattle.std.specs.Int.{cast_signed, w16}
 use Rattle.std.specs.List.{range_with_len}
 use Rattle.byteorder.specs.Endian.{big_number}
 use Rattle.healpix_nested.specs.Cells.{cell_count}
-use Rattle.hipsd.specs.declared.probe.ProbeFault.{ProbeFault}
-use Rattle.hipsd.specs.declared.probe.ProbeFault.TheVariants.{Cut, Read, Write, NoLeaf, OutOfMemory, TooMany, OutOfRange}
+use Rattle.hipsd.specs.declared.fault.ProbeFault.{ProbeFault}
+use Rattle.hipsd.specs.declared.fault.ProbeFault.TheVariants.{Cut, Read, Write, NoLeaf, OutOfMemory, TooMany, OutOfRange}
 use Rattle.hipsd.specs.Records.{record_length, leaf_number, stored_numbers}
 
 -- the first count numbers of 16 bits

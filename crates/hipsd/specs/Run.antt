@@ -1,7 +1,7 @@
 -- What `run` answers, and writes besides what a command writes.
 use Rattle.std.specs.Prelude.{◌≡◌, ◌⊎◌, ℕ, List, [], ◌∷◌, ◌++◌, codes}
-use Rattle.hipsd.specs.declared.probe.ProbeFault.{ProbeFault}
-use Rattle.hipsd.specs.declared.probe.ProbeFault.TheVariants.{Cut, Read, Write, NoLeaf, OutOfMemory, TooMany, OutOfRange}
+use Rattle.hipsd.specs.declared.fault.ProbeFault.{ProbeFault}
+use Rattle.hipsd.specs.declared.fault.ProbeFault.TheVariants.{Cut, Read, Write, NoLeaf, OutOfMemory, TooMany, OutOfRange}
 
 -- what is written where the words are no command's: a line that ends with LF
 abbrev pub usage_text : List ℕ

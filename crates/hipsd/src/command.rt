@@ -1,3 +1,4 @@
+//! What the words of a command line ask for.
 ghost use Rattle.std.specs.Prelude.{◌≡◌, ◌≢◌, ℕ, ◌^◌, ◌<◌, ◌≤◌, true, false, [], ◌∷◌, length, slice_index, IfSome, IfNone, MatchOption, codes, decimal};
 ghost use Rattle.hipsd.specs.Command.{texts, Asks, IsCommand};
 ghost use Rattle.hipsd.specs.declared.command.Probe.{Probe as AskedProbe};

@@ -1,5 +1,5 @@
 //! The leaves that the records of `probe` give.
-ghost use Rattle.std.specs.Prelude.{◌≡◌, ℕ, ◌+◌, ◌≤◌, ◌/◌, List, length, IfOk, IfErr, OnOk, Some, IsErrOf};
+ghost use Rattle.std.specs.Prelude.{◌≡◌, ℕ, ◌≤◌, ◌/◌, List, length, IfOk, IfErr, OnOk, Some, IsErrOf};
 ghost use Rattle.std.specs.Io.KnownBytes.{IsAtEnd};
 ghost use Rattle.survey_link.specs.Link.{Rises};
 ghost use Rattle.pyramid_model.specs.Shape.{FitsShape};
@@ -8,7 +8,7 @@ ghost use Rattle.hipsd.specs.Records.{leaves_of, record_length, reading_status};
 ghost use Rattle.hipsd.specs.Reading.{StandsFor, IsOfReading};
 ghost use Rattle.hipsd.specs.Probe.{probe_depth};
 
-use crate::probe::ProbeFault;
+use crate::fault::ProbeFault;
 use crate::records::next_record;
 use pyramid_model::plain::Leaves;
 use std::alloc::Global;

@@ -4,11 +4,14 @@
 #![tactic(auto)]
 
 mod command;
+mod fault;
 mod leaves;
 mod output;
 mod probe;
 mod records;
 mod run;
+#[cfg(test)]
+mod tests;
 
 use parent_rule::Steps;
 use run::run;

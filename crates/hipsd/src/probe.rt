@@ -1,18 +1,18 @@
 //! The command `probe`: one tile of the leaves that are read.
-ghost use Rattle.std.specs.Prelude.{◌≡◌, ◌≢◌, ℕ, ◌<◌, ◌≤◌, List, Some, IfErr, IfOk, OnOk, OnErr, IsErrOf, All};
+ghost use Rattle.std.specs.Prelude.{◌≡◌, ◌≢◌, ℕ, ◌<◌, ◌≤◌, List, Some, IfErr, IfOk, OnOk, IsErrOf, All};
 ghost use Rattle.std.specs.Io.KnownBytes.{Appends, IsAtEnd};
 ghost use Rattle.survey_link.specs.Link.{Rises, AppendsPrefix};
 ghost use Rattle.parent_rule.specs.Depth.{IsNumber};
-ghost use Rattle.hipsd.specs.declared.probe.ProbeFault.TheVariants.{Read, Write, OutOfMemory};
+ghost use Rattle.hipsd.specs.declared.fault.ProbeFault.TheVariants.{Write};
 ghost use Rattle.hipsd.specs.Command.{IsProbe};
 ghost use Rattle.healpix_nested.specs.Cells.{cell_count};
 ghost use Rattle.pyramid_model.specs.Shape.{FitsShape};
 ghost use Rattle.pyramid_model.specs.Leaves.{leaf_map};
 ghost use Rattle.hipsd.specs.Probe.{probe_answer, tile_answer, shape_of, stored_bytes};
 ghost use Rattle.hipsd.specs.Reading.{StandsFor, IsOfTile};
-ghost use Rattle.hipsd.specs.Run.{status_of};
 
 use crate::command::Probe;
+use crate::fault::ProbeFault;
 use crate::leaves::read_leaves;
 use crate::output::write_out;
 use byteorder::{BigEndian, ByteOrder};
@@ -20,71 +20,11 @@ use healpix_nested::cells;
 use parent_rule::Depth;
 use pyramid_model::plain::Leaves;
 use pyramid_model::{Shape, plain};
-use std::alloc::{AllocError, AllocFailed, Global};
+use std::alloc::{AllocError, Global};
 use survey_link::{Failed, Sink, Source};
 
 /// The blank number of the records.
 const BLANK: i64 = -32_768;
-
-/// Why no tile was written.
-#[derive(Clone, Copy, Debug, PartialEq, Eq)]
-pub enum ProbeFault {
-    /// The input ends within a record.
-    Cut,
-    /// The source failed.
-    Read,
-    /// The sink failed; some first bytes of the tile may have been written.
-    Write,
-    /// No leaf lies at or under the asked tile.
-    NoLeaf,
-    /// There was no memory.
-    OutOfMemory,
-    /// The input goes on after the last record that is read.
-    TooMany,
-    /// The asked tile is no cell of its order, or a record's number is no leaf's.
-    OutOfRange,
-}
-
-impl ProbeFault {
-    /// The status that the program ends with.
-    pub fn status(self) -> u8
-        ensures { result ≡ status_of self }
-    {
-        match self {
-            ProbeFault::Cut => 4,
-            ProbeFault::Read => 5,
-            ProbeFault::Write => 6,
-            ProbeFault::NoLeaf => 10,
-            ProbeFault::OutOfMemory => 11,
-            ProbeFault::TooMany => 12,
-            ProbeFault::OutOfRange => 13,
-        }
-    }
-}
-
-impl From<AllocError> for ProbeFault {
-    ghost from_gives = { λ _ e. e ≡ OutOfMemory };
-
-    fn from(_: AllocError) -> Self {
-        ProbeFault::OutOfMemory
-    }
-}
-
-impl<T: Drop> From<AllocFailed<T>> for ProbeFault {
-    ghost from_gives = { λ _ e. e ≡ OutOfMemory };
-
-    fn from(_: AllocFailed<T>) -> Self {
-        ProbeFault::OutOfMemory
-    }
-}
-
-impl From<Failed> for ProbeFault {
-    ghost from_gives = { λ _ e. e ≡ Read };
-
-    fn from(_: Failed) -> Self {
-        ProbeFault::Read
-    }
-}
 
 /// Reads leaf records from the source to its end, and writes the stored bytes of the asked tile.
 ///

@@ -6,7 +6,7 @@ ghost use Rattle.healpix_nested.specs.Cells.{cell_count};
 ghost use Rattle.parent_rule.specs.Depth.{IsNumber};
 ghost use Rattle.hipsd.specs.Reading.{numbers_in, TakesRecord, StopsRecord, IsOfRecord, IsOfNumbers};
 
-use crate::probe::ProbeFault;
+use crate::fault::ProbeFault;
 use byteorder::{BigEndian, ByteOrder};
 use healpix_nested::cells;
 use std::alloc::{AllocError, Global};
