@@ -1,10 +1,9 @@
 -- Reading leaf records one by one, and what the whole input says.
 use Rattle.std.proofs.Common.{◌≡◌, ℕ, zero, suc, ◌+◌, ◌-◌, ◌*◌, ◌/◌, ◌%◌, ◌^◌, ◌<◌, ◌≤◌, Bool, true, false, List, [], ◌∷◌, ◌++◌, map, length, take, drop, Option, Some, None, min, sym, ap, ◌∙◌, refl, arith, subst, inl, inr}
-use Rattle.std.specs.Prelude.{fold, ℤ, Vec}
+use Rattle.std.specs.Prelude.{fold, ℤ}
 use Rattle.std.specs.List.{list_any, range_with_len}
 use Rattle.std.specs.BTreeMap.{insert_entry}
 use Rattle.std.specs.Ordering.{nat_cmp}
-use Rattle.std.specs.declared.alloc.Global.{Global}
 use Rattle.std.proofs.lemmas.Bool.Decides.{nat_tests}
 use Rattle.std.proofs.lemmas.List.{drop-drop, length-drop, map-id, length-append, length-take-le}
 use Rattle.std.proofs.lemmas.List.FromFn.{map-range_with_len_more}
@@ -20,14 +19,15 @@ use Rattle.std.specs.Io.KnownBytes.{Consumes, IsAtEnd}
 use Rattle.byteorder.specs.Endian.{big_number}
 use Rattle.healpix_nested.specs.Cells.{cell_count}
 use Rattle.std.specs.Prelude.{All}
-use Rattle.std.specs.Map.{keys_of}
+use Rattle.std.specs.Map.{keys_of, values_of}
 use Rattle.std.specs.List.Sorted.{IsStrictlySortedBy}
 use Rattle.std.specs.Ordering.{match_ordering}
 use Rattle.std.specs.declared.cmp.Ordering.TheVariants.{Less, Equal, Greater}
 use Rattle.std.proofs.lemmas.Map.Views.{All-keys-insert_entry, All-values-insert_entry}
-use Rattle.parent_rule.specs.Depth.{IsNumber}
+use Rattle.parent_rule.specs.Depth.{PixelDepth, IsNumber}
 use Rattle.pyramid_model.specs.Shape.{PyramidShape, LeafMap, FitsShape}
-use Rattle.pyramid_model.specs.Leaves.{leaf_map}
+use Rattle.tile_pixels.specs.Tile.{PixelTile, IsTile}
+use Rattle.hipsd.specs.Merging.{tile_map}
 use Rattle.hipsd.specs.Records.{record_length, leaf_number, stored_number, stored_numbers, leaves_of, most_records, numbers_read, names_no_leaf, goes_on, ends_within, reading_status}
 use Rattle.hipsd.specs.Reading.{TakesRecord, IsCut, NamesNoLeaf, StopsRecord, StandsFor}
 
@@ -244,28 +244,42 @@ none_left old new xs buf m e taken none end =
 -- ---- the map that the code keeps
 
 -- a leaf that is put stands in the leaf map
-pub leaf_map-insert_entry : (es : List (ℕ × Vec ℤ Global)) (leaf : ℕ) (numbers : Vec ℤ Global) → leaf_map (insert_entry nat_cmp es leaf numbers) ≡ insert_entry nat_cmp (leaf_map es) leaf numbers.items
-leaf_map-insert_entry [] leaf numbers = refl
-leaf_map-insert_entry (e ∷ es) leaf numbers =
-    elim (nat_cmp leaf e.0) as (λ o. leaf_map (match_ordering o ((leaf, numbers) ∷ e ∷ es) ((e.0, numbers) ∷ es) (e ∷ insert_entry nat_cmp es leaf numbers))
-    ≡ match_ordering o ((leaf, numbers.items) ∷ (e.0, e.1.items) ∷ leaf_map es) ((e.0, numbers.items) ∷ leaf_map es) ((e.0, e.1.items) ∷ insert_entry nat_cmp (leaf_map es) leaf numbers.items)) [
+tile_map-insert_entry : (es : List (ℕ × PixelTile)) (leaf : ℕ) (tile : PixelTile) → tile_map (insert_entry nat_cmp es leaf tile) ≡ insert_entry nat_cmp (tile_map es) leaf tile.numbers
+tile_map-insert_entry [] leaf tile = refl
+tile_map-insert_entry (e ∷ es) leaf tile =
+    elim (nat_cmp leaf e.0) as (λ o. tile_map (match_ordering o ((leaf, tile) ∷ e ∷ es) ((e.0, tile) ∷ es) (e ∷ insert_entry nat_cmp es leaf tile))
+    ≡ match_ordering o ((leaf, tile.numbers) ∷ (e.0, e.1.numbers) ∷ tile_map es) ((e.0, tile.numbers) ∷ tile_map es) ((e.0, e.1.numbers) ∷ insert_entry nat_cmp (tile_map es) leaf tile.numbers)) [
       | Less ↦ refl
       | Equal ↦ refl
-      | Greater ↦ ap (λ rest. (e.0, e.1.items) ∷ rest) (leaf_map-insert_entry es leaf numbers)
+      | Greater ↦ ap (λ rest. (e.0, e.1.numbers) ∷ rest) (tile_map-insert_entry es leaf tile)
     ]
 
-pub keys_of-leaf_map : (es : List (ℕ × Vec ℤ Global)) → keys_of (leaf_map es) ≡ keys_of es
-keys_of-leaf_map [] = refl
-keys_of-leaf_map (e ∷ es) = ap (λ rest. e.0 ∷ rest) (keys_of-leaf_map es)
+-- the leaf map with a leaf that is put
+pub tiles_put : (es es' : List (ℕ × PixelTile)) (leaf : ℕ) (tile : PixelTile) → es' ≡ insert_entry nat_cmp es leaf tile → tile_map es' ≡ insert_entry nat_cmp (tile_map es) leaf tile.numbers
+tiles_put es es' leaf tile put = ap tile_map put ∙ tile_map-insert_entry es leaf tile
+
+keys_of-tile_map : (es : List (ℕ × PixelTile)) → keys_of (tile_map es) ≡ keys_of es
+keys_of-tile_map [] = refl
+keys_of-tile_map (e ∷ es) = ap (λ rest. e.0 ∷ rest) (keys_of-tile_map es)
+
+-- the tiles that are kept: a leaf map of the shape, each of its depth and side
+pub record Kept (shape : PyramidShape) (es : List (ℕ × PixelTile)) : Type 0 where
+  pub fits : FitsShape shape (tile_map es)
+  pub tiles : All (λ tile. (tile.depth ≡ shape.depth) × (tile.n ≡ shape.n)) (values_of es)
 
 -- it goes on to fit the shape
-pub fits-put : (shape : PyramidShape) (es es' : List (ℕ × Vec ℤ Global)) (leaf : ℕ) (numbers : Vec ℤ Global) → FitsShape shape (leaf_map es) → es' ≡ insert_entry nat_cmp es leaf numbers
-    → IsStrictlySortedBy nat_cmp (keys_of es') → leaf < cell_count shape.top → length numbers.items ≡ 4 ^ shape.n → All (IsNumber shape.depth.bitpix) numbers.items → FitsShape shape (leaf_map es')
-fits-put shape es es' leaf numbers fits put ordered cell size all =
-    let map_is : leaf_map es' ≡ insert_entry nat_cmp (leaf_map es) leaf numbers.items = ap leaf_map put ∙ leaf_map-insert_entry es leaf numbers in
+pub kept-put : (shape : PyramidShape) (es es' : List (ℕ × PixelTile)) (leaf : ℕ) (tile : PixelTile) → Kept shape es → es' ≡ insert_entry nat_cmp es leaf tile
+    → IsStrictlySortedBy nat_cmp (keys_of es') → leaf < cell_count shape.top → (tile.depth ≡ shape.depth) × (tile.n ≡ shape.n) → IsTile tile.depth tile.n tile.numbers → Kept shape es'
+kept-put shape es es' leaf tile kept put ordered cell is of =
+    let map_is : tile_map es' ≡ insert_entry nat_cmp (tile_map es) leaf tile.numbers = tiles_put es es' leaf tile put in
+    let size : length tile.numbers ≡ 4 ^ shape.n = of.count ∙ ap (λ n. 4 ^ n) is.1 in
+    let all : All (IsNumber shape.depth.bitpix) tile.numbers = subst (λ (d : PixelDepth). All (IsNumber d.bitpix) tile.numbers) is.0 of.range in
     record {
-      ordered = rw keys_of-leaf_map ordered;
-      cells = rw map_is (All-keys-insert_entry nat_cmp leaf numbers.items (λ k. k < cell_count shape.top) (leaf_map es) fits.cells cell);
-      lengths = rw map_is (All-values-insert_entry nat_cmp leaf numbers.items (λ ns. length ns ≡ 4 ^ shape.n) (leaf_map es) fits.lengths size);
-      numbers = rw map_is (All-values-insert_entry nat_cmp leaf numbers.items (All (IsNumber shape.depth.bitpix)) (leaf_map es) fits.numbers all);
+      fits = record {
+        ordered = rw keys_of-tile_map ordered;
+        cells = rw map_is (All-keys-insert_entry nat_cmp leaf tile.numbers (λ k. k < cell_count shape.top) (tile_map es) kept.fits.cells cell);
+        lengths = rw map_is (All-values-insert_entry nat_cmp leaf tile.numbers (λ ns. length ns ≡ 4 ^ shape.n) (tile_map es) kept.fits.lengths size);
+        numbers = rw map_is (All-values-insert_entry nat_cmp leaf tile.numbers (All (IsNumber shape.depth.bitpix)) (tile_map es) kept.fits.numbers all);
+      };
+      tiles = rw put (All-values-insert_entry nat_cmp leaf tile (λ t. (t.depth ≡ shape.depth) × (t.n ≡ shape.n)) es kept.tiles is);
     }

@@ -1,4 +1,4 @@
 pub mod CommandLemmas
-pub mod EncodeLemmas
 pub mod LeavesLemmas
+pub mod MergingLemmas
 pub mod ReadLemmas

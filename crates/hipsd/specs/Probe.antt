@@ -1,12 +1,11 @@
 -- What `probe` answers.
-use Rattle.std.specs.Prelude.{ℕ, ◌/◌, List, [], flat_map, length, negsuc, ℤ, nat_le, ◌==◌, if◌then◌else◌}
-use Rattle.std.specs.Int.{cast_unsigned, w16}
-use Rattle.byteorder.specs.Endian.{big_bytes}
+use Rattle.std.specs.Prelude.{ℕ, ◌/◌, List, [], length, negsuc, nat_le, ◌==◌, if◌then◌else◌}
 use Rattle.healpix_nested.specs.Cells.{cell_count}
 use Rattle.parent_rule.specs.declared.combine.Combine.TheVariants.{Mean}
 use Rattle.parent_rule.specs.Depth.{PixelDepth}
 use Rattle.pyramid_model.specs.Shape.{PyramidShape, LeafMap}
 use Rattle.pyramid_model.specs.Tile.{exists, pixels}
+use Rattle.tile_pixels.specs.Stored.{stored_bytes}
 use Rattle.hipsd.specs.declared.command.Probe.{Probe}
 use Rattle.hipsd.specs.Records.{leaves_of, reading_status, record_length}
 
@@ -31,14 +30,10 @@ only_status status = record { status = status; output = [] }
 abbrev pub leaves_read : Probe → List ℕ → LeafMap
 leaves_read asked input = leaves_of asked.n input (length input / record_length asked.n)
 
--- stored numbers of 16 bits as bytes
-abbrev pub stored_bytes : List ℤ → List ℕ
-stored_bytes numbers = flat_map (λ v. big_bytes 2 (cast_unsigned w16 v)) numbers
-
 -- the tile of these leaves, or status 10 where no leaf lies at or under it
 abbrev pub tile_answer : Probe → LeafMap → Answer
 tile_answer asked leaves = if exists (shape_of asked) leaves asked.order asked.npix
-    then record { status = 0; output = stored_bytes (pixels (shape_of asked) leaves asked.order asked.npix) }
+    then record { status = 0; output = stored_bytes 16 (pixels (shape_of asked) leaves asked.order asked.npix) }
     else only_status 10
 
 -- what is answered of an input: 13 for a tile that is no cell of its order, before the input is looked at; else as reading

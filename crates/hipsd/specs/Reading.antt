@@ -1,16 +1,9 @@
 -- One step of reading leaf records, from the bytes that are left.
-use Rattle.std.specs.Prelude.{◌≡◌, ℕ, ◌*◌, ◌<◌, ◌≤◌, List, map, drop, length, ℤ, Option, Some, ⊤}
-use Rattle.std.specs.Int.{cast_signed, w16}
-use Rattle.std.specs.List.{range_with_len}
-use Rattle.byteorder.specs.Endian.{big_number}
+use Rattle.std.specs.Prelude.{◌≡◌, ℕ, ◌<◌, ◌≤◌, List, drop, length, ℤ, Option, Some, ⊤}
 use Rattle.healpix_nested.specs.Cells.{cell_count}
 use Rattle.hipsd.specs.declared.fault.ProbeFault.{ProbeFault}
 use Rattle.hipsd.specs.declared.fault.ProbeFault.TheVariants.{Cut, Read, Write, NoLeaf, OutOfMemory, TooMany, OutOfRange}
 use Rattle.hipsd.specs.Records.{record_length, leaf_number, stored_numbers}
-
--- the first count numbers of 16 bits
-abbrev pub numbers_in : ℕ → List ℕ → List ℤ
-numbers_in count bytes = map (λ s. cast_signed w16 (big_number 2 (drop (2 * s) bytes))) (range_with_len 0 count)
 
 -- a whole record of a leaf stands first in the input, and was taken from it
 pub record TakesRecord (top n : ℕ) (input : List ℕ) (left : Option (List ℕ)) (leaf : ℕ) (numbers : List ℤ) : Type 0 where
@@ -40,7 +33,7 @@ StopsRecord top n input Write = ⊥
 StopsRecord top n input NoLeaf = ⊥
 StopsRecord top n input TooMany = ⊥
 
--- the faults of one record, and of its stored numbers
+-- the faults of one record, and of its tile
 abbrev pub IsOfRecord : ProbeFault → Type 0
 IsOfRecord Cut = ⊤
 IsOfRecord OutOfRange = ⊤
@@ -50,14 +43,14 @@ IsOfRecord Write = ⊥
 IsOfRecord NoLeaf = ⊥
 IsOfRecord TooMany = ⊥
 
-abbrev pub IsOfNumbers : ProbeFault → Type 0
-IsOfNumbers Cut = ⊤
-IsOfNumbers Read = ⊤
-IsOfNumbers OutOfMemory = ⊤
-IsOfNumbers OutOfRange = ⊥
-IsOfNumbers Write = ⊥
-IsOfNumbers NoLeaf = ⊥
-IsOfNumbers TooMany = ⊥
+abbrev pub IsOfTileRead : ProbeFault → Type 0
+IsOfTileRead Cut = ⊤
+IsOfTileRead Read = ⊤
+IsOfTileRead OutOfMemory = ⊤
+IsOfTileRead OutOfRange = ⊥
+IsOfTileRead Write = ⊥
+IsOfTileRead NoLeaf = ⊥
+IsOfTileRead TooMany = ⊥
 
 -- the faults of making the tile
 abbrev pub IsOfTile : ProbeFault → Type 0

@@ -6,6 +6,9 @@
 mod command;
 mod fault;
 mod leaves;
+mod merging;
+#[cfg(test)]
+mod merging_tests;
 mod output;
 mod probe;
 mod records;

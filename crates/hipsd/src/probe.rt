@@ -1,30 +1,28 @@
 //! The command `probe`: one tile of the leaves that are read.
 ghost use Rattle.std.specs.Prelude.{◌≡◌, ◌≢◌, ℕ, ◌<◌, ◌≤◌, List, Some, IfErr, IfOk, OnOk, IsErrOf, All};
+ghost use Rattle.std.specs.Map.{values_of};
 ghost use Rattle.std.specs.Io.KnownBytes.{Appends, IsAtEnd};
 ghost use Rattle.survey_link.specs.Link.{Rises, AppendsPrefix};
-ghost use Rattle.parent_rule.specs.Depth.{IsNumber};
 ghost use Rattle.hipsd.specs.declared.fault.ProbeFault.TheVariants.{Write};
 ghost use Rattle.hipsd.specs.Command.{IsProbe};
 ghost use Rattle.healpix_nested.specs.Cells.{cell_count};
 ghost use Rattle.pyramid_model.specs.Shape.{FitsShape};
-ghost use Rattle.pyramid_model.specs.Leaves.{leaf_map};
-ghost use Rattle.hipsd.specs.Probe.{probe_answer, tile_answer, shape_of, stored_bytes};
+ghost use Rattle.hipsd.specs.Merging.{tile_map, tile_of};
+ghost use Rattle.hipsd.specs.Probe.{probe_answer, probe_depth, tile_answer, shape_of};
 ghost use Rattle.hipsd.specs.Reading.{StandsFor, IsOfTile};
 
 use crate::command::Probe;
 use crate::fault::ProbeFault;
 use crate::leaves::read_leaves;
+use crate::merging::{Tiles, merge_up};
 use crate::output::write_out;
-use byteorder::{BigEndian, ByteOrder};
+use crate::records::depth;
 use healpix_nested::cells;
-use parent_rule::Depth;
-use pyramid_model::plain::Leaves;
-use pyramid_model::{Shape, plain};
-use std::alloc::{AllocError, Global};
+use parent_rule::Steps;
+use pyramid_model::Shape;
+use std::alloc::Global;
 use survey_link::{Failed, Sink, Source};
-
-/// The blank number of the records.
-const BLANK: i64 = -32_768;
+use tile_pixels::Tile;
 
 /// Reads leaf records from the source to its end, and writes the stored bytes of the asked tile.
 ///
@@ -38,6 +36,7 @@ pub fn probe<S: Source, K: Sink>(
     asked: &Probe,
     source: &mut S,
     sink: &mut K,
+    steps: &mut Steps,
 ) -> Result<(), ProbeFault>
     requires { IsProbe asked.now }
     ensures answered { (input : List ℕ) → S.left source.old ≡ Some input → OnOk result ((probe_answer asked.now input).status ≡ 0) }
@@ -54,59 +53,43 @@ pub fn probe<S: Source, K: Sink>(
     ensures write { IsErrOf result ProbeFault.Write → Rises (K.faults sink.old) (K.faults sink.new) }
     ensures read_never_falls { S.faults source.old ≤ S.faults source.new }
     ensures write_never_falls { K.faults sink.old ≤ K.faults sink.new }
+    ensures steps_never_fall { steps.old ≤ steps.new }
 {
     if asked.npix >= cells(asked.order) {
         return Err(ProbeFault::OutOfRange);
     }
-    let leaves = read_leaves(alloc, asked.top, asked.n, source)?;
-    let bytes = tile_bytes(alloc, asked, &leaves)?;
-    match write_out(sink, &bytes) {
+    let leaves = read_leaves(alloc, asked.top, asked.n, source, steps)?;
+    let tile = asked_tile(alloc, asked, leaves, steps)?;
+    match write_out(sink, tile.raw()) {
         Ok(()) => Ok(()),
         Err(Failed) => Err(ProbeFault::Write),
     }
 }
 
-// The stored bytes of the asked tile.
-fn tile_bytes(alloc: Global, asked: &Probe, leaves: &Leaves) -> Result<Vec<u8>, ProbeFault>
+// The asked tile.
+fn asked_tile(
+    alloc: Global,
+    asked: &Probe,
+    leaves: Tiles,
+    steps: &mut Steps,
+) -> Result<Tile, ProbeFault>
     requires asked { IsProbe asked.now }
     requires npix { asked.now.npix < cell_count asked.now.order }
-    requires fits { FitsShape (shape_of asked.now) (leaf_map leaves.now.entries) }
-    ensures answered { OnOk result ((tile_answer asked.now (leaf_map leaves.now.entries)).status ≡ 0) }
-    ensures bytes { IfOk result (λ bytes. bytes.items ≡ (tile_answer asked.now (leaf_map leaves.now.entries)).output) }
-    ensures refused { IfErr result (λ fault. IsOfTile fault × StandsFor fault (tile_answer asked.now (leaf_map leaves.now.entries)).status) }
+    requires fits { FitsShape (shape_of asked.now) (tile_map leaves.entries) }
+    requires tiles { All (λ tile. (tile.depth ≡ probe_depth) × (tile.n ≡ asked.now.n)) (values_of leaves.entries) }
+    ensures answered { OnOk result ((tile_answer asked.now (tile_map leaves.entries)).status ≡ 0) }
+    ensures tile { IfOk result (λ tile. tile ≡ tile_of (shape_of asked.now) (tile_map leaves.entries) asked.now.order asked.now.npix) }
+    ensures refused { IfErr result (λ fault. IsOfTile fault × StandsFor fault (tile_answer asked.now (tile_map leaves.entries)).status) }
+    ensures steps_never_fall { steps.old ≤ steps.new }
 {
-    let shape = shape(asked);
-    if !plain::exists(leaves, &shape, asked.order, asked.npix) {
-        return Err(ProbeFault::NoLeaf);
-    }
-    let numbers = plain::pixels(alloc, leaves, &shape, asked.order, asked.npix)?;
-    Ok(encode_numbers(alloc, &numbers)?)
-}
-
-// The shape that a probe's tiles have.
-fn shape(asked: &Probe) -> Shape
-    requires { IsProbe asked.now }
-    ensures { result ≡ shape_of asked.now }
-{
-    let depth = Depth::new(16, BLANK).unwrap();
-    Shape {
+    let shape = Shape {
         top: asked.top,
         low: 0,
         n: asked.n,
-        depth,
+        depth: depth(),
+    };
+    match merge_up(alloc, &shape, leaves, asked.order, asked.npix, steps)? {
+        None => Err(ProbeFault::NoLeaf),
+        Some(tile) => Ok(tile),
     }
-}
-
-// Numbers of 16 bits as bytes.
-fn encode_numbers(alloc: Global, numbers: &[i64]) -> Result<Vec<u8>, AllocError>
-    requires { All (IsNumber 16) numbers.now }
-    ensures { IfOk result (λ bytes. bytes.items ≡ stored_bytes numbers.now) }
-{
-    let mut bytes = Vec::new(alloc);
-    for number in numbers {
-        let mut pair = [0; 2];
-        BigEndian::write_i16(&mut pair, *number as i16);
-        bytes.extend_from_slice(&pair)?;
-    }
-    Ok(bytes)
 }

@@ -1,16 +1,23 @@
 //! The leaf records that `probe` reads.
-ghost use Rattle.std.specs.Prelude.{◌≡◌, ℕ, ◌+◌, ◌*◌, ◌/◌, ◌^◌, ◌<◌, ◌≤◌, List, length, take, drop, IfOk, IfErr, IfSome, IfNone, OnErr, Some, [], All, IsErrOf, MatchOption};
+ghost use Rattle.std.specs.Prelude.{◌≡◌, ℕ, ◌*◌, ◌^◌, ◌<◌, ◌≤◌, List, length, take, drop, IfOk, IfErr, IfSome, IfNone, OnErr, Some, [], IsErrOf, MatchOption};
 ghost use Rattle.std.specs.Io.KnownBytes.{Consumes, IsAtEnd};
 ghost use Rattle.survey_link.specs.Link.{Rises};
 ghost use Rattle.healpix_nested.specs.Cells.{cell_count};
-ghost use Rattle.parent_rule.specs.Depth.{IsNumber};
-ghost use Rattle.hipsd.specs.Reading.{numbers_in, TakesRecord, StopsRecord, IsOfRecord, IsOfNumbers};
+ghost use Rattle.tile_pixels.specs.Stored.{numbers_from};
+ghost use Rattle.tile_pixels.specs.Tile.{IsTile};
+ghost use Rattle.hipsd.specs.Probe.{probe_depth};
+ghost use Rattle.hipsd.specs.Reading.{TakesRecord, StopsRecord, IsOfRecord, IsOfTileRead};
 
 use crate::fault::ProbeFault;
 use byteorder::{BigEndian, ByteOrder};
 use healpix_nested::cells;
-use std::alloc::{AllocError, Global};
+use parent_rule::{Depth, Steps};
+use std::alloc::Global;
 use survey_link::{Failed, Source};
+use tile_pixels::Tile;
+
+/// The blank number of the records.
+const BLANK: i64 = -32_768;
 
 // Reads until the buffer is full or the source at its end, and answers how many bytes were read.
 fn read_full<S: Source>(source: &mut S, buf: &mut [u8]) -> Result<usize, Failed>
@@ -31,40 +38,41 @@ fn read_full<S: Source>(source: &mut S, buf: &mut [u8]) -> Result<usize, Failed>
     Ok(filled)
 }
 
-// The numbers of 16 bits in some bytes.
-fn decode_numbers(alloc: Global, raw: &[u8]) -> Result<Vec<i64>, AllocError>
-    ensures numbers { IfOk result (λ numbers. numbers.items ≡ numbers_in (length raw.now / 2) raw.now) }
-    ensures range { IfOk result (λ numbers. All (IsNumber 16) numbers.items) }
+/// What the stored numbers of a record are.
+pub fn depth() -> Depth
+    ensures { result ≡ probe_depth }
 {
-    let mut numbers = Vec::new(alloc);
-    for place in 0..raw.len() / 2 {
-        let number = BigEndian::read_i16(&raw[2 * place..]);
-        numbers.push(i64::from(number))?;
-    }
-    Ok(numbers)
+    Depth::new(16, BLANK).unwrap()
 }
 
-// The stored numbers of a record, behind its leaf number.
-fn read_numbers<S: Source>(alloc: Global, n: u8, source: &mut S) -> Result<Vec<i64>, ProbeFault>
-    requires { n ≤ 9 }
-    ensures told { (input : List ℕ) → S.left source.old ≡ Some input → IfOk result (λ numbers. (2 * 4 ^ n ≤ length input)
-        × (numbers.items ≡ numbers_in (4 ^ n) input) × (S.left source.new ≡ Some (drop (2 * 4 ^ n) input))) }
+// The tile of a record, behind its leaf number.
+fn read_tile<S: Source>(
+    alloc: Global,
+    n: u8,
+    source: &mut S,
+    raw: &mut [u8],
+    steps: &mut Steps,
+) -> Result<Tile, ProbeFault>
+    requires least_n { 1 ≤ n }
+    requires greatest_n { n ≤ 9 }
+    requires raw { length raw.old ≡ 2 * 4 ^ n }
+    ensures told { (input : List ℕ) → S.left source.old ≡ Some input → IfOk result (λ tile. (2 * 4 ^ n ≤ length input)
+        × (tile.numbers ≡ numbers_from 16 (4 ^ n) input) × (S.left source.new ≡ Some (drop (2 * 4 ^ n) input))) }
     ensures cut { (input : List ℕ) → S.left source.old ≡ Some input → IsErrOf result ProbeFault.Cut → length input < 2 * 4 ^ n }
-    ensures kinds { IfErr result IsOfNumbers }
-    ensures count { IfOk result (λ numbers. length numbers.items ≡ 4 ^ n) }
-    ensures range { IfOk result (λ numbers. All (IsNumber 16) numbers.items) }
+    ensures kinds { IfErr result IsOfTileRead }
+    ensures tile { IfOk result (λ tile. (tile.depth ≡ probe_depth) × (tile.n ≡ n)) }
+    ensures numbers { IfOk result (λ tile. IsTile tile.depth tile.n tile.numbers) }
     ensures failed { IsErrOf result ProbeFault.Read → Rises (S.faults source.old) (S.faults source.new) }
     ensures never_falls { S.faults source.old ≤ S.faults source.new }
+    ensures steps_never_fall { steps.old ≤ steps.new }
 {
-    let count = 4usize.pow(u32::from(n));
-    let mut raw = vec![in alloc; 0u8; 2 * count]?;
-    if read_full(source, &mut raw)? < raw.len() {
+    if read_full(source, raw)? < raw.len() {
         return Err(ProbeFault::Cut);
     }
-    Ok(decode_numbers(alloc, &raw)?)
+    Ok(Tile::from_bytes(alloc, raw, depth(), n, steps)?)
 }
 
-/// The next leaf and its stored numbers; `None` where the input is at its end.
+/// The next leaf and its tile; `None` where the input is at its end. The stored bytes are read into `raw`.
 ///
 /// # Errors
 ///
@@ -75,19 +83,24 @@ pub fn next_record<S: Source>(
     top: u8,
     n: u8,
     source: &mut S,
-) -> Result<Option<(u64, Vec<i64>)>, ProbeFault>
+    raw: &mut [u8],
+    steps: &mut Steps,
+) -> Result<Option<(u64, Tile)>, ProbeFault>
     requires top { top ≤ 20 }
-    requires n { n ≤ 9 }
+    requires least_n { 1 ≤ n }
+    requires greatest_n { n ≤ 9 }
+    requires raw { length raw.old ≡ 2 * 4 ^ n }
     ensures told { (input : List ℕ) → S.left source.old ≡ Some input → IfOk result (λ next. MatchOption next (input ≡ [])
-        (λ leaf. TakesRecord top n input (S.left source.new) leaf.0 leaf.1.items)) }
+        (λ leaf. TakesRecord top n input (S.left source.new) leaf.0 leaf.1.numbers)) }
     ensures stopped { (input : List ℕ) → S.left source.old ≡ Some input → IfErr result (StopsRecord top n input) }
     ensures kinds { IfErr result IsOfRecord }
     ensures leaf { IfOk result (λ next. IfSome next (λ leaf. leaf.0 < cell_count top)) }
-    ensures count { IfOk result (λ next. IfSome next (λ leaf. length leaf.1.items ≡ 4 ^ n)) }
-    ensures range { IfOk result (λ next. IfSome next (λ leaf. All (IsNumber 16) leaf.1.items)) }
+    ensures tile { IfOk result (λ next. IfSome next (λ leaf. (leaf.1.depth ≡ probe_depth) × (leaf.1.n ≡ n))) }
+    ensures numbers { IfOk result (λ next. IfSome next (λ leaf. IsTile leaf.1.depth leaf.1.n leaf.1.numbers)) }
     ensures end { IfOk result (λ next. IfNone next (IsAtEnd (S.left source.new))) }
     ensures failed { IsErrOf result ProbeFault.Read → Rises (S.faults source.old) (S.faults source.new) }
     ensures never_falls { S.faults source.old ≤ S.faults source.new }
+    ensures steps_never_fall { steps.old ≤ steps.new }
 {
     let mut head = [0; 8];
     let count = read_full(source, &mut head)?;
@@ -101,6 +114,6 @@ pub fn next_record<S: Source>(
     if leaf >= cells(top) {
         return Err(ProbeFault::OutOfRange);
     }
-    let numbers = read_numbers(alloc, n, source)?;
-    Ok(Some((leaf, numbers)))
+    let tile = read_tile(alloc, n, source, raw, steps)?;
+    Ok(Some((leaf, tile)))
 }

@@ -82,7 +82,7 @@ where
     match read_command(words) {
         None => usage(sink),
         Some(command) => match command {
-            Command::Probe(asked) => run_probe(rt.alloc(), &asked, source, sink),
+            Command::Probe(asked) => run_probe(rt.alloc(), &asked, source, sink, steps),
         },
     }
 }
@@ -101,7 +101,13 @@ fn usage<K: Sink>(sink: &mut K) -> u8
 }
 
 // Runs `probe`, and answers its status.
-fn run_probe<S: Source, K: Sink>(alloc: Global, asked: &Probe, source: &mut S, sink: &mut K) -> u8
+fn run_probe<S: Source, K: Sink>(
+    alloc: Global,
+    asked: &Probe,
+    source: &mut S,
+    sink: &mut K,
+    steps: &mut Steps,
+) -> u8
     requires { IsProbe asked.now }
     ensures status { (input : List ℕ) → S.left source.old ≡ Some input → EndsBy (probe_answer asked.now input).status result }
     ensures written { (input : List ℕ) → S.left source.old ≡ Some input → result ≡ 0
@@ -114,8 +120,9 @@ fn run_probe<S: Source, K: Sink>(alloc: Global, asked: &Probe, source: &mut S, s
     ensures not_usage { result ≢ 1 }
     ensures read_fault { result ≡ 5 → Rises (S.faults source.old) (S.faults source.new) }
     ensures write_fault { result ≡ 6 → Rises (K.faults sink.old) (K.faults sink.new) }
+    ensures steps_never_fall { steps.old ≤ steps.new }
 {
-    match probe(alloc, asked, source, sink) {
+    match probe(alloc, asked, source, sink, steps) {
         Ok(()) => 0,
         Err(fault) => fault.status(),
     }

@@ -1,0 +1,17 @@
+use Rattle.std.proofs.Common.{◌≡◌, ◌+◌, ◌≤◌, ℕ, map, All}
+use Rattle.std.specs.Map.{values_of}
+use Rattle.std.specs.Map.Iter.{deref}
+use Rattle.pyramid_model.specs.Shape.{LeafMap}
+use Rattle.hipsd.specs.Merging.{IsLevel}
+use Rattle.hipsd.proofs.MergingLemmas.{MadeOf}
+use Rattle.hipsd.proofs.merging.merge_level.Given as goal
+
+-- the tiles above the keys so far
+abbrev pub invariant-loop-child : goal.invariant-loop-child
+invariant-loop-child l = record {
+  can_next : (goal.iterator-loop-child).can_next l.child-iterator;
+  is_finite : (goal.iterator-loop-child).is_finite l.child-iterator;
+  shapes : All (λ tile. (tile.depth ≡ l.shape.depth) × (tile.n ≡ l.shape.n)) (values_of l.made.entries);
+  above : (leaves : LeafMap) (order npix : ℕ) → order ≤ l.level → IsLevel l.shape leaves order npix (l.level + 1) l.children.entries → MadeOf l.shape leaves l.level (map deref l.yielded) l.made.entries;
+  steps : l.initial.steps ≤ l.steps;
+}

@@ -1,0 +1,124 @@
+//! A tile made by merging tiles from the leaves upward, order by order.
+ghost use Rattle.std.specs.Prelude.{◌≡◌, ◌+◌, ◌*◌, ◌^◌, ◌<◌, ◌≤◌, ℕ, true, All, IfOk, IfSome, is_some};
+ghost use Rattle.std.specs.Map.{values_of};
+ghost use Rattle.healpix_nested.specs.Cells.{cell_count, lies_under};
+ghost use Rattle.pyramid_model.specs.Shape.{FitsShape, LeafMap};
+ghost use Rattle.pyramid_model.specs.Tile.{exists};
+ghost use Rattle.hipsd.specs.Merging.{tile_map, tile_of, IsLevel};
+
+use parent_rule::{Permit, Steps};
+use pyramid_model::Shape;
+use std::alloc::{AllocError, Global};
+use std::collections::BTreeMap;
+use tile_pixels::Tile;
+
+/// Tiles of one order, by number.
+pub type Tiles = BTreeMap<u64, Tile>;
+
+// How many cells lie that many orders below one cell.
+fn cells_below(levels: u8) -> u64
+    requires { levels ≤ 11 }
+    ensures count { result ≡ 4 ^ levels }
+    ensures some { 0 < result }
+{
+    4u64.pow(u32::from(levels))
+}
+
+// The leaves under a cell.
+fn leaves_under(shape: &Shape, mut leaves: Tiles, order: u8, npix: u64) -> Tiles
+    requires order { order ≤ shape.now.top }
+    requires fits { FitsShape shape.now (tile_map leaves.entries) }
+    requires tiles { All (λ tile. (tile.depth ≡ shape.now.depth) × (tile.n ≡ shape.now.n)) (values_of leaves.entries) }
+    ensures level { IsLevel shape.now (tile_map leaves.entries) order npix shape.now.top result.entries }
+    ensures tiles { All (λ tile. (tile.depth ≡ shape.now.depth) × (tile.n ≡ shape.now.n)) (values_of result.entries) }
+{
+    let below = cells_below(shape.top - order);
+    leaves.retain(|leaf, _| *leaf / below == npix);
+    leaves
+}
+
+// The tile of a cell, made of those of the order below it.
+fn merge_cell(
+    alloc: Global,
+    shape: &Shape,
+    level: u8,
+    npix: u64,
+    children: &Tiles,
+    steps: &mut Steps,
+) -> Result<Tile, AllocError>
+    requires level { level < shape.now.top }
+    requires npix { npix < 2 ^ 62 }
+    requires tiles { All (λ tile. (tile.depth ≡ shape.now.depth) × (tile.n ≡ shape.now.n)) (values_of children.now.entries) }
+    ensures shape { IfOk result (λ tile. (tile.depth ≡ shape.now.depth) × (tile.n ≡ shape.now.n)) }
+    ensures tile { (leaves : LeafMap) (order above : ℕ) → order ≤ level
+        → IsLevel shape.now leaves order above (level + 1) children.now.entries → lies_under level npix order above ≡ true
+        → IfOk result (λ tile. tile ≡ tile_of shape.now leaves level npix) }
+    ensures steps_never_fall { steps.old ≤ steps.new }
+{
+    let first = 4 * npix;
+    let c0 = children.get(&first);
+    let c1 = children.get(&(first + 1));
+    let c2 = children.get(&(first + 2));
+    let c3 = children.get(&(first + 3));
+    let permit = Permit::issue(level, npix, steps);
+    Tile::merge(alloc, permit, shape.depth, shape.n, c0, c1, c2, c3)
+}
+
+// The tiles of an order, made of those of the order below it. Each is made at the first of its children.
+fn merge_level(
+    alloc: Global,
+    shape: &Shape,
+    level: u8,
+    children: &Tiles,
+    steps: &mut Steps,
+) -> Result<Tiles, AllocError>
+    requires level { level < shape.now.top }
+    requires tiles { All (λ tile. (tile.depth ≡ shape.now.depth) × (tile.n ≡ shape.now.n)) (values_of children.now.entries) }
+    ensures level { (leaves : LeafMap) (order npix : ℕ) → order ≤ level
+        → IsLevel shape.now leaves order npix (level + 1) children.now.entries
+        → IfOk result (λ made. IsLevel shape.now leaves order npix level made.entries) }
+    ensures tiles { IfOk result (λ made. All (λ tile. (tile.depth ≡ shape.now.depth) × (tile.n ≡ shape.now.n)) (values_of made.entries)) }
+    ensures steps_never_fall { steps.old ≤ steps.new }
+{
+    let mut made = BTreeMap::new(alloc);
+    for child in children.keys() {
+        let npix = *child / 4;
+        if made.contains_key(&npix) {
+            continue;
+        }
+        let tile = merge_cell(alloc, shape, level, npix, children, steps)?;
+        made.insert(npix, tile)?;
+    }
+    Ok(made)
+}
+
+/// Tile `npix` of an order, made of the leaves; `None` exactly where it doesn't exist. Only tiles under it are made, each
+/// once, and a step is counted for each.
+///
+/// # Errors
+///
+/// `AllocError` where there is no memory for the tiles.
+pub fn merge_up(
+    alloc: Global,
+    shape: &Shape,
+    leaves: Tiles,
+    order: u8,
+    npix: u64,
+    steps: &mut Steps,
+) -> Result<Option<Tile>, AllocError>
+    requires order { order ≤ shape.now.top }
+    requires npix { npix < cell_count order }
+    requires fits { FitsShape shape.now (tile_map leaves.entries) }
+    requires tiles { All (λ tile. (tile.depth ≡ shape.now.depth) × (tile.n ≡ shape.now.n)) (values_of leaves.entries) }
+    ensures exists { IfOk result (λ made. is_some made ≡ exists shape.now (tile_map leaves.entries) order npix) }
+    ensures tile { IfOk result (λ made. IfSome made (λ tile. tile ≡ tile_of shape.now (tile_map leaves.entries) order npix)) }
+    ensures steps_never_fall { steps.old ≤ steps.new }
+{
+    let mut level = shape.top;
+    let mut tiles = leaves_under(shape, leaves, order, npix);
+    while level > order {
+        level -= 1;
+        tiles = merge_level(alloc, shape, level, &tiles, steps)?;
+    }
+    Ok(tiles.remove(&npix))
+}

@@ -1,0 +1,169 @@
+ghost use Rattle.std.specs.Prelude.{◌≡◌, ℕ, ◌-◌, ◌*◌, ◌/◌, ◌^◌, ◌<◌, ◌≤◌, List, ◌++◌, length, All, IfOk, option_map};
+ghost use Rattle.std.specs.Option.{ForSome};
+ghost use Rattle.parent_rule.specs.Depth.{IsNumber};
+ghost use Rattle.pyramid_model.specs.Shape.{PyramidShape, LeafMap};
+ghost use Rattle.pyramid_model.specs.Tile.{pixels};
+ghost use Rattle.tile_pixels.specs.Lines.{half_row, half_rows};
+ghost use Rattle.tile_pixels.specs.Merge.{merged, ShowsChildren};
+ghost use Rattle.tile_pixels.specs.Stored.{stored_bytes};
+
+use crate::row::{read_row, write_row};
+use crate::tile::Tile;
+use parent_rule::{Depth, Permit, mean_rows};
+use std::alloc::{AllocError, Global};
+
+impl Tile {
+    /// The tile above four tiles: its quadrant i is the parent rule over child i, blank where the child isn't given. The
+    /// permit is spent also by a refusal.
+    ///
+    /// # Errors
+    ///
+    /// `AllocError` where there is no memory for the new tile.
+    pub fn merge(
+        alloc: Global,
+        permit: Permit,
+        depth: Depth,
+        n: u8,
+        c0: Option<&Tile>,
+        c1: Option<&Tile>,
+        c2: Option<&Tile>,
+        c3: Option<&Tile>,
+    ) -> Result<Tile, AllocError>
+        requires least_n { 1 ≤ n }
+        requires greatest_n { n ≤ 9 }
+        requires c0 { ForSome c0 (λ t. (t.now.depth ≡ depth) × (t.now.n ≡ n)) }
+        requires c1 { ForSome c1 (λ t. (t.now.depth ≡ depth) × (t.now.n ≡ n)) }
+        requires c2 { ForSome c2 (λ t. (t.now.depth ≡ depth) × (t.now.n ≡ n)) }
+        requires c3 { ForSome c3 (λ t. (t.now.depth ≡ depth) × (t.now.n ≡ n)) }
+        ensures tile { IfOk result (λ tile. tile ≡ record {
+          depth = depth;
+          n = n;
+          numbers = merged depth n (record {
+            first = option_map (λ t. t.now.numbers) c0.entry;
+            second = option_map (λ t. t.now.numbers) c1.entry;
+            third = option_map (λ t. t.now.numbers) c2.entry;
+            fourth = option_map (λ t. t.now.numbers) c3.entry;
+          });
+        }) }
+
+        // Where the four are those of the children of a cell, it is the cell's.
+        ensures pixels { (shape : PyramidShape) (leaves : LeafMap) (k p : ℕ) → shape.depth ≡ depth → shape.n ≡ n → k < shape.top
+            → ShowsChildren shape leaves k p (record {
+              first = option_map (λ t. t.now.numbers) c0.entry;
+              second = option_map (λ t. t.now.numbers) c1.entry;
+              third = option_map (λ t. t.now.numbers) c2.entry;
+              fourth = option_map (λ t. t.now.numbers) c3.entry;
+            })
+            → IfOk result (λ tile. tile.numbers ≡ pixels shape leaves k p) }
+    {
+        permit.spend();
+        let half = half_side(n);
+        let mut numbers = [0; 1280];
+        let mut bytes = [0; 2048];
+        let numbers = &mut numbers[..5 * half];
+        let bytes = &mut bytes[..half * depth.bytes()];
+        let mut raw = Vec::with_capacity(alloc, bytes.len() * 4 * half)?;
+        append_rows(depth, n, c1, c3, numbers, bytes, &mut raw)?;
+        append_rows(depth, n, c0, c2, numbers, bytes, &mut raw)?;
+        Ok(Tile::of_raw(raw, depth, n))
+    }
+}
+
+// Half of the columns of a tile.
+fn half_side(n: u8) -> usize
+    requires least_n { 1 ≤ n }
+    requires greatest_n { n ≤ 9 }
+    ensures half { result ≡ 2 ^ (n - 1) }
+    ensures side { 2 * result ≡ 2 ^ n }
+    ensures some { 0 < result }
+    ensures small { result ≤ 256 }
+{
+    2usize.pow(u32::from(n - 1))
+}
+
+// Appends half of the lines of the tile above, bottom line first: those over two children side by side.
+fn append_rows(
+    depth: Depth,
+    n: u8,
+    left: Option<&Tile>,
+    right: Option<&Tile>,
+    numbers: &mut [i64],
+    bytes: &mut [u8],
+    raw: &mut Vec<u8>,
+) -> Result<(), AllocError>
+    requires least_n { 1 ≤ n }
+    requires greatest_n { n ≤ 9 }
+    requires left { ForSome left (λ t. (t.now.depth ≡ depth) × (t.now.n ≡ n)) }
+    requires right { ForSome right (λ t. (t.now.depth ≡ depth) × (t.now.n ≡ n)) }
+    requires numbers { length numbers.old ≡ 5 * 2 ^ (n - 1) }
+    requires bytes { length bytes.old ≡ 2 ^ (n - 1) * (depth.bitpix / 8) }
+    ensures bytes { IfOk result (λ _. raw.new.items ≡ raw.old.items ++ stored_bytes depth.bitpix
+        (half_rows depth n (option_map (λ t. t.now.numbers) left.entry) (option_map (λ t. t.now.numbers) right.entry) (2 ^ (n - 1)))) }
+    ensures range { IfOk result (λ _. All (IsNumber depth.bitpix)
+        (half_rows depth n (option_map (λ t. t.now.numbers) left.entry) (option_map (λ t. t.now.numbers) right.entry) (2 ^ (n - 1)))) }
+{
+    let half = half_side(n);
+    for line in 0..half {
+        append_row(depth, n, left, half - 1 - line, numbers, bytes, raw)?;
+        append_row(depth, n, right, half - 1 - line, numbers, bytes, raw)?;
+    }
+    Ok(())
+}
+
+// Appends the row above rows `2 * row` and `2 * row + 1` of a child.
+fn append_row(
+    depth: Depth,
+    n: u8,
+    child: Option<&Tile>,
+    row: usize,
+    numbers: &mut [i64],
+    bytes: &mut [u8],
+    raw: &mut Vec<u8>,
+) -> Result<(), AllocError>
+    requires least_n { 1 ≤ n }
+    requires greatest_n { n ≤ 9 }
+    requires child { ForSome child (λ t. (t.now.depth ≡ depth) × (t.now.n ≡ n)) }
+    requires row { row < 2 ^ (n - 1) }
+    requires numbers { length numbers.old ≡ 5 * 2 ^ (n - 1) }
+    requires bytes { length bytes.old ≡ 2 ^ (n - 1) * (depth.bitpix / 8) }
+    ensures bytes { IfOk result (λ _. raw.new.items ≡ raw.old.items ++ stored_bytes depth.bitpix (half_row depth n (option_map (λ t. t.now.numbers) child.entry) row)) }
+    ensures range { All (IsNumber depth.bitpix) (half_row depth n (option_map (λ t. t.now.numbers) child.entry) row) }
+{
+    let half = half_side(n);
+    let (above, below) = numbers.split_at_mut(half);
+    let (top, bottom) = below.split_at_mut(2 * half);
+    combine_row(depth, n, child, row, top, bottom, above);
+    write_row(depth, above, bytes);
+    raw.extend_from_slice(bytes)
+}
+
+// Combines rows `2 * row` and `2 * row + 1` of a child, which are read into `top` and `bottom`.
+fn combine_row(
+    depth: Depth,
+    n: u8,
+    child: Option<&Tile>,
+    row: usize,
+    top: &mut [i64],
+    bottom: &mut [i64],
+    above: &mut [i64],
+)
+    requires least_n { 1 ≤ n }
+    requires greatest_n { n ≤ 9 }
+    requires child { ForSome child (λ t. (t.now.depth ≡ depth) × (t.now.n ≡ n)) }
+    requires row { row < 2 ^ (n - 1) }
+    requires top { length top.old ≡ 2 ^ n }
+    requires bottom { length bottom.old ≡ 2 ^ n }
+    requires above { length above.old ≡ 2 ^ (n - 1) }
+    ensures row { above.new ≡ half_row depth n (option_map (λ t. t.now.numbers) child.entry) row }
+    ensures range { All (IsNumber depth.bitpix) above.new }
+{
+    match child {
+        None => above.fill(depth.blank()),
+        Some(tile) => {
+            let line = 2 * row as u32;
+            read_row(depth, tile.line(line), top);
+            read_row(depth, tile.line(line + 1), bottom);
+            mean_rows(top, bottom, depth, above);
+        }
+    }
+}
