@@ -1,0 +1,12 @@
+pub mod Zeros
+pub mod ShapeSteps
+pub mod DigitSteps
+pub mod ScanSteps
+pub mod Powers
+pub mod Values
+pub mod NormalForm
+pub mod Capped
+pub mod Reading
+pub mod Writing
+pub mod RoundTrip
+pub mod ReadNormal

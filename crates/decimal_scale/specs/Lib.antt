@@ -1,0 +1,4 @@
+pub mod Real
+pub mod Laws
+pub mod Faults
+pub mod Scan
