@@ -1,0 +1,13 @@
+pub mod NumberLemmas
+pub mod CardLemmas
+pub mod ReadLemmas
+pub mod KeywordLemmas
+pub mod ValuesLemmas
+pub mod ScanLemmas
+pub mod OutcomeLemmas
+pub mod FillLemmas
+pub mod WriteLemmas
+pub mod MadeLemmas
+pub mod WholeLemmas
+pub mod ReadBackLemmas
+pub mod HeaderLemmas

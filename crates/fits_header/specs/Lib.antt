@@ -1,0 +1,9 @@
+pub mod Cards
+pub mod Values
+pub mod Reading
+pub mod WrittenCards
+pub mod FitsFile
+pub mod Faults
+pub mod Scan
+pub mod Scanned
+pub mod Laws
