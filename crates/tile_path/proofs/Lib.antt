@@ -1,0 +1,4 @@
+mod NumberLemmas
+mod WriteLemmas
+mod TileLemmas
+mod PathLemmas

@@ -1,0 +1,17 @@
+//! What follows from the definitions alone. Each function does nothing: its contract is the law.
+ghost use Rattle.tile_path.specs.Laws.{SpellingsDiffer, CatalogueSpellingsDiffer, CatalogueTilesAreNoPaths};
+
+/// Two different paths have different spellings.
+pub fn spellings_differ()
+    ensures { SpellingsDiffer }
+{}
+
+/// Two different catalogue tiles have different spellings.
+pub fn catalogue_spellings_differ()
+    ensures { CatalogueSpellingsDiffer }
+{}
+
+/// No path is spelled as a catalogue tile.
+pub fn catalogue_tiles_are_no_paths()
+    ensures { CatalogueTilesAreNoPaths }
+{}
