@@ -1,0 +1,22 @@
+mod Written
+mod RoundTripBytes
+mod RoundTripLines
+mod RoundTripEntries
+mod RoundTripFaults
+mod RoundTripNumbers
+mod RoundTripKeys
+mod RoundTripPairs
+mod RoundTripDistinct
+mod RoundTripFound
+mod RoundTrip
+pub mod LineLemmas
+pub mod NumberLemmas
+pub mod EntryLemmas
+pub mod ScanLemmas
+pub mod TogetherLemmas
+pub mod DistinctLemmas
+pub mod ExtraLemmas
+pub mod TrimLemmas
+pub mod KeptLemmas
+pub mod DescribedLemmas
+pub mod RealLemmas

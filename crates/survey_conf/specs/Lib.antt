@@ -1,0 +1,10 @@
+pub mod Lines
+pub mod Numbers
+pub mod Keys
+pub mod Entries
+pub mod Seen
+pub mod Faults
+pub mod Description
+pub mod SeenConf
+pub mod Properties
+pub mod Laws

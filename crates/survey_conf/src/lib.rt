@@ -1,0 +1,23 @@
+//! The description of a survey: read from the text of `survey.conf`, and written as the `properties` file of HiPS 1.0
+//! (section 4.4.1).
+#![tactic(auto)]
+
+mod conf;
+mod describe;
+mod entries;
+mod fault;
+mod key;
+pub mod laws;
+mod line;
+mod number;
+mod properties;
+#[cfg(test)]
+mod properties_tests;
+mod real;
+#[cfg(test)]
+mod tests;
+mod together;
+
+pub use conf::Conf;
+pub use fault::{ConfFault, ConfKind, ConfRefusal};
+pub use pyramid_model::Shape;

@@ -1,0 +1,126 @@
+//! What a value stands for where its key asks for a whole number or for one of some words.
+ghost use Rattle.std.specs.Prelude.{◌≡◌};
+ghost use Rattle.std.specs.List.{list_all};
+ghost use Rattle.std.specs.Str.Parse.{without_leading_sign};
+ghost use Rattle.survey_conf.specs.Lines.{is_digit};
+ghost use Rattle.survey_conf.specs.Numbers.{is_whole as spec_is_whole, whole as spec_whole, natural as spec_natural, order as spec_order, lowest_order as spec_lowest_order, bitpix as spec_bitpix, version as spec_version, width_exponent as spec_width_exponent, combine as spec_combine};
+
+use parent_rule::Combine;
+
+/// The greatest number of digits.
+const MOST_DIGITS: usize = 19;
+
+/// The whole number that the value spells, with or without a sign and with 1 to 19 digits; `None` exactly where it spells
+/// none of 64 bits.
+pub(crate) fn whole(value: &[u8]) -> Option<i64>
+    ensures { result ≡ spec_whole value.now }
+{
+    if !is_whole(value) {
+        return None;
+    }
+    match std::str::from_utf8(value) {
+        Ok(text) => text.parse().ok(),
+        Err(_) => None,
+    }
+}
+
+// Whether the value is an optional sign and digits, not too many.
+fn is_whole(value: &[u8]) -> bool
+    ensures { result ≡ spec_is_whole value.now }
+{
+    let digits = without_sign(value);
+    !digits.is_empty() && digits.len() <= MOST_DIGITS && are_digits(digits)
+}
+
+fn without_sign(value: &[u8]) -> &[u8]
+    ensures { result.now ≡ without_leading_sign value.now }
+{
+    match value {
+        [b'+' | b'-', digits @ ..] => digits,
+        _ => value,
+    }
+}
+
+fn are_digits(bytes: &[u8]) -> bool
+    ensures { result ≡ list_all is_digit bytes.now }
+{
+    bytes.iter().all(|byte| byte.is_ascii_digit())
+}
+
+#[tactic(auto, unfolding(crate::specs::Numbers::natural))]
+fn natural(value: &[u8]) -> Option<u64>
+    ensures { result ≡ spec_natural value.now }
+{
+    u64::try_from(whole(value)?).ok()
+}
+
+/// The order of the leaf tiles.
+pub(crate) fn order(value: &[u8]) -> Option<u8>
+    ensures { result ≡ spec_order value.now }
+{
+    match natural(value)? {
+        n @ 3..=11 => Some(n as u8),
+        _ => None,
+    }
+}
+
+/// The lowest order of a tile.
+pub(crate) fn lowest_order(value: &[u8]) -> Option<u8>
+    ensures { result ≡ spec_lowest_order value.now }
+{
+    match natural(value)? {
+        n @ 0..=3 => Some(n as u8),
+        _ => None,
+    }
+}
+
+/// The `n` of tiles that are `2^n` wide.
+pub(crate) fn width_exponent(value: &[u8]) -> Option<u8>
+    ensures { result ≡ spec_width_exponent value.now }
+{
+    match natural(value)? {
+        2 => Some(1),
+        4 => Some(2),
+        8 => Some(3),
+        16 => Some(4),
+        32 => Some(5),
+        64 => Some(6),
+        128 => Some(7),
+        256 => Some(8),
+        512 => Some(9),
+        _ => None,
+    }
+}
+
+/// The width of a stored number in bits.
+pub(crate) fn bitpix(value: &[u8]) -> Option<u8>
+    ensures { result ≡ spec_bitpix value.now }
+{
+    match natural(value)? {
+        n @ (8 | 16 | 32 | 64) => Some(n as u8),
+        _ => None,
+    }
+}
+
+/// The version of a description.
+pub(crate) fn version(value: &[u8]) -> Option<u8>
+    ensures { result ≡ spec_version value.now }
+{
+    match natural(value)? {
+        n @ 1..=2 => Some(n as u8),
+        _ => None,
+    }
+}
+
+/// The way to combine the numbers of four pixels.
+pub(crate) fn combine(value: &[u8]) -> Option<Combine>
+    ensures { result ≡ spec_combine value.now }
+{
+    if value == b"mean".as_slice() {
+        return Some(Combine::Mean);
+    }
+    if value == b"median".as_slice() {
+        return Some(Combine::Median);
+    }
+    None
+}
