@@ -1,0 +1,10 @@
+mod FieldSteps
+mod DigitSteps
+mod Values
+mod Targets
+mod FirstLine
+mod Held
+mod HeadEnds
+mod Fills
+mod Nexts
+mod Unique

@@ -1,0 +1,58 @@
+use Rattle.std.proofs.Common.{rules, refl, sym, ◌∙◌, inr}
+use Rattle.http_frame.specs.Held.{held}
+use Rattle.http_frame.specs.Next.{NeedsMore}
+use Rattle.http_frame.proofs.Fills.{takes_both, needs_before, searched_before, reads_more}
+use Rattle.http_frame.proofs.fill.fill_head.Goals as goal
+
+pub head_length-requires-clause-none : goal.head_length-requires-clause-none
+head_length-requires-clause-none g c = rw c.held-held.ensures c.loop-length.invariant.none
+
+pub returns-then-held-ge-MAX_HEAD-clause-stop : goal.returns-then-held-ge-MAX_HEAD-clause-stop
+returns-then-held-ge-MAX_HEAD-clause-stop g c =
+    (refl, rw c.held-held.ensures at c.if-held-ge-MAX_HEAD.true, rw c.held-held.ensures at (c.in_default.ensures.none refl))
+
+pub read_more-requires-clause-needed : goal.read_more-requires-clause-needed
+read_more-requires-clause-needed g c = record {
+  short = rw c.held-held.ensures at c.if-held-ge-MAX_HEAD.false;
+  none = rw c.held-held.ensures at (c.in_default.ensures.none refl);
+}
+
+pub loop-length-preserved : goal.loop-length-preserved
+loop-length-preserved g c =
+    let before = c.loop-length.invariant.taken in
+    let taken = c.in_ok-read_more.ensures.taken in
+    let needs : NeedsMore (held c.loop-length.buffer) = record {
+      short = rw c.held-held.ensures at c.if-held-ge-MAX_HEAD.false;
+      none = rw c.held-held.ensures at (c.in_default.ensures.none refl);
+    } in
+    record {
+      searched = search rules;
+      none = rw (c.held-held.ensures, taken.grown) (searched_before (held c.loop-length.buffer) taken.more needs);
+      taken = takes_both (held c.args.buffer.now) (held c.loop-length.buffer) (held c.read_more.new.buffer) _ _ _ before taken;
+      needed = reads_more (held c.args.buffer.now) (held c.loop-length.buffer) (held c.read_more.new.buffer) _ _ _ before taken needs;
+      untouched = λ no. absurd (no (needs_before (held c.args.buffer.now) before.more (rw (sym before.grown) needs)));
+      faults = search rules;
+      places = inr c.in_ok-read_more.ensures.places;
+      size = c.in_ok-read_more.ensures.size ∙ c.loop-length.invariant.size;
+    }
+
+pub returns-in_err-read_more-clause-taken : goal.returns-in_err-read_more-clause-taken
+returns-in_err-read_more-clause-taken g c =
+    takes_both (held c.args.buffer.now) (held c.loop-length.buffer) (held c.read_more.new.buffer) _ _ _ c.loop-length.invariant.taken c.in_err-read_more.ensures.taken
+
+pub returns-in_err-read_more-clause-needed : goal.returns-in_err-read_more-clause-needed
+returns-in_err-read_more-clause-needed g c =
+    let needs : NeedsMore (held c.loop-length.buffer) = record {
+      short = rw c.held-held.ensures at c.if-held-ge-MAX_HEAD.false;
+      none = rw c.held-held.ensures at (c.in_default.ensures.none refl);
+    } in
+    reads_more (held c.args.buffer.now) (held c.loop-length.buffer) (held c.read_more.new.buffer) _ _ _ c.loop-length.invariant.taken c.in_err-read_more.ensures.taken needs
+
+pub returns-in_err-read_more-clause-untouched : goal.returns-in_err-read_more-clause-untouched
+returns-in_err-read_more-clause-untouched g c = λ no.
+    let before = c.loop-length.invariant.taken in
+    let needs : NeedsMore (held c.loop-length.buffer) = record {
+      short = rw c.held-held.ensures at c.if-held-ge-MAX_HEAD.false;
+      none = rw c.held-held.ensures at (c.in_default.ensures.none refl);
+    } in
+    absurd (no (needs_before (held c.args.buffer.now) before.more (rw (sym before.grown) needs)))

@@ -1,0 +1,99 @@
+-- A connection that is read request by request, as contracts see it.
+use Rattle.std.specs.Prelude.{◌≡◌, ℕ, ◌<◌, ◌⊎◌, List, [], ◌++◌, length, Option, Some, IfSome, IsSomeAnd, Result, Ok, Err, IfOk, IfErr, OnOk, ⊤}
+use Rattle.std.specs.Borrow.{Bor}
+use Rattle.std.specs.Io.KnownBytes.{prepend_known, Consumes}
+use Rattle.survey_link.specs.Link.{Rises}
+use Rattle.http_frame.specs.declared.request.Request.{Request}
+use Rattle.http_frame.specs.declared.stop.Stop.{Stop}
+use Rattle.http_frame.specs.declared.stop.Stop.TheVariants.{End, Cut, ReadFault, Refuse}
+use Rattle.http_frame.specs.declared.stop.Turn.{Turn}
+use Rattle.http_frame.specs.declared.stop.Turn.TheVariants.{AtHead, AtBody, Stopped}
+use Rattle.http_frame.specs.Next.{NextHead, ended, cut_off, refused, found, IsNextHead, NeedsMore}
+
+-- the bytes that were read and not yet given, the path of the last head, the body that was given last, what is read next,
+-- and the room for a body
+pub record FrameState : Type 0 where
+  pub held : List ℕ
+  pub path : Option (List ℕ)
+  pub body : List ℕ
+  pub turn : Turn
+  pub room : ℕ
+
+-- the unread bytes of the connection: those held, and those left in the source where it tells them
+abbrev pub unread : FrameState → Option (List ℕ) → Option (List ℕ)
+unread frame left = prepend_known frame.held left
+
+-- a head may be read now
+abbrev pub AwaitsHead : Turn → Type 0
+AwaitsHead AtHead = ⊤
+AwaitsHead (AtBody n) = ⊥
+AwaitsHead (Stopped stop) = ⊤
+
+-- a body may be read now
+abbrev pub AwaitsBody : Turn → Type 0
+AwaitsBody AtHead = ⊥
+AwaitsBody (AtBody n) = ⊤
+AwaitsBody (Stopped stop) = ⊤
+
+-- this stands next in the unread bytes, where they are told
+abbrev pub NextIs : ℕ → Option (List ℕ) → NextHead → Type 0
+NextIs room known next = IfSome known (λ bytes. IsNextHead room bytes next)
+
+-- a head was read: where the source tells its bytes, it is the next one, and the bytes after it are unread
+pub record ReadsHead (old new : FrameState) (left left' : Option (List ℕ)) (request : Request) : Type 0 where
+  pub next : IfSome (unread old left) (λ bytes. IsSomeAnd (unread new left') (λ rest. IsNextHead old.room bytes (found request new.path rest)))
+  pub turn : new.turn ≡ AtBody request.length
+
+-- why no head was read, where the source's count of faults went from faults to faults'
+abbrev pub StopsHead : FrameState → FrameState → Option (List ℕ) → ℕ → ℕ → Stop → Type 0
+StopsHead old new left faults faults' End = NextIs old.room (unread old left) ended
+StopsHead old new left faults faults' Cut = NextIs old.room (unread old left) cut_off
+StopsHead old new left faults faults' (Refuse code) = NextIs old.room (unread old left) (refused code)
+StopsHead old new left faults faults' ReadFault = Rises faults faults' × NeedsMore new.held
+
+-- no body was read of n bytes
+abbrev pub StopsBody : ℕ → FrameState → FrameState → Option (List ℕ) → ℕ → ℕ → Stop → Type 0
+StopsBody n old new left faults faults' Cut = IfSome (unread old left) (λ bytes. length bytes < n)
+StopsBody n old new left faults faults' ReadFault = Rises faults faults' × (length new.held < n)
+StopsBody n old new left faults faults' End = ⊥
+StopsBody n old new left faults faults' (Refuse code) = ⊥
+
+-- the unread bytes are what they were, where they are told
+abbrev pub KeepsUnread : FrameState → FrameState → Option (List ℕ) → Option (List ℕ) → Type 0
+KeepsUnread old new left left' = IfSome (unread old left) (λ bytes. unread new left' ≡ Some bytes)
+
+-- nothing was given: the unread bytes and the path are what they were, and the frame stops for good
+pub record IsStopped (old new : FrameState) (left left' : Option (List ℕ)) (stop : Stop) : Type 0 where
+  pub kept : KeepsUnread old new left left'
+  pub path : new.path ≡ old.path
+  pub turn : new.turn ≡ Stopped stop
+
+-- the source was read only while the bytes held didn't tell what stands next: nothing came, or what came before the last
+-- reading didn't tell it
+abbrev pub ReadsWhileNeeded : List ℕ → Option (List ℕ) → Option (List ℕ) → Type 0
+ReadsWhileNeeded held left left' =
+    Consumes left left' [] ⊎ ((before : List ℕ) × (last : List ℕ) × Consumes left left' (before ++ last) × NeedsMore (held ++ before))
+
+-- where a frame that was at a body of n bytes is after it was asked for it
+pub record LeavesBodyOf (n : ℕ) (old new : FrameState) (left left' : Option (List ℕ)) (faults faults' : ℕ) (result : Result (List ℕ) Stop) : Type 0 where
+  pub read : IfOk result (λ body. IfSome (unread old left) (λ bytes. IsSomeAnd (unread new left') (λ rest. bytes ≡ body ++ rest)))
+  pub turn : OnOk result (new.turn ≡ AtHead)
+  pub exact : length old.held < n → OnOk result (new.held ≡ [])
+  pub stopped : IfErr result (IsStopped old new left left')
+  pub stop : IfErr result (StopsBody n old new left faults faults')
+
+-- where a frame is after it was asked for a body
+abbrev pub LeavesBodyAt : Turn → FrameState → FrameState → Option (List ℕ) → Option (List ℕ) → ℕ → ℕ → Result (List ℕ) Stop → Type 0
+LeavesBodyAt AtHead old new left left' faults faults' result = ⊤
+LeavesBodyAt (AtBody n) old new left left' faults faults' result = LeavesBodyOf n old new left left' faults faults' result
+LeavesBodyAt (Stopped stop) old new left left' faults faults' result = new ≡ old
+
+pub record LeavesBody (old new : FrameState) (left left' : Option (List ℕ)) (faults faults' : ℕ) (result : Result (List ℕ) Stop) : Type 0 where
+  pub room : new.room ≡ old.room
+  pub path : new.path ≡ old.path
+  pub turn : LeavesBodyAt old.turn old new left left' faults faults' result
+
+-- what was answered, wherever the bytes lie in memory
+abbrev pub answered : {E : Type 0} → Result (Bor (List ℕ)) E → Result (List ℕ) E
+answered (Ok bytes) = Ok bytes.now
+answered (Err error) = Err error

@@ -1,0 +1,7 @@
+-- Laws of the definitions, each the whole contract of a function of `laws`.
+use Rattle.std.specs.Prelude.{◌≡◌, ℕ, List}
+use Rattle.http_frame.specs.Next.{Next, IsNext}
+
+-- one thing stands next in the unread bytes, and no other
+abbrev pub NextIsOne : Type 0
+NextIsOne = (room : ℕ) (unread : List ℕ) (next next' : Next) → IsNext room unread next → IsNext room unread next' → next ≡ next'

@@ -1,0 +1,11 @@
+pub mod Fields
+pub mod Target
+pub mod Request
+pub mod Refusal
+pub mod Next
+pub mod Reply
+pub mod Held
+pub mod Fill
+pub mod Frame
+pub mod Kept
+pub mod Laws

@@ -1,0 +1,114 @@
+//! Reading of a connection until a whole head or a whole body is held.
+ghost use Rattle.std.specs.Prelude.{◌≡◌, ◌⊎◌, ◌<◌, ◌≤◌, ◌+◌, ◌-◌, ◌^◌, ℕ, List, [], ◌++◌, length, IfOk, IfErr, OnErr, OnOk, IfSome, IsNone, true, false};
+ghost use Rattle.std.specs.Io.KnownBytes.{Consumes, IsAtEnd};
+ghost use Rattle.survey_link.specs.Link.{Rises};
+ghost use Rattle.memchr.specs.Find.{OccursAt, Nowhere};
+ghost use Rattle.http_frame.specs.Held.{held, size};
+ghost use Rattle.http_frame.specs.Next.{IsHeadLength, HasNoHead, NeedsMore, head_end, most_head};
+ghost use Rattle.http_frame.specs.Fill.{Takes, StopsFill, StopsBodyFill};
+ghost use Rattle.http_frame.specs.Frame.{ReadsWhileNeeded};
+
+use crate::buffer::Buffer;
+use crate::stop::Stop;
+use memchr::memmem;
+use survey_link::{Failed, Source};
+
+/// The greatest length of a head in bytes.
+pub const MAX_HEAD: usize = 8192;
+
+/// Reads until a whole head is held, and answers its length.
+pub(crate) fn fill_head<S: Source>(buffer: &mut Buffer, src: &mut S) -> Result<usize, Stop>
+    requires size { most_head ≤ size buffer.old }
+    requires places { (buffer.old.start ≡ buffer.old.end) ⊎ (buffer.old.end ≤ most_head) }
+    ensures found { IfOk result (IsHeadLength (held buffer.new)) }
+    ensures taken { Takes (held buffer.old) (held buffer.new) (S.left src.old) (S.left src.new) }
+    ensures stop { IfErr result (StopsFill (held buffer.new) (S.left src.new) (S.faults src.old) (S.faults src.new)) }
+    ensures needed { ReadsWhileNeeded (held buffer.old) (S.left src.old) (S.left src.new) }
+    ensures untouched { (NeedsMore (held buffer.old) → ⊥) → src.new ≡ src.old }
+    ensures never_falls { S.faults src.old ≤ S.faults src.new }
+    ensures places { (buffer.new.start ≡ buffer.new.end) ⊎ (buffer.new.end ≤ most_head) }
+    ensures size { size buffer.new ≡ size buffer.old }
+{
+    let mut searched = 0;
+    loop {
+        let held = buffer.held();
+        if let Some(length) = head_length(held, searched) {
+            return Ok(length);
+        }
+        if held.len() >= MAX_HEAD {
+            return Err(Stop::Refuse(431));
+        }
+        searched = held.len();
+        read_more(buffer, src)?;
+    }
+}
+
+// Reads once behind the bytes that are held, which are fewer than those of the longest head.
+fn read_more<S: Source>(buffer: &mut Buffer, src: &mut S) -> Result<(), Stop>
+    requires size { most_head ≤ size buffer.old }
+    requires needed { NeedsMore (held buffer.old) }
+    ensures taken { Takes (held buffer.old) (held buffer.new) (S.left src.old) (S.left src.new) }
+    ensures more { OnOk result (length (held buffer.old) < length (held buffer.new)) }
+    ensures stop { IfErr result (StopsFill (held buffer.new) (S.left src.new) (S.faults src.old) (S.faults src.new)) }
+    ensures same { OnErr result (held buffer.new ≡ held buffer.old) }
+    ensures never_falls { S.faults src.old ≤ S.faults src.new }
+    ensures places { buffer.new.end ≤ most_head }
+    ensures size { size buffer.new ≡ size buffer.old }
+{
+    buffer.move_to_front();
+    match buffer.read(src, MAX_HEAD) {
+        Ok(count) => {
+            if count > 0 {
+                Ok(())
+            } else if buffer.held().is_empty() {
+                Err(Stop::End)
+            } else {
+                Err(Stop::Cut)
+            }
+        }
+        Err(Failed) => Err(Stop::ReadFault),
+    }
+}
+
+// The length of the head that the held bytes begin with, of which the first `searched` have no end of a head.
+fn head_length(held: &[u8], searched: usize) -> Option<usize>
+    requires most { length held.now ≤ most_head }
+    requires searched { searched ≤ length held.now }
+    requires none { Nowhere (OccursAt held.now head_end) 0 (searched - 3) }
+    ensures found { IfSome result (IsHeadLength held.now) }
+    ensures none { IsNone result → HasNoHead held.now }
+{
+    let from = searched.saturating_sub(3);
+    let found = memmem::find(&held[from..], b"\r\n\r\n")?;
+    Some(from + found + 4)
+}
+
+/// Reads until so many bytes of a body are held.
+pub(crate) fn fill_body<S: Source>(
+    buffer: &mut Buffer,
+    src: &mut S,
+    count: usize,
+) -> Result<(), Stop>
+    requires room { buffer.old.start + count ≤ size buffer.old }
+    ensures taken { Takes (held buffer.old) (held buffer.new) (S.left src.old) (S.left src.new) }
+    ensures filled { OnOk result (count ≤ length (held buffer.new)) }
+    ensures exact { OnOk result ((held buffer.new ≡ held buffer.old) ⊎ (length (held buffer.new) ≡ count)) }
+    ensures stop { IfErr result (StopsBodyFill count (held buffer.new) (S.left src.new) (S.faults src.old) (S.faults src.new)) }
+    ensures untouched { count ≤ length (held buffer.old) → src.new ≡ src.old }
+    ensures never_falls { S.faults src.old ≤ S.faults src.new }
+    ensures start { buffer.new.start ≡ buffer.old.start }
+    ensures size { size buffer.new ≡ size buffer.old }
+{
+    let end = buffer.start() + count;
+    while buffer.held().len() < count {
+        match buffer.read(src, end) {
+            Ok(read) => {
+                if read == 0 {
+                    return Err(Stop::Cut);
+                }
+            }
+            Err(Failed) => return Err(Stop::ReadFault),
+        }
+    }
+    Ok(())
+}

@@ -1,0 +1,252 @@
+//! A connection that is read request by request.
+ghost use Rattle.std.specs.Prelude.{◌≡◌, ◌<◌, ◌≤◌, ◌^◌, ℕ, [], None, Some, Err, length, if◌then◌else◌, option_copied, vec_capacity, IfOk, IfErr, OnOk, OnErr};
+ghost use Rattle.std.specs.Borrow.{sem};
+ghost use Rattle.std.specs.Io.BufRead.{Rests};
+ghost use Rattle.percent_encoding.specs.Percent.{percent_decode};
+ghost use Rattle.http_frame.specs.Target.{path_of};
+ghost use Rattle.http_frame.specs.Next.{IsTaken, NeedsMore};
+ghost use Rattle.http_frame.specs.Refusal.{IsRefused};
+
+use crate::buffer::Buffer;
+use crate::fill::{MAX_HEAD, fill_body, fill_head};
+use crate::head::{Head, read_head};
+use crate::request::Request;
+use crate::stop::{Stop, Turn};
+use crate::target::local_part;
+use percent_encoding::percent_decode;
+use std::alloc::{AllocError, Global};
+use std::marker::Model;
+use survey_link::Source;
+
+/// One connection's input, read request by request: `head` and then `body`, again and again. All its memory is taken by
+/// `new`.
+#[derive(Drop)]
+pub struct Frame {
+    buffer: Buffer,
+    path: Vec<u8>,
+    has_path: bool,
+    // How many bytes the body had that was given last.
+    given: usize,
+    turn: Turn,
+    room: usize,
+}
+
+impl Model for Frame {
+    ghost use Rattle.http_frame.specs.Frame.{FrameState};
+    ghost use Rattle.http_frame.specs.Kept.{shown, KeepsPlaces};
+
+    ghost Value = { FrameState };
+
+    ghost view = { shown };
+
+    ghost invariant = { KeepsPlaces };
+}
+
+impl Frame {
+    ghost use Rattle.http_frame.specs.Frame.{FrameState, AwaitsHead, AwaitsBody, ReadsHead, StopsHead, IsStopped, KeepsUnread, ReadsWhileNeeded, LeavesBody, LeavesBodyOf, answered};
+    ghost use Rattle.http_frame.specs.Kept.{with_bytes};
+    ghost use Rattle.http_frame.specs.declared.stop.Turn.TheVariants.{AtHead, AtBody, Stopped};
+    ghost use Rattle.http_frame.specs.contracts.frame.Frame.{the_row};
+
+    /// A frame for bodies of at most `body_room` bytes.
+    ///
+    /// # Errors
+    ///
+    /// `AllocError` where there is no memory for the longest head and body.
+    pub fn new(alloc: Global, body_room: usize) -> Result<Frame, AllocError>
+        requires { body_room ≤ 2 ^ 30 }
+        ensures { IfOk result (λ frame. frame ≡ record {
+          held = [];
+          path = None;
+          body = [];
+          turn = AtHead;
+          room = body_room;
+        }) }
+    {
+        let buffer = Buffer::new(alloc, MAX_HEAD + body_room)?;
+        let path = Vec::with_capacity(alloc, MAX_HEAD)?;
+        Ok(Frame {
+            buffer,
+            path,
+            has_path: false,
+            given: 0,
+            turn: Turn::AtHead,
+            room: body_room,
+        })
+    }
+
+    /// The next head. The source is read only while the bytes that are held don't tell what stands next.
+    ///
+    /// # Errors
+    ///
+    /// `End` exactly where the input ends before a head, `Cut` exactly where it ends within one, `Refuse` exactly where the
+    /// next head is refused, by its status code (RFC 9110, section 15); `ReadFault` only where the source's count of faults
+    /// rose. Nothing is lost; from then on the frame answers the same.
+    pub fn head<S: Source>(&mut self, src: &mut S) -> Result<Request, Stop>
+        requires { AwaitsHead self.old.turn }
+        ensures read { self.old.turn ≡ AtHead → IfOk result (ReadsHead self.old self.new (S.left src.old) (S.left src.new)) }
+        ensures stop { self.old.turn ≡ AtHead → IfErr result (StopsHead self.old self.new (S.left src.old) (S.faults src.old) (S.faults src.new)) }
+        ensures stopped { IfErr result (IsStopped self.old self.new (S.left src.old) (S.left src.new)) }
+        ensures again { (stop : Stop) → self.old.turn ≡ Stopped stop → (result ≡ Err stop) × (self.new ≡ self.old) × (src.new ≡ src.old) }
+        ensures needed { ReadsWhileNeeded self.old.held (S.left src.old) (S.left src.new) }
+        ensures untouched { (NeedsMore self.old.held → ⊥) → src.new ≡ src.old }
+        ensures never_falls { S.faults src.old ≤ S.faults src.new }
+        ensures room { self.new.room ≡ self.old.room }
+    {
+        if let Turn::Stopped(stop) = self.turn {
+            return Err(stop);
+        }
+        match self.next_head(src) {
+            Ok(request) => Ok(request),
+            Err(stop) => {
+                self.turn = Turn::Stopped(stop);
+                Err(stop)
+            }
+        }
+    }
+
+    /// The percent-decoded path of the last head, without its leading `/`; `None` exactly where no head was read or its
+    /// target has no path.
+    pub fn path(&self) -> Option<&[u8]>
+        ensures { option_copied result ≡ self.now.path }
+    {
+        if self.has_path {
+            Some(self.path.as_slice())
+        } else {
+            None
+        }
+    }
+
+    /// The body of the last head. The source is read only while fewer bytes are held than the body has.
+    ///
+    /// # Errors
+    ///
+    /// `Cut` exactly where the input ends within the body; `ReadFault` only where the source's count of faults rose. Nothing
+    /// is lost; from then on the frame answers the same.
+    pub fn body<S: Source>(&mut self, src: &mut S) -> Result<&[u8], Stop>
+        requires { AwaitsBody self.old.turn }
+        ensures length { (n : ℕ) → self.old.turn ≡ AtBody n → IfOk result (λ body. length body.now ≡ n) }
+        ensures untouched { (n : ℕ) → self.old.turn ≡ AtBody n → n ≤ length self.old.held → src.new ≡ src.old }
+        ensures again { (stop : Stop) → self.old.turn ≡ Stopped stop → (result ≡ Err stop) × (src.new ≡ src.old) }
+        ensures never_falls { S.faults src.old ≤ S.faults src.new }
+        ensures* after_borrow { sem 𝓛 (Rests the_row self.entry (λ new.
+            LeavesBody self.old new (S.left src.old) (S.left src.new) (S.faults src.old) (S.faults src.new) (answered result))) }
+    {
+        self.take_body(src)?;
+        Ok(self.buffer.given(self.given))
+    }
+
+    // Reads and takes the next head.
+    fn next_head<S: Source>(&mut self, src: &mut S) -> Result<Request, Stop>
+        requires { self.old.turn ≡ AtHead }
+        ensures read { IfOk result (ReadsHead self.old self.new (S.left src.old) (S.left src.new)) }
+        ensures stop { IfErr result (StopsHead self.old self.new (S.left src.old) (S.faults src.old) (S.faults src.new)) }
+        ensures kept { OnErr result (KeepsUnread self.old self.new (S.left src.old) (S.left src.new)) }
+        ensures path { OnErr result (self.new.path ≡ self.old.path) }
+        ensures needed { ReadsWhileNeeded self.old.held (S.left src.old) (S.left src.new) }
+        ensures untouched { (NeedsMore self.old.held → ⊥) → src.new ≡ src.old }
+        ensures never_falls { S.faults src.old ≤ S.faults src.new }
+        ensures room { self.new.room ≡ self.old.room }
+    {
+        self.given = 0;
+        let length = match fill_head(&mut self.buffer, src) {
+            Ok(length) => length,
+            Err(stop) => return Err(stop),
+        };
+        let text = &self.buffer.held()[..length];
+        match take_head(text, self.room, &mut self.path) {
+            Ok((request, has_path)) => {
+                self.has_path = has_path;
+                self.buffer.give(length);
+                self.turn = Turn::AtBody(request.length);
+                Ok(request)
+            }
+            Err(code) => Err(Stop::Refuse(code)),
+        }
+    }
+
+    // Reads and takes the next body.
+    fn take_body<S: Source>(&mut self, src: &mut S) -> Result<(), Stop>
+        requires { AwaitsBody self.old.turn }
+        ensures leaves { LeavesBody self.old self.new (S.left src.old) (S.left src.new) (S.faults src.old) (S.faults src.new) (with_bytes result self.new.body) }
+        ensures length { (n : ℕ) → self.old.turn ≡ AtBody n → OnOk result (length self.new.body ≡ n) }
+        ensures untouched { (n : ℕ) → self.old.turn ≡ AtBody n → n ≤ length self.old.held → src.new ≡ src.old }
+        ensures again { (stop : Stop) → self.old.turn ≡ Stopped stop → (result ≡ Err stop) × (self.new ≡ self.old) × (src.new ≡ src.old) }
+        ensures never_falls { S.faults src.old ≤ S.faults src.new }
+    {
+        match self.turn {
+            Turn::AtHead => unreachable!(),
+            Turn::AtBody(length) => self.read_body(src, length),
+            Turn::Stopped(stop) => Err(stop),
+        }
+    }
+
+    // Reads and takes the next body, which has so many bytes.
+    fn read_body<S: Source>(&mut self, src: &mut S, count: u64) -> Result<(), Stop>
+        requires { self.old.turn ≡ AtBody count }
+        ensures leaves { LeavesBodyOf count self.old self.new (S.left src.old) (S.left src.new) (S.faults src.old) (S.faults src.new) (with_bytes result self.new.body) }
+        ensures length { OnOk result (length self.new.body ≡ count) }
+        ensures untouched { count ≤ length self.old.held → src.new ≡ src.old }
+        ensures never_falls { S.faults src.old ≤ S.faults src.new }
+        ensures room { self.new.room ≡ self.old.room }
+        ensures path { self.new.path ≡ self.old.path }
+    {
+        let count = count as usize;
+        self.given = 0;
+        match fill_body(&mut self.buffer, src, count) {
+            Ok(()) => {
+                self.buffer.give(count);
+                self.given = count;
+                self.turn = Turn::AtHead;
+                Ok(())
+            }
+            Err(stop) => {
+                self.turn = Turn::Stopped(stop);
+                Err(stop)
+            }
+        }
+    }
+}
+
+// What the text of a head asks for, and whether it has a path, which is then decoded into `path`; else the code that refuses
+// it.
+fn take_head(text: &[u8], room: usize, path: &mut Vec<u8>) -> Result<(Request, bool), u16>
+    requires room { room ≤ 2 ^ 30 }
+    requires path { length text.now ≤ vec_capacity path.old }
+    ensures taken { IfOk result (λ found. IsTaken room text.now found.0 (if found.1 then Some path.new.items else None)) }
+    ensures length { IfOk result (λ found. found.0.length ≤ room) }
+    ensures refused { IfErr result (λ code. IsRefused room text.now code) }
+    ensures same { OnErr result (path.new ≡ path.old) }
+    ensures capacity { vec_capacity path.new ≡ vec_capacity path.old }
+{
+    let head = read_head(text, room)?;
+    let has_path = decode_path(head.target.of(text), path);
+    Ok((head.request, has_path))
+}
+
+// Whether the target has a path, which is then decoded into `path`.
+fn decode_path(target: &[u8], path: &mut Vec<u8>) -> bool
+    requires { length target.now ≤ vec_capacity path.old }
+    ensures decoded { (if result then Some path.new.items else None) ≡ path_of target.now }
+    ensures capacity { vec_capacity path.new ≡ vec_capacity path.old }
+{
+    match local_part(target) {
+        [b'/', encoded @ ..] => {
+            decode(encoded, path);
+            true
+        }
+        _ => false,
+    }
+}
+
+// Decodes into the room that the vector has.
+fn decode(encoded: &[u8], path: &mut Vec<u8>)
+    requires { length encoded.now ≤ vec_capacity path.old }
+    ensures decoded { path.new.items ≡ percent_decode encoded.now }
+    ensures capacity { vec_capacity path.new ≡ vec_capacity path.old }
+{
+    path.clear();
+    for byte in percent_decode(encoded) {
+        path.push_reserved(byte);
+    }
+}
