@@ -1,0 +1,5 @@
+pub mod Faults
+pub mod TileFile
+pub mod Reading
+pub mod Refused
+pub mod Laws
