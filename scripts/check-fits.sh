@@ -1,11 +1,17 @@
 #!/bin/sh
-# Has tools of others check the tile files that fits_tile writes: one of each depth is printed by its test
-# `prints_files_for_tools_of_others`. Where fitsverify or astropy (Debian: fitsverify, python3-astropy) isn't installed, this
-# says so and passes.
+# Has tools of others check the FITS files that this repository writes: one tile file of each depth is printed by a test of
+# fits_tile, `prints_files_for_tools_of_others`. The tools are Debian's fitsverify and python3-astropy (install-tools.sh).
+# Where one is missing this fails if CI=true, and else says what was left out.
 cd "$(dirname "$0")/.." || exit 1
 python=/usr/bin/python3
-command -v fitsverify >/dev/null 2>&1 || { echo "check-fits: fitsverify is not installed: nothing checked"; exit 0; }
-"$python" -c 'import astropy' 2>/dev/null || { echo "check-fits: astropy is not installed: nothing checked"; exit 0; }
+missing=
+command -v fitsverify >/dev/null 2>&1 || missing="$missing fitsverify"
+"$python" -c 'import astropy' 2>/dev/null || missing="$missing python3-astropy"
+if [ -n "$missing" ]; then
+    echo "check-fits: LEFT OUT, the files were not checked: not installed here:$missing"
+    [ "${CI:-}" = true ] && exit 1
+    exit 0
+fi
 
 folder=$(mktemp -d) || exit 1
 trap 'rm -rf "$folder"' EXIT

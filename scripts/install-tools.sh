@@ -1,0 +1,14 @@
+#!/bin/sh
+# Installs the tools of others that the checks of this repository call (Debian's fitsverify and python3-astropy), where they
+# are missing and this runs as root. Elsewhere it says what is missing; check-fits.sh decides what follows from that.
+missing=
+command -v fitsverify >/dev/null 2>&1 || missing="$missing fitsverify"
+/usr/bin/python3 -c 'import astropy' 2>/dev/null || missing="$missing python3-astropy"
+[ -z "$missing" ] && exit 0
+if [ "$(id -u)" -ne 0 ] || ! command -v apt-get >/dev/null 2>&1; then
+    echo "install-tools: not installed here:$missing"
+    exit 0
+fi
+export DEBIAN_FRONTEND=noninteractive
+# shellcheck disable=SC2086 # the packages are words
+{ apt-get update && apt-get install -y --no-install-recommends $missing; } >/dev/null 2>&1 || echo "install-tools: apt-get could not install:$missing"
