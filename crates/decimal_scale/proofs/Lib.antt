@@ -10,3 +10,5 @@ pub mod Reading
 pub mod Writing
 pub mod RoundTrip
 pub mod ReadNormal
+pub mod WholeLemmas
+pub mod PlainLemmas

@@ -56,7 +56,7 @@ each_digit p passes (x ∷ xs) h =
 digit_from_value : (b : ℕ) → digit_value b < 10 → is_digit b ≡ true
 digit_from_value b h = grind (arith, nat_tests)
 
-all_from_digits : (xs : List ℕ) → AllDigits 10 xs → list_all is_digit xs ≡ true
+pub all_from_digits : (xs : List ℕ) → AllDigits 10 xs → list_all is_digit xs ≡ true
 all_from_digits [] h = refl
 all_from_digits (x ∷ xs) h = and_from _ _ (digit_from_value x h.0) (all_from_digits xs h.1)
 

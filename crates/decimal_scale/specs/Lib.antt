@@ -1,4 +1,5 @@
 pub mod Real
+pub mod Whole
 pub mod Laws
 pub mod Faults
 pub mod Scan

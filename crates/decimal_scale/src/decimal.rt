@@ -1,3 +1,4 @@
+//! A real number in normal form: reading and writing.
 ghost use Rattle.std.specs.Prelude.{◌≡◌, ℕ, ◌+◌, ◌%◌, ◌^◌, ◌<◌, ◌≤◌, pos, ◌+ℤ◌, ◌-ℤ◌, unsigned_abs, List, ◌++◌, length, take, drop, position, if◌then◌else◌};
 ghost use Rattle.std.specs.Str.Parse.{starts_with_minus, without_leading_sign};
 ghost use Rattle.decimal_scale.specs.Real.{IsNormal, is_exponent_letter, is_fixed_point, normal_form, signed, read_real, real_text};
@@ -6,7 +7,8 @@ ghost use Rattle.decimal_scale.specs.declared.fault.BadReal.TheVariants.{NotANum
 
 use crate::BadReal;
 use crate::digits::{Digits, MAX_DIGITS};
-use crate::exponent::{EXPONENT_LIMIT, read_exponent, split_sign};
+use crate::exponent::{EXPONENT_LIMIT, read_exponent};
+use crate::whole::split_sign;
 use itoa::Buffer;
 use std::fmt;
 use std::marker::Model;

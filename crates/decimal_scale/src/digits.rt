@@ -1,3 +1,4 @@
+//! The digits of a number with at most one point.
 ghost use Rattle.std.specs.Prelude.{◌≡◌, ℕ, List, [], ◌∷◌, ◌+◌, ◌*◌, ◌^◌, ◌<◌, ◌≤◌, ◌++◌, length, MatchResult};
 ghost use Rattle.decimal_scale.specs.Real.{is_fixed_point};
 ghost use Rattle.decimal_scale.specs.Scan.{Scanned, AreDigitsOf, IsRefused};

@@ -1,9 +1,11 @@
+//! The exponent of a real number.
 ghost use Rattle.std.specs.Prelude.{◌≡◌, ℕ, MatchResult};
-ghost use Rattle.std.specs.Str.Parse.{starts_with_minus, without_leading_sign};
+ghost use Rattle.std.specs.Str.Parse.{without_leading_sign};
 ghost use Rattle.decimal_scale.specs.Real.{is_whole};
 ghost use Rattle.decimal_scale.specs.Scan.{IsCapped, IsCappedExponent, IsRefused};
 
 use crate::BadReal;
+use crate::whole::split_sign;
 
 /// The written exponent is cut off here, on both sides of 0. No slice has so many bytes, so that the digits can't lead such
 /// an exponent back.
@@ -24,18 +26,6 @@ pub(crate) fn read_exponent(text: &[u8]) -> Result<i128, BadReal>
         Ok(-magnitude)
     } else {
         Ok(magnitude)
-    }
-}
-
-/// Whether the text begins with `-`, and the text without its sign.
-pub(crate) fn split_sign(text: &[u8]) -> (bool, &[u8])
-    ensures negative { result.0 ≡ starts_with_minus text.now }
-    ensures rest { result.1.now ≡ without_leading_sign text.now }
-{
-    match text {
-        [b'-', rest @ ..] => (true, rest),
-        [b'+', rest @ ..] => (false, rest),
-        _ => (false, text),
     }
 }
 

@@ -1,3 +1,4 @@
+//! Why a text is no real number.
 ghost use Rattle.std.specs.Prelude.{Some};
 ghost use Rattle.decimal_scale.specs.Faults.{bad_real_text};
 

@@ -1,7 +1,7 @@
-//! Real numbers of FITS headers in a normal form.
+//! Numbers in decimal text: real numbers of FITS headers in a normal form, and whole numbers.
 //!
-//! `Decimal::read` reads a decimal text of any length, and `Decimal::text_into` writes the one text of a number. Neither
-//! rounds, and neither takes memory.
+//! `Decimal::read` reads a real number of any length, and `Decimal::text_into` writes the one text of a number; neither
+//! rounds. `plain_decimal` and `whole_number` read whole numbers, without a sign and with one. No call takes memory.
 #![tactic(auto)]
 
 mod decimal;
@@ -11,6 +11,8 @@ mod fault;
 pub mod laws;
 #[cfg(test)]
 mod tests;
+mod whole;
 
 pub use decimal::Decimal;
 pub use fault::BadReal;
+pub use whole::{plain_decimal, split_sign, whole_number};

@@ -1,4 +1,6 @@
-use crate::{BadReal, Decimal};
+//! Worked examples, as tables.
+
+use crate::{BadReal, Decimal, plain_decimal, split_sign, whole_number};
 use std::alloc::{AllocError, Global};
 use std::test::Fail;
 
@@ -207,4 +209,74 @@ fn prints_numbers_and_faults(rt: HostRuntime) -> Result<(), Fail> {
         "-25.0E-5: not a real number, more than 18 significant digits, an exponent below -400 or above 400"
     );
     Ok(())
+}
+
+#[test]
+fn reads_whole_numbers(rt: HostRuntime) {
+    for (text, plain, whole) in [
+        ("0", Some(0), Some(0)),
+        ("7", Some(7), Some(7)),
+        ("10302", Some(10_302), Some(10_302)),
+        ("007", None, Some(7)),
+        ("00", None, Some(0)),
+        ("-0", None, Some(0)),
+        ("+0", None, Some(0)),
+        ("+16", None, Some(16)),
+        ("-32768", None, Some(-32_768)),
+        (
+            "9223372036854775807",
+            Some(9_223_372_036_854_775_807),
+            Some(i64::MAX),
+        ),
+        ("9223372036854775808", Some(9_223_372_036_854_775_808), None),
+        ("-9223372036854775808", None, Some(i64::MIN)),
+        ("-9223372036854775809", None, None),
+        ("-00009223372036854775808", None, Some(i64::MIN)),
+        ("18446744073709551615", Some(u64::MAX), None),
+        ("18446744073709551616", None, None),
+        ("99999999999999999999999999999999", None, None),
+        ("", None, None),
+        ("+", None, None),
+        ("-", None, None),
+        ("--1", None, None),
+        ("+-1", None, None),
+        (" 1", None, None),
+        ("1 ", None, None),
+        ("1.", None, None),
+        ("1E0", None, None),
+        ("0x10", None, None),
+        ("1_000", None, None),
+        ("\u{0661}", None, None),
+    ] {
+        assert_eq!(rt;
+            plain_decimal(text.as_bytes()),
+            plain,
+            "plain decimals {text}"
+        );
+        assert_eq!(rt;
+            whole_number(text.as_bytes()),
+            whole,
+            "the whole number {text}"
+        );
+    }
+    assert_eq!(rt; plain_decimal(b"1\xFF"), None);
+    assert_eq!(rt; whole_number(b"-\xFF"), None);
+}
+
+#[test]
+fn splits_signs(rt: HostRuntime) {
+    for (text, negative, rest) in [
+        ("-25", true, "25"),
+        ("+25", false, "25"),
+        ("25", false, "25"),
+        ("--25", true, "-25"),
+        ("-", true, ""),
+        ("", false, ""),
+    ] {
+        assert_eq!(rt;
+            split_sign(text.as_bytes()),
+            (negative, rest.as_bytes()),
+            "at {text}"
+        );
+    }
 }
