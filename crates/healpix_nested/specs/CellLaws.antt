@@ -1,6 +1,6 @@
 -- What follows from the definitions of `Cells`: numbers of cells fit 64 bits, ancestors are cells, and no two cells
 -- have one uniq number.
-use Rattle.std.proofs.Common.{◌≡◌, ◌↔◌, ℕ, suc, ◌+◌, ◌-◌, ◌*◌, ◌/◌, ◌%◌, ◌^◌, ◌<◌, ◌≤◌, sym, ap, ◌∙◌, arith, pow-suc, inl, inr, mul_assoc, mod-eq_of_lt, true, eqb, leb, eq-eqb, eqb-true, leb-true, le-leb, add-mul, one-mul, div-mul-le_self, div-one}
+use Rattle.std.proofs.Common.{◌≡◌, ◌↔◌, ℕ, suc, ◌+◌, ◌-◌, ◌*◌, ◌/◌, ◌%◌, ◌^◌, ◌<◌, ◌≤◌, refl, sym, ap, subst, ◌∙◌, arith, pow-suc, inl, inr, mul_assoc, mod-eq_of_lt, true, eqb, leb, eq-eqb, eqb-true, leb-true, le-leb, add-mul, one-mul, div-mul-le_self, div-one}
 use Rattle.std.proofs.lemmas.Bool.{cases_order, and_parts, and_from}
 use Rattle.std.proofs.Math.Nat.{pow-le-pow_right, lt-div-mul-add, div-eq_of_lt-le, div-div-eq-div-mul}
 use Rattle.std.proofs.lemmas.Nat.{mul-pow, pow-add, div_below}
@@ -135,3 +135,18 @@ under_means_child k p c =
 
 pub child_under : (k p i : ℕ) → i < 4 → lies_under (k + 1) (4 * p + i) k p ≡ true
 child_under k p i h = (under_means_child k p (4 * p + i)).1 (omega arith, omega arith)
+
+-- a cell lies under one cell of each order up to its own, that of its parent too
+pub under_ancestor : (k p j : ℕ) → j ≤ k → lies_under k p j (p / 4 ^ (k - j)) ≡ true
+under_ancestor k p j h = under_from_parts k p j (p / 4 ^ (k - j)) h refl
+
+pub under_parent : (k p : ℕ) → lies_under (k + 1) p k (p / 4) ≡ true
+under_parent k p = (under_means_child k (p / 4) p).1 (omega arith, omega arith)
+
+-- the parent of a cell under a cell of an order above lies under that cell too
+pub parent_under : (k p j q : ℕ) → j ≤ k → lies_under (k + 1) p j q ≡ true → lies_under k (p / 4) j q ≡ true
+parent_under k p j q h under =
+    let above : lies_under k (p / 4) j (p / 4 / 4 ^ (k - j)) ≡ true = under_ancestor k (p / 4) j h in
+    let whole = under_trans (k + 1) p k (p / 4) j (p / 4 / 4 ^ (k - j)) (under_parent k p) above in
+    let same : p / 4 / 4 ^ (k - j) ≡ q = under_one (k + 1) p j _ _ whole under in
+    subst (λ (r : ℕ). lies_under k (p / 4) j r ≡ true) same above

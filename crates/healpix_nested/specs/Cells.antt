@@ -1,6 +1,6 @@
 -- Cells of the sphere by number: HEALPix, nested scheme, as HiPS 1.0 (section 2) takes it over. Each of the twelve
 -- cells of order 0 is cut in four at each further order.
-use Rattle.std.specs.Prelude.{ℕ, ◌+◌, ◌-◌, ◌*◌, ◌/◌, ◌^◌, ◌<◌, ◌≤◌, ◌&&◌, ◌==◌, nat_le, Bool}
+use Rattle.std.specs.Prelude.{◌≡◌, ◌⊎◌, ℕ, ◌+◌, ◌-◌, ◌*◌, ◌/◌, ◌^◌, ◌<◌, ◌≤◌, ◌&&◌, ◌==◌, nat_le, Bool}
 
 -- a cell: its order, and its number within the order
 pub record NestedCell : Type 0 where
@@ -11,10 +11,18 @@ pub record NestedCell : Type 0 where
 abbrev pub cell_count : ℕ → ℕ
 cell_count order = 12 * 4 ^ order
 
+-- the greatest order of a cell
+abbrev pub greatest_order : ℕ
+greatest_order = 20
+
 -- the orders that this crate knows are 0 to 20, and the cells of an order are numbered from 0
 pub record IsCell (order npix : ℕ) : Type 0 where
-  pub known_order : order ≤ 20
+  pub known_order : order ≤ greatest_order
   pub in_order : npix < cell_count order
+
+-- a cell comes before another: it is of a lower order, or of the same order and has a lower number
+abbrev pub ComesBefore : NestedCell → NestedCell → Type 0
+ComesBefore a b = (a.order < b.order) ⊎ ((a.order ≡ b.order) × (a.npix < b.npix))
 
 -- cell p of order k lies under cell q of order j; a cell lies under itself
 abbrev pub lies_under : ℕ → ℕ → ℕ → ℕ → Bool

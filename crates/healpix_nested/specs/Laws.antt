@@ -1,7 +1,15 @@
 -- Laws of the definitions, each the whole contract of a function of `laws`.
 use Rattle.std.specs.Prelude.{◌≡◌, ◌↔◌, ℕ, ◌+◌, ◌*◌, ◌^◌, ◌<◌, ◌≤◌, true}
-use Rattle.healpix_nested.specs.Cells.{IsCell, lies_under, uniq_number}
+use Rattle.std.specs.declared.cmp.Ordering.{Ordering}
+use Rattle.std.specs.declared.cmp.Ordering.TheVariants.{Less, Equal, Greater}
+use Rattle.healpix_nested.specs.Cells.{NestedCell, IsCell, ComesBefore, lies_under, uniq_number}
 use Rattle.healpix_nested.specs.Place.{Interleaves, z_order, stored_z, stored_at_z}
+
+-- a comparison of cells says which comes before the other, and that they are one where neither does
+pub record OrdersByOrderAndNumber (compare : NestedCell → NestedCell → Ordering) : Type 0 where
+  pub less : (a b : NestedCell) → (compare a b ≡ Less) ↔ ComesBefore a b
+  pub equal : (a b : NestedCell) → (compare a b ≡ Equal) ↔ (a ≡ b)
+  pub greater : (a b : NestedCell) → (compare a b ≡ Greater) ↔ ComesBefore b a
 
 -- each stored number of a tile of 2^n columns, at most 512, has a z in the tile, and that z leads back to it
 abbrev pub StoredNumbersComeBack : Type 0

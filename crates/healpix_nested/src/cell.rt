@@ -1,3 +1,4 @@
+//! A cell of the sphere: its order and its number, its kin above and below, and its number among those of all orders.
 ghost use Rattle.std.specs.Prelude.{ℕ, ◌≡◌, ◌≢◌, ◌+◌, ◌-◌, ◌*◌, ◌/◌, ◌^◌, ◌<◌, ◌≤◌, ◌↔◌, IsSome, IfSome, IsNone};
 ghost use Rattle.healpix_nested.specs.Cells.{IsCell, cell_count, uniq_number};
 

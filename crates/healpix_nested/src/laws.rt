@@ -1,5 +1,19 @@
 //! What follows from the definitions alone. Each function does nothing: its contract is the law.
-ghost use Rattle.healpix_nested.specs.Laws.{StoredNumbersComeBack, NumbersZComeBack, InterleavingIsARuleOnBits, UniqNumbersDiffer, CellsNest, FourStandInASquare};
+ghost use Rattle.std.specs.Prelude.{◌≡◌};
+ghost use Rattle.healpix_nested.specs.Cells.{greatest_order};
+ghost use Rattle.healpix_nested.specs.Laws.{OrdersByOrderAndNumber, StoredNumbersComeBack, NumbersZComeBack, InterleavingIsARuleOnBits, UniqNumbersDiffer, CellsNest, FourStandInASquare};
+
+use crate::cell::{Cell, MAX_ORDER};
+
+/// The greatest order is 20.
+pub fn the_greatest_order_is_20()
+    ensures { MAX_ORDER ≡ greatest_order }
+{}
+
+/// Cells are ordered by order, and those of one order by number.
+pub fn cells_are_ordered_by_order_and_number()
+    ensures { OrdersByOrderAndNumber ⟦<Cell as Ord>⟧.cmp }
+{}
 
 /// The stored numbers of a tile of at most 512 columns go to numbers z of the tile, no two to the same.
 pub fn stored_numbers_come_back()

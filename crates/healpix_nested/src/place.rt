@@ -1,3 +1,4 @@
+//! The place of a pixel in its tile: from its column and line to its number, and back.
 ghost use Rattle.std.specs.Prelude.{◌≡◌, ◌*◌, ◌^◌, ◌<◌, ◌/◌};
 ghost use Rattle.healpix_nested.specs.Place.{Interleaves, spread, gathered, z_order, column_of, line_of};
 

@@ -76,3 +76,52 @@ fn cells_have_numbers(rt: HostRuntime) -> Result<(), Fail> {
     }
     Ok(())
 }
+
+// A row: the order and the number of a cell; the cell of order 0 over it; its column and line there; an order above, and the
+// cell of that order over it. healpy made them: scripts/healpix-values.py.
+#[test]
+fn cells_stand_where_healpy_has_them(rt: HostRuntime) -> Result<(), Fail> {
+    let rows: [(u8, u64, u64, u32, u32, u8, u64); 20] = [
+        (1, 26, 6, 1, 0, 0, 6),
+        (1, 47, 11, 1, 1, 0, 11),
+        (2, 81, 5, 0, 1, 1, 20),
+        (2, 191, 11, 3, 3, 1, 47),
+        (3, 716, 11, 2, 2, 1, 44),
+        (3, 767, 11, 7, 7, 1, 47),
+        (5, 7211, 7, 7, 1, 2, 112),
+        (5, 12_287, 11, 31, 31, 2, 191),
+        (7, 47_582, 2, 107, 94, 3, 185),
+        (7, 196_607, 11, 127, 127, 3, 767),
+        (8, 347_989, 5, 48, 191, 4, 1359),
+        (8, 786_431, 11, 255, 255, 4, 3071),
+        (9, 1_220_160, 4, 432, 104, 4, 1191),
+        (9, 3_145_727, 11, 511, 511, 4, 3071),
+        (12, 105_845_391, 6, 795, 2883, 6, 25_841),
+        (12, 201_326_591, 11, 4095, 4095, 6, 49_151),
+        (16, 9_910_990_194, 2, 16_069, 42_876, 8, 151_229),
+        (16, 51_539_607_551, 11, 65_535, 65_535, 8, 786_431),
+        (20, 1_019_503_047_769, 0, 930_498, 784_365, 10, 972_273),
+        (
+            20,
+            13_194_139_533_311,
+            11,
+            1_048_575,
+            1_048_575,
+            10,
+            12_582_911,
+        ),
+    ];
+    for (order, npix, base, column, line, higher, above) in rows {
+        let cell = Cell::new(order, npix).ok_or("no such cell")?;
+        assert!(rt; higher <= cell.order());
+        let z = npix.checked_rem(1 << (2 * order.min(9))).ok_or("no place")?;
+        assert_eq!(rt;
+            interleave(column % 512, line % 512),
+            z,
+            "at {order}/{npix}"
+        );
+        assert_eq!(rt; cell.ancestor(0).npix(), base, "at {order}/{npix}");
+        assert_eq!(rt; cell.ancestor(higher).npix(), above, "at {order}/{npix}");
+    }
+    Ok(())
+}
