@@ -1,6 +1,5 @@
 -- What a survey's pyramid is built over.
-use Rattle.std.specs.Prelude.{◌≡◌, ℕ, ◌^◌, ◌<◌, ◌≤◌, List, ℤ, length, Option}
-use Rattle.std.specs.Prelude.{All}
+use Rattle.std.specs.Prelude.{◌≡◌, ℕ, ◌^◌, ◌<◌, ◌≤◌, List, ℤ, length, Option, All}
 use Rattle.std.specs.List.Sorted.{IsStrictlySortedBy}
 use Rattle.std.specs.Ordering.{nat_cmp}
 use Rattle.std.specs.Map.{lookup, keys_of, values_of}
@@ -38,3 +37,9 @@ pub record FitsShape (shape : PyramidShape) (leaves : LeafMap) : Type 0 where
   pub cells : All (λ leaf. leaf < cell_count shape.top) (keys_of leaves)
   pub lengths : All (λ numbers. length numbers ≡ 4 ^ shape.n) (values_of leaves)
   pub numbers : All (All (IsNumber shape.depth.bitpix)) (values_of leaves)
+
+-- a leaf that may stand in such a map
+pub record IsLeaf (shape : PyramidShape) (leaf : ℕ) (numbers : List ℤ) : Type 0 where
+  pub cell : leaf < cell_count shape.top
+  pub count : length numbers ≡ 4 ^ shape.n
+  pub of_depth : All (IsNumber shape.depth.bitpix) numbers

@@ -10,6 +10,7 @@ use Rattle.std.proofs.lemmas.List.FromFn.{length-map-range_with_len, get_or-map-
 use Rattle.std.proofs.lemmas.List.Elements.{All-from_get_or}
 use Rattle.std.proofs.lemmas.Option.{slice_get-get_or}
 use Rattle.healpix_nested.specs.Cells.{lies_under}
+use Rattle.healpix_nested.specs.CellLaws.{under_trans, under_one, under_ancestor, under_parent}
 use Rattle.healpix_nested.specs.Place.{stored_z}
 use Rattle.healpix_nested.specs.PlaceLaws.{stored_z_below, stored_at_z-stored_z}
 use Rattle.pyramid_model.specs.Shape.{PyramidShape, LeafMap, leaf_numbers}
@@ -68,7 +69,7 @@ pub exists_step : (shape : PyramidShape) (leaves : LeafMap) (k p : ℕ) → k < 
 exists_step shape leaves k p h = any_of_four _ _ _ _ _ (λ leaf. under_a_child shape.top leaf.0 k p h) leaves
 
 -- a leaf lies under a cell of its own order exactly where it is that cell
-under_itself : (top leaf p : ℕ) → lies_under top leaf top p ≡ is_at (nat_cmp p) leaf
+pub under_itself : (top leaf p : ℕ) → lies_under top leaf top p ≡ is_at (nat_cmp p) leaf
 under_itself top leaf p =
     let depth : top - top ≡ 0 = omega arith in
     let same : leaf / 4 ^ (top - top) ≡ leaf = ap (λ d. leaf / 4 ^ d) depth ∙ div-one leaf in
@@ -83,6 +84,51 @@ exists_leaf shape (e ∷ es) p = rw (under_itself shape.top e.0 p) (
       | true ↦ refl
       | false ↦ exists_leaf shape es p
     ])
+
+-- an element that passes a test, so that any test which it passes finds something
+record Found {X : Type 0} (p : X → Bool) (xs : List X) : Type 0 where
+  element : X
+  passes : p element ≡ true
+  among : (t : X → Bool) → t element ≡ true → list_any t xs ≡ true
+
+or_left : (a b : Bool) → a ≡ true → (a || b) ≡ true
+or_left a b e = rw e refl
+
+or_right : (a b : Bool) → b ≡ true → (a || b) ≡ true
+or_right true b e = refl
+or_right false b e = e
+
+found : {X : Type 0} (p : X → Bool) (xs : List X) → list_any p xs ≡ true → Found p xs
+found p [] e = cc
+found {X} p (x ∷ xs) e = elim (p x) as (λ b. p x ≡ b → (b || list_any p xs) ≡ true → Found p (x ∷ xs)) [
+  | true ↦ λ here k. record { element = x; passes = here; among = λ t is. or_left (t x) (list_any t xs) is }
+  | false ↦ λ here k. let rest = found p xs k in
+      record { element = rest.element; passes = rest.passes; among = λ t is. or_right (t x) (list_any t xs) (rest.among t is) }
+] refl e
+
+-- a tile over one that exists exists
+pub exists_over : (shape : PyramidShape) (leaves : LeafMap) (k p j q : ℕ) → lies_under k p j q ≡ true → exists shape leaves k p ≡ true → exists shape leaves j q ≡ true
+exists_over shape leaves k p j q under there =
+    let leaf = found (λ leaf. lies_under shape.top leaf.0 k p) leaves there in
+    leaf.among (λ leaf. lies_under shape.top leaf.0 j q) (under_trans shape.top leaf.element.0 k p j q leaf.passes under)
+
+-- a tile above the leaves that exists has a child that exists
+pub record HasChild (shape : PyramidShape) (leaves : LeafMap) (k q : ℕ) : Type 0 where
+  pub child : ℕ
+  pub parent : child / 4 ≡ q
+  pub there : exists shape leaves (k + 1) child ≡ true
+
+pub has_child : (shape : PyramidShape) (leaves : LeafMap) (k q : ℕ) → k < shape.top → exists shape leaves k q ≡ true → HasChild shape leaves k q
+has_child shape leaves k q h there =
+    let leaf = found (λ leaf. lies_under shape.top leaf.0 k q) leaves there in
+    let key : ℕ = leaf.element.0 / 4 ^ (shape.top - (k + 1)) in
+    let deep : lies_under shape.top leaf.element.0 (k + 1) key ≡ true = under_ancestor shape.top leaf.element.0 (k + 1) (omega arith) in
+    let up : lies_under shape.top leaf.element.0 k (key / 4) ≡ true = under_trans shape.top leaf.element.0 (k + 1) key k (key / 4) deep (under_parent k key) in
+    record {
+      child = key;
+      parent = under_one shape.top leaf.element.0 k _ _ up leaf.passes;
+      there = leaf.among (λ leaf. lies_under shape.top leaf.0 (k + 1) key) deep;
+    }
 
 -- ---- stored numbers
 

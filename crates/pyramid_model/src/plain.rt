@@ -1,22 +1,54 @@
 //! The plain program: it computes the definitions cell by cell. It is slow, and what later bodies are compared with.
-ghost use Rattle.std.specs.Prelude.{◌≡◌, ℕ, ◌+◌, ◌-◌, ◌*◌, ◌/◌, ◌%◌, ◌^◌, ◌<◌, ◌≤◌, ◌&&◌, nat_le, nat_lt, IfOk, false, None, Some, length, slice_get, All};
+ghost use Rattle.std.specs.Prelude.{◌≡◌, ℕ, ◌+◌, ◌-◌, ◌*◌, ◌/◌, ◌%◌, ◌^◌, ◌<◌, ◌≤◌, ◌&&◌, ◌↔◌, nat_le, nat_lt, IsTrue, IfOk, false, None, Some, length, slice_get, All};
 ghost use Rattle.std.specs.List.{list_any};
+ghost use Rattle.std.specs.List.Sorted.{IsStrictlySortedBy};
+ghost use Rattle.std.specs.Map.{keys_of};
+ghost use Rattle.std.specs.Ordering.{nat_cmp};
 ghost use Rattle.healpix_nested.specs.Cells.{cell_count};
 ghost use Rattle.healpix_nested.specs.Place.{stored_at_z, stored_z};
 ghost use Rattle.parent_rule.specs.Depth.{IsNumber};
-ghost use Rattle.pyramid_model.specs.Shape.{FitsShape, leaf_numbers};
+ghost use Rattle.pyramid_model.specs.Shape.{FitsShape, IsLeaf, leaf_numbers};
 ghost use Rattle.pyramid_model.specs.Leaves.{leaf_map};
 ghost use Rattle.pyramid_model.specs.Value.{value, pixel_of};
 ghost use Rattle.pyramid_model.specs.Tile.{exists, pixels};
 
 use crate::shape::Shape;
-use healpix_nested::{interleave, split};
-use parent_rule::mean4;
+use healpix_nested::{cells, interleave, split};
+use parent_rule::{Depth, mean4};
 use std::alloc::{AllocError, Global};
 use std::collections::BTreeMap;
 
 /// Leaf tiles by number: the stored numbers of each.
 pub type Leaves = BTreeMap<u64, Vec<i64>>;
+
+// Whether a leaf is one of the shape's.
+fn is_leaf(leaf: u64, numbers: &[i64], shape: &Shape) -> bool
+    ensures { IsTrue result ↔ IsLeaf shape.now leaf numbers.now }
+{
+    let bitpix = shape.depth.bitpix();
+    leaf < cells(shape.top)
+        && numbers.len() == 4usize.pow(u32::from(shape.n))
+        && numbers
+            .iter()
+            .all(|number| Depth::new(bitpix, *number).is_some())
+}
+
+// Whether each leaf of a map, which is ordered, is.
+fn each_is_leaf(leaves: &Leaves, shape: &Shape) -> bool
+    ensures ordered { IsStrictlySortedBy nat_cmp (keys_of leaves.now.entries) }
+    ensures leaves { IsTrue result ↔ All (λ leaf. IsLeaf shape.now leaf.0 leaf.1.items) leaves.now.entries }
+{
+    leaves
+        .iter()
+        .all(|(leaf, numbers)| is_leaf(*leaf, numbers, shape))
+}
+
+/// Whether the leaves fit the shape: each is a cell of the order of the leaves, and has `4^n` numbers of the depth.
+pub fn fits(leaves: &Leaves, shape: &Shape) -> bool
+    ensures { IsTrue result ↔ FitsShape shape.now (leaf_map leaves.now.entries) }
+{
+    each_is_leaf(leaves, shape)
+}
 
 // How many cells lie that many orders below one cell.
 fn cells_below(levels: u8) -> u64

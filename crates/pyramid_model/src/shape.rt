@@ -1,3 +1,4 @@
+//! The shape of a survey's pyramid.
 use parent_rule::Depth;
 use std::marker::Model;
 

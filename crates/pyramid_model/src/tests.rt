@@ -1,15 +1,6 @@
-//! Worked examples, as tables. Leaves have two columns and two lines, of numbers of 16 bits.
-ghost use Rattle.std.specs.Prelude.{◌≡◌, ◌^◌, ◌<◌, IsTrue, All, length};
-ghost use Rattle.std.specs.List.Sorted.{IsStrictlySortedBy};
-ghost use Rattle.std.specs.Map.{keys_of};
-ghost use Rattle.std.specs.Ordering.{nat_cmp};
-ghost use Rattle.healpix_nested.specs.Cells.{cell_count};
-ghost use Rattle.parent_rule.specs.Depth.{IsNumber};
-ghost use Rattle.pyramid_model.specs.Shape.{FitsShape};
-ghost use Rattle.pyramid_model.specs.Leaves.{leaf_map};
-
+//! Worked examples, as tables. Leaves are of numbers of 16 bits, two columns by two lines where no row says otherwise.
 use crate::Shape;
-use crate::plain::{Leaves, exists, pixels, value};
+use crate::plain::{Leaves, exists, fits, pixels, value};
 use healpix_nested::cells;
 use parent_rule::{Combine, Depth};
 use std::alloc::Global;
@@ -18,37 +9,6 @@ use std::test::Fail;
 
 /// The blank number.
 const B: i64 = -32768;
-
-// Whether a leaf is one of the shape's.
-fn leaf_fits(leaf: u64, numbers: &[i64], shape: &Shape) -> bool
-    ensures { IsTrue result → (leaf < cell_count shape.now.top) × (length numbers.now ≡ 4 ^ shape.now.n)
-        × All (IsNumber shape.now.depth.bitpix) numbers.now }
-{
-    let bitpix = shape.depth.bitpix();
-    leaf < cells(shape.top)
-        && numbers.len() == 4usize.pow(u32::from(shape.n))
-        && numbers
-            .iter()
-            .all(|number| Depth::new(bitpix, *number).is_some())
-}
-
-// Whether each is.
-fn each_fits(leaves: &Leaves, shape: &Shape) -> bool
-    ensures ordered { IsStrictlySortedBy nat_cmp (keys_of leaves.now.entries) }
-    ensures leaves { IsTrue result → All (λ leaf. (leaf.0 < cell_count shape.now.top) × (length leaf.1.items ≡ 4 ^ shape.now.n)
-        × All (IsNumber shape.now.depth.bitpix) leaf.1.items) leaves.now.entries }
-{
-    leaves
-        .iter()
-        .all(|(leaf, numbers)| leaf_fits(*leaf, numbers, shape))
-}
-
-// Whether the leaves are a map of the shape.
-fn fits(leaves: &Leaves, shape: &Shape) -> bool
-    ensures { IsTrue result → FitsShape shape.now (leaf_map leaves.now.entries) }
-{
-    each_fits(leaves, shape)
-}
 
 fn leaves_of(alloc: Global, table: &[(u64, [i64; 4])]) -> Result<Leaves, Fail> {
     let mut leaves = BTreeMap::new(alloc);
@@ -140,6 +100,79 @@ fn tiles_have_pixels(rt: HostRuntime) -> Result<(), Fail> {
             numbers.as_slice(),
             &wanted[..],
             "tile {npix} of order {order} over {table:?}"
+        );
+    }
+    Ok(())
+}
+
+// Some leaves of tiles of 4 by 4 or 8 by 8, with numbers by a rule.
+fn made_leaves(alloc: Global, n: u8) -> Result<Leaves, Fail> {
+    let count: u64 = if n == 2 { 16 } else { 64 };
+    let mut leaves = BTreeMap::new(alloc);
+    for leaf in [0, 1, 3, 6] {
+        let mut numbers = Vec::new(alloc);
+        for place in 0..count {
+            let rest = (13 * leaf + 5 * place) % 17;
+            numbers.push(if rest == 0 { B } else { rest as i64 - 8 })?;
+        }
+        leaves.insert(leaf, numbers)?;
+    }
+    Ok(leaves)
+}
+
+// A row: the order of the leaves, n, the order and the number of a tile, its numbers. scripts/pyramid-values.py made them.
+#[test]
+fn larger_tiles_have_pixels(rt: HostRuntime) -> Result<(), Fail> {
+    let depth = Depth::new(16, B).ok_or("no depth")?;
+    let rows: [(u8, u8, u8, u64, &[i64]); 4] = [
+        (
+            4,
+            2,
+            4,
+            6,
+            &[2, 7, -5, 0, 5, -7, -2, 3, 8, -4, 1, 6, -6, -1, 4, B],
+        ),
+        (
+            4,
+            2,
+            3,
+            0,
+            &[1, 2, 1, -2, -2, 2, 3, 0, -3, 2, B, B, 2, -1, B, B],
+        ),
+        (
+            5,
+            2,
+            3,
+            0,
+            &[B, B, B, B, B, 1, B, B, 1, 1, B, B, 0, B, B, B],
+        ),
+        (
+            4,
+            3,
+            3,
+            0,
+            &[
+                -2, 2, 1, 2, 3, 0, 1, -1, 1, -1, 3, 2, -1, 3, 1, -2, 1, -2, 2, 1, -2, 3, 0, 1, 0,
+                1, -1, 3, 0, -1, 3, 1, -1, 3, 1, -2, B, B, B, B, -2, 3, 0, 1, B, B, B, B, 0, -1, 3,
+                1, B, B, B, B, 0, -2, 3, 0, B, B, B, B,
+            ],
+        ),
+    ];
+    for (top, n, order, npix, wanted) in rows {
+        assert!(rt; 3 <= top && top <= 11 && 1 <= n && n <= 9);
+        let shape = Shape {
+            top,
+            low: 3,
+            n,
+            depth,
+        };
+        let leaves = made_leaves(rt.alloc(), n)?;
+        assert!(rt; fits(&leaves, &shape) && order <= top && npix < cells(order));
+        let numbers = pixels(rt.alloc(), &leaves, &shape, order, npix)?;
+        assert_eq!(rt;
+            numbers.as_slice(),
+            wanted,
+            "tile {npix} of order {order} over {top}, {n}"
         );
     }
     Ok(())
