@@ -15,6 +15,10 @@ pub record IsTile (depth : PixelDepth) (n : ℕ) (numbers : List ℤ) : Type 0 w
   pub count : length numbers ≡ 4 ^ n
   pub range : All (IsNumber depth.bitpix) numbers
 
+-- the tile is of that depth, and has 2^n columns and lines
+abbrev pub HasShape : PixelTile → PixelDepth → ℕ → Type 0
+HasShape tile depth n = (tile.depth ≡ depth) × (tile.n ≡ n)
+
 -- the number of the pixel in a column and a line, counted from 0 at the top left
 abbrev pub pixel_in : PixelTile → ℕ → ℕ → ℤ
 pixel_in tile column line = slice_index_or tile.numbers ((2 ^ tile.n - 1 - line) * 2 ^ tile.n + column) tile.depth.blank
