@@ -1,4 +1,6 @@
 pub mod Copied
 pub mod Doors
+pub mod FourParts
 pub mod Paths
+pub mod Prefixes
 pub mod Writes

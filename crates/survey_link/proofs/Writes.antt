@@ -2,7 +2,8 @@
 use Rattle.std.proofs.Common.{◌≡◌, ℕ, ◌-◌, List, [], ◌++◌, Option, length, take, drop, refl, sym, ap, ◌∙◌, subst, append_assoc, arith, take-append-drop, append-nil, ◌∷◌}
 use Rattle.std.specs.Io.KnownBytes.{Appends}
 use Rattle.std.proofs.KnownBytes.{Appends-nil, Appends-trans}
-use Rattle.survey_link.specs.Link.{AppendsPrefix, prefix_from_appends}
+use Rattle.survey_link.specs.Link.{AppendsPrefix}
+use Rattle.survey_link.proofs.Prefixes.{prefix_from_appends}
 use Rattle.std.proofs.lemmas.List.{take_all, length-drop}
 
 -- the first of these bytes were written, and the rest is still to be written
@@ -18,13 +19,16 @@ wrote_none old bytes = record { done = []; whole = refl; appended = Appends-nil 
 pub from_there : (xs : List ℕ) (m : ℕ) → take (length xs - m) (drop m xs) ≡ drop m xs
 from_there xs m = take_all (length xs - m) (drop m xs) (omega (arith, length-drop m xs))
 
-pub wrote_more : (old mid new : Option (List ℕ)) (bytes rest : List ℕ) (m : ℕ) → Wrote old mid bytes rest
-    → Appends mid new (take m rest) → Wrote old new bytes (take (length rest - m) (drop m rest))
-wrote_more old mid new bytes rest m before now = record {
+pub wrote_next : (old mid new : Option (List ℕ)) (bytes rest : List ℕ) (m : ℕ) → Wrote old mid bytes rest → Appends mid new (take m rest) → Wrote old new bytes (drop m rest)
+wrote_next old mid new bytes rest m before now = record {
   done = before.done ++ take m rest;
-  whole = rw from_there (before.whole ∙ ap (λ l. before.done ++ l) (sym (take-append-drop m rest)) ∙ sym (append_assoc before.done (take m rest) (drop m rest)));
+  whole = before.whole ∙ ap (λ l. before.done ++ l) (sym (take-append-drop m rest)) ∙ sym (append_assoc before.done (take m rest) (drop m rest));
   appended = Appends-trans old mid new before.done (take m rest) before.appended now;
 }
+
+pub wrote_more : (old mid new : Option (List ℕ)) (bytes rest : List ℕ) (m : ℕ) → Wrote old mid bytes rest
+    → Appends mid new (take m rest) → Wrote old new bytes (take (length rest - m) (drop m rest))
+wrote_more old mid new bytes rest m before now = rw from_there (wrote_next old mid new bytes rest m before now)
 
 length-zero : (xs : List ℕ) → length xs ≡ 0 → xs ≡ []
 length-zero [] e = refl

@@ -1,12 +1,9 @@
 -- The forms in memory: what they hold, and what a call does to it. Calls are numbered from 0, and those whose numbers are
 -- listed fail.
-use Rattle.std.specs.Prelude.{ℕ, ◌+◌, ◌-◌, ◌^◌, ◌≤◌, ◌⊎◌, min, List, [], ◌∷◌, ◌++◌, length, take, drop, map, Some, Contains, if◌then◌else◌, nat_lt}
+use Rattle.std.specs.Prelude.{ℕ, ◌+◌, ◌-◌, ◌≤◌, ◌⊎◌, min, List, [], ◌∷◌, ◌++◌, length, take, drop, map, Some, Contains, if◌then◌else◌, nat_lt}
+use Rattle.survey_link.specs.Link.{next_count}
 use Rattle.survey_link.specs.Door.{Connection, Connections}
 use Rattle.survey_link.specs.Shelf.{ShelfFiles}
-
--- one more, up to the end of a u64
-abbrev pub one_more : ℕ → ℕ
-one_more n = min (n + 1) (2 ^ 64 - 1)
 
 -- a source: the bytes left, how many a read gives at most, the calls that fail, and how many calls came and failed
 pub record SourceState : Type 0 where
@@ -22,15 +19,26 @@ piece_of source space = min (min (length source.unread) source.piece) space
 
 -- a read gave the next m bytes
 abbrev pub after_read : ℕ → SourceState → SourceState
-after_read m source = record source { unread = drop m source.unread; calls = one_more source.calls }
+after_read m source = record source { unread = drop m source.unread; calls = next_count source.calls }
 
 -- a read failed
 abbrev pub after_failed_read : SourceState → SourceState
-after_failed_read source = record source { calls = one_more source.calls; faults = one_more source.faults }
+after_failed_read source = record source { calls = next_count source.calls; faults = next_count source.faults }
 
--- a sink: the bytes written, how many it holds at most, the calls that fail, and how many calls came and failed
+-- a source that never fails: the bytes left, and how many calls came
+pub record SureState : Type 0 where
+  pub unread : List ℕ
+  pub calls : ℕ
+
+-- a sure source gave the next m bytes
+abbrev pub after_sure_read : ℕ → SureState → SureState
+after_sure_read m source = record source { unread = drop m source.unread; calls = next_count source.calls }
+
+-- a sink: the bytes written, those of them that were handed on, how many it holds at most, the calls that fail, and how many
+-- calls came and failed
 pub record SinkState : Type 0 where
   pub written : List ℕ
+  pub handed_on : List ℕ
   pub room : ℕ
   pub fails : List ℕ
   pub calls : ℕ
@@ -46,15 +54,15 @@ taken_of sink count = min count (sink.room - length sink.written)
 
 -- a write took these bytes
 abbrev pub after_write : List ℕ → SinkState → SinkState
-after_write bytes sink = record sink { written = sink.written ++ bytes; calls = one_more sink.calls }
+after_write bytes sink = record sink { written = sink.written ++ bytes; calls = next_count sink.calls }
 
--- a flush went well
+-- a flush went well: all that was written is handed on
 abbrev pub after_flush : SinkState → SinkState
-after_flush sink = record sink { calls = one_more sink.calls }
+after_flush sink = record sink { handed_on = sink.written; calls = next_count sink.calls }
 
 -- a write or a flush failed
 abbrev pub after_failed_write : SinkState → SinkState
-after_failed_write sink = record sink { calls = one_more sink.calls; faults = one_more sink.faults }
+after_failed_write sink = record sink { calls = next_count sink.calls; faults = next_count sink.faults }
 
 -- a shelf: its files, the calls that fail, and how many calls came and failed
 pub record ShelfState : Type 0 where
@@ -65,11 +73,11 @@ pub record ShelfState : Type 0 where
 
 -- a call went well, or there was no memory, and left these files
 abbrev pub after_call : ShelfFiles → ShelfState → ShelfState
-after_call files shelf = record shelf { files = files; calls = one_more shelf.calls }
+after_call files shelf = record shelf { files = files; calls = next_count shelf.calls }
 
 -- a call failed
 abbrev pub after_failed_call : ShelfState → ShelfState
-after_failed_call shelf = record shelf { calls = one_more shelf.calls; faults = one_more shelf.faults }
+after_failed_call shelf = record shelf { calls = next_count shelf.calls; faults = next_count shelf.faults }
 
 -- a door: the connections it was given, how many of them it handed out, those given back, the calls that fail, and how many
 -- calls came and failed
@@ -100,15 +108,15 @@ connections_of door = record {
 
 -- the next connection was handed out
 abbrev pub after_accept : DoorState → DoorState
-after_accept door = record door { next = door.next + 1; calls = one_more door.calls }
+after_accept door = record door { next = door.next + 1; calls = next_count door.calls }
 
 -- no connection was left
 abbrev pub after_none : DoorState → DoorState
-after_none door = record door { calls = one_more door.calls }
+after_none door = record door { calls = next_count door.calls }
 
 -- an accept failed
 abbrev pub after_failed_accept : DoorState → DoorState
-after_failed_accept door = record door { calls = one_more door.calls; faults = one_more door.faults }
+after_failed_accept door = record door { calls = next_count door.calls; faults = next_count door.faults }
 
 -- a connection was given back: it is kept where fewer were given back than handed out
 abbrev pub after_done : SourceState × SinkState → DoorState → DoorState

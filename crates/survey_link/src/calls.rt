@@ -1,5 +1,6 @@
+//! The calls on a form in memory, counted.
 ghost use Rattle.std.specs.Prelude.{◌≡◌, ◌↔◌, Contains, IsTrue, IfOk};
-ghost use Rattle.survey_link.specs.Memory.{one_more};
+ghost use Rattle.survey_link.specs.Link.{next_count};
 
 use std::alloc::{AllocError, Global};
 
@@ -47,14 +48,14 @@ impl Calls {
 
     /// Counts a call.
     pub(crate) fn count(&mut self)
-        ensures { self.new ≡ record self.old { made = one_more self.old.made } }
+        ensures { self.new ≡ record self.old { made = next_count self.old.made } }
     {
         self.made = self.made.saturating_add(1);
     }
 
     /// Counts a call that fails.
     pub(crate) fn fail(&mut self)
-        ensures { self.new ≡ record self.old { made = one_more self.old.made; faults = one_more self.old.faults } }
+        ensures { self.new ≡ record self.old { made = next_count self.old.made; faults = next_count self.old.faults } }
     {
         self.made = self.made.saturating_add(1);
         self.faults = self.faults.saturating_add(1);

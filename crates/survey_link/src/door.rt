@@ -1,3 +1,4 @@
+//! Where connections come through.
 ghost use Rattle.std.specs.Prelude.{◌≡◌, ℕ, ◌≤◌, Option, IfOk, OnErr, IsErrOf, MatchOption, option_map};
 ghost use Rattle.survey_link.specs.Link.{Rises};
 ghost use Rattle.survey_link.specs.Door.{Connections, Takes, NoneWaits, given_back};

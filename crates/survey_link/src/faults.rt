@@ -1,3 +1,4 @@
+//! Why a call on the outside was refused.
 ghost use Rattle.std.specs.Prelude.{Some, codes};
 ghost use Rattle.survey_link.specs.Faults.{link_fault_text, door_fault_text};
 

@@ -1,3 +1,5 @@
+//! What is passed before each merge of tiles.
+
 /// What is passed before each merge of tiles. It has no meaning of its own: tests hold a worker there.
 pub trait Gate {
     /// Returns, sooner or later.

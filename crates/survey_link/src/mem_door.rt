@@ -1,3 +1,4 @@
+//! A door in memory that fails where it is told to.
 ghost use Rattle.std.specs.Prelude.{◌≡◌, ◌≤◌, ◌↔◌, [], Some, Contains, length, slice_get, IfOk, IsErrOf, MatchOption, option_copied};
 ghost use Rattle.survey_link.specs.Door.{Takes, NoneWaits, given_back};
 ghost use Rattle.survey_link.specs.Memory.{connection_of, connections_of, after_accept, after_none, after_failed_accept, after_done};

@@ -1,8 +1,11 @@
+//! A sink in memory that fails where it is told to.
 ghost use Rattle.std.specs.Prelude.{◌≡◌, ◌<◌, ◌≤◌, ◌↔◌, [], Some, Contains, length, take, IfOk, OnOk, OnErr, IsErr};
+ghost use Rattle.survey_link.specs.Link.{parts_bytes};
 ghost use Rattle.survey_link.specs.Memory.{WriteFails, taken_of, after_write, after_flush, after_failed_write};
 
 use crate::calls::Calls;
 use crate::faults::Failed;
+use crate::parts::extend_within;
 use crate::sink::Sink;
 use std::alloc::{AllocError, Global};
 use std::marker::Model;
@@ -12,29 +15,32 @@ use std::marker::Model;
 pub struct MemSink {
     bytes: Vec<u8>,
     room: usize,
+    // How many of the bytes were handed on.
+    flushed: usize,
     calls: Calls,
 }
 
 impl Model for MemSink {
-    ghost use Rattle.std.specs.Prelude.{◌≤◌, vec_len, vec_capacity};
+    ghost use Rattle.std.specs.Prelude.{◌≤◌, take, vec_len, vec_capacity};
     ghost use Rattle.survey_link.specs.Memory.{SinkState};
 
     ghost Value = { SinkState };
 
     ghost view = { λ a. record {
       written = a.bytes.items;
+      handed_on = take a.flushed a.bytes.items;
       room = a.room;
       fails = a.calls.fails.items;
       calls = a.calls.made;
       faults = a.calls.faults;
     } };
 
-    ghost invariant = { λ a. (vec_len a.bytes ≤ a.room) × (a.room ≤ vec_capacity a.bytes) };
+    ghost invariant = { λ a. (vec_len a.bytes ≤ a.room) × (a.room ≤ vec_capacity a.bytes) × (a.flushed ≤ vec_len a.bytes) };
 }
 
 impl MemSink {
     /// A sink with room for so many bytes, all reserved here, so that no write allocates. The calls numbered in `fails`,
-    /// writes and flushes counted together from 0, fail; so does a write where no room is left.
+    /// writes, by parts or not, and flushes counted together from 0, fail; so does a write where no room is left.
     ///
     /// # Errors
     ///
@@ -42,6 +48,7 @@ impl MemSink {
     pub fn new(alloc: Global, room: usize, fails: Vec<u64>) -> Result<MemSink, AllocError>
         ensures { IfOk result (λ sink. sink ≡ record {
           written = [];
+          handed_on = [];
           room = room;
           fails = fails.items;
           calls = 0;
@@ -52,6 +59,7 @@ impl MemSink {
         Ok(MemSink {
             bytes,
             room,
+            flushed: 0,
             calls: Calls::new(fails),
         })
     }
@@ -73,6 +81,7 @@ impl MemSink {
         Ok(MemSink {
             bytes,
             room: self.room,
+            flushed: self.flushed,
             calls,
         })
     }
@@ -80,6 +89,8 @@ impl MemSink {
 
 impl Sink for MemSink {
     ghost held = { λ s. Some s.written };
+
+    ghost handed_on = { λ s. Some s.handed_on };
 
     ghost faults = { λ s. s.faults };
 
@@ -103,6 +114,25 @@ impl Sink for MemSink {
         Ok(count)
     }
 
+    fn write_parts(&mut self, parts: [&[u8]; 4]) -> Result<usize, Failed>
+        requires { 0 < length (parts_bytes parts) }
+        ensures fails { IsErr result ↔ WriteFails self.old }
+        ensures count { IfOk result (λ m. m ≡ taken_of self.old (length (parts_bytes parts.entry))) }
+        ensures given { IfOk result (λ m. self.new ≡ after_write (take m (parts_bytes parts.entry)) self.old) }
+        ensures refused { OnErr result (self.new ≡ after_failed_write self.old) }
+        ensures some { IfOk result (λ m. 0 < m) }
+        ensures never_falls { self.old.faults ≤ self.new.faults }
+    {
+        let held = self.bytes.len();
+        if held == self.room || self.calls.fails_next() {
+            self.calls.fail();
+            return Err(Failed);
+        }
+        self.calls.count();
+        extend_within(&mut self.bytes, self.room, parts);
+        Ok(self.bytes.len() - held)
+    }
+
     fn flush(&mut self) -> Result<(), Failed>
         ensures fails { IsErr result ↔ Contains self.old.fails self.old.calls }
         ensures flushed { OnOk result (self.new ≡ after_flush self.old) }
@@ -114,6 +144,7 @@ impl Sink for MemSink {
             return Err(Failed);
         }
         self.calls.count();
+        self.flushed = self.bytes.len();
         Ok(())
     }
 }

@@ -1,6 +1,9 @@
-ghost use Rattle.std.specs.Prelude.{◌≡◌, ◌<◌, None, length};
+//! A sink that drops what it takes.
+ghost use Rattle.std.specs.Prelude.{◌≡◌, ◌<◌, ◌-◌, ◌^◌, None, length, min};
+ghost use Rattle.survey_link.specs.Link.{parts_bytes};
 
 use crate::faults::Failed;
+use crate::parts::total;
 use crate::sink::Sink;
 
 /// A sink that drops what it takes, and never fails.
@@ -17,6 +20,8 @@ impl NullSink {
 impl Sink for NullSink {
     ghost held = { λ _. None };
 
+    ghost handed_on = { λ _. None };
+
     ghost faults = { λ _. 0 };
 
     fn write(&mut self, buf: &[u8]) -> Result<usize, Failed>
@@ -24,6 +29,13 @@ impl Sink for NullSink {
         ensures whole { result ≡ Ok (length buf.now) }
     {
         Ok(buf.len())
+    }
+
+    fn write_parts(&mut self, parts: [&[u8]; 4]) -> Result<usize, Failed>
+        requires { 0 < length (parts_bytes parts) }
+        ensures whole { result ≡ Ok (min (length (parts_bytes parts.entry)) (2 ^ 64 - 1)) }
+    {
+        Ok(total(parts))
     }
 
     fn flush(&mut self) -> Result<(), Failed>

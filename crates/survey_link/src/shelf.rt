@@ -1,3 +1,4 @@
+//! Where files lie.
 ghost use Rattle.std.specs.Prelude.{◌≡◌, ℕ, ◌≤◌, Option, IfOk, OnOk, OnErr, IsErrOf};
 ghost use Rattle.survey_link.specs.Link.{Rises};
 ghost use Rattle.survey_link.specs.Shelf.{ShelfFiles, Lists, Finds, with_file, without_file, OthersStay};

@@ -1,18 +1,23 @@
+//! Where bytes go to, and the writing of all of some bytes.
 ghost use Rattle.std.specs.Prelude.{◌≡◌, ℕ, ◌<◌, ◌≤◌, List, Option, length, take, IfOk, OnOk, OnErr};
 ghost use Rattle.std.specs.Io.KnownBytes.{Appends};
-ghost use Rattle.survey_link.specs.Link.{Rises, AppendsPrefix};
+ghost use Rattle.survey_link.specs.Link.{Rises, AppendsPrefix, parts_bytes};
 
 use crate::faults::Failed;
+use crate::parts::{rest_of, total};
 
 /// Where bytes go to.
 pub trait Sink {
     /// The bytes held, where they are told.
     ghost held: { Self → Option (List ℕ) };
 
+    /// Those of the bytes held that were handed on, where they are told.
+    ghost handed_on: { Self → Option (List ℕ) };
+
     /// How often it has failed. The count never falls.
     ghost faults: { Self → ℕ };
 
-    /// Writes some first bytes of `buf`, at least one, and answers how many.
+    /// Writes some first bytes of `buf`, at least one, and answers how many. What was handed on stays.
     ///
     /// # Errors
     ///
@@ -23,16 +28,33 @@ pub trait Sink {
         ensures count { IfOk result (λ m. m ≤ length buf.now) }
         ensures appended { IfOk result (λ m. Appends (held self.old) (held self.new) (take m buf.now)) }
         ensures kept { OnErr result (held self.new ≡ held self.old) }
+        ensures handed { handed_on self.new ≡ handed_on self.old }
         ensures failed { OnErr result (Rises (faults self.old) (faults self.new)) }
         ensures never_falls { faults self.old ≤ faults self.new };
 
-    /// Hands on what was written. What is held stays.
+    /// As `write` of the parts one after another, which aren't all empty.
     ///
     /// # Errors
     ///
-    /// `Failed` only where the count of faults rose.
+    /// As for `write`.
+    fn write_parts(&mut self, parts: [&[u8]; 4]) -> Result<usize, Failed>
+        requires { 0 < length (parts_bytes parts) }
+        ensures some { IfOk result (λ m. 0 < m) }
+        ensures count { IfOk result (λ m. m ≤ length (parts_bytes parts.entry)) }
+        ensures appended { IfOk result (λ m. Appends (held self.old) (held self.new) (take m (parts_bytes parts.entry))) }
+        ensures kept { OnErr result (held self.new ≡ held self.old) }
+        ensures handed { handed_on self.new ≡ handed_on self.old }
+        ensures failed { OnErr result (Rises (faults self.old) (faults self.new)) }
+        ensures never_falls { faults self.old ≤ faults self.new };
+
+    /// Hands on all that is held.
+    ///
+    /// # Errors
+    ///
+    /// `Failed` only where the count of faults rose; what is held stays.
     fn flush(&mut self) -> Result<(), Failed>
         ensures kept { held self.new ≡ held self.old }
+        ensures handed { OnOk result (handed_on self.new ≡ held self.new) }
         ensures failed { OnErr result (Rises (faults self.old) (faults self.new)) }
         ensures never_falls { faults self.old ≤ faults self.new };
 }
@@ -45,6 +67,7 @@ pub trait Sink {
 pub fn write_whole<K: Sink>(sink: &mut K, bytes: &[u8]) -> Result<(), Failed>
     ensures whole { OnOk result (Appends (K.held sink.old) (K.held sink.new) bytes.now) }
     ensures part { OnErr result (AppendsPrefix (K.held sink.old) (K.held sink.new) bytes.now) }
+    ensures handed { K.handed_on sink.new ≡ K.handed_on sink.old }
     ensures failed { OnErr result (Rises (K.faults sink.old) (K.faults sink.new)) }
     ensures never_falls { K.faults sink.old ≤ K.faults sink.new }
 {
@@ -52,6 +75,26 @@ pub fn write_whole<K: Sink>(sink: &mut K, bytes: &[u8]) -> Result<(), Failed>
     while !rest.is_empty() {
         let written = sink.write(rest)?;
         rest = &rest[written..];
+    }
+    Ok(())
+}
+
+/// Writes all the parts, one after another, by one call where the sink takes all.
+///
+/// # Errors
+///
+/// `Failed` only where the sink's count of faults rose; some first bytes may have been written.
+pub fn write_all_parts<K: Sink>(sink: &mut K, parts: [&[u8]; 4]) -> Result<(), Failed>
+    ensures whole { OnOk result (Appends (K.held sink.old) (K.held sink.new) (parts_bytes parts.entry)) }
+    ensures part { OnErr result (AppendsPrefix (K.held sink.old) (K.held sink.new) (parts_bytes parts.entry)) }
+    ensures handed { K.handed_on sink.new ≡ K.handed_on sink.old }
+    ensures failed { OnErr result (Rises (K.faults sink.old) (K.faults sink.new)) }
+    ensures never_falls { K.faults sink.old ≤ K.faults sink.new }
+{
+    let mut rest = parts;
+    while total(rest) > 0 {
+        let written = sink.write_parts(rest)?;
+        rest = rest_of(rest, written);
     }
     Ok(())
 }

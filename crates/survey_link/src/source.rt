@@ -1,6 +1,7 @@
+//! Where bytes come from.
 ghost use Rattle.std.specs.Prelude.{◌≡◌, ℕ, ◌<◌, ◌≤◌, List, Option, length, take, IfOk, OnErr, Ok};
 ghost use Rattle.std.specs.Io.KnownBytes.{Consumes, IsAtEnd};
-ghost use Rattle.survey_link.specs.Link.{Rises};
+ghost use Rattle.survey_link.specs.Link.{Rises, readings_after};
 
 use crate::faults::Failed;
 
@@ -8,6 +9,9 @@ use crate::faults::Failed;
 pub trait Source {
     /// The bytes left, where they are told.
     ghost left: { Self → Option (List ℕ) };
+
+    /// The number of its readings, where it is told: one for each call of `read`, refused or not, and for no other call.
+    ghost readings: { Self → Option ℕ };
 
     /// How often it has failed. The count never falls.
     ghost faults: { Self → ℕ };
@@ -23,6 +27,7 @@ pub trait Source {
         ensures taken { IfOk result (λ m. Consumes (left self.old) (left self.new) (take m buf.new)) }
         ensures end { result ≡ Ok 0 → IsAtEnd (left self.new) }
         ensures kept { OnErr result (left self.new ≡ left self.old) }
+        ensures counted { readings self.new ≡ readings_after 1 (readings self.old) }
         ensures failed { OnErr result (Rises (faults self.old) (faults self.new)) }
         ensures never_falls { faults self.old ≤ faults self.new };
 }

@@ -1,16 +1,18 @@
-ghost use Rattle.std.specs.Prelude.{◌≡◌, ◌<◌, ◌≤◌, None, length, take, IfOk, OnErr};
+//! The forms over std's readers and writers.
+ghost use Rattle.std.specs.Prelude.{◌≡◌, ◌<◌, ◌≤◌, None, length, take, IfOk, OnOk, OnErr, Ok};
 ghost use Rattle.std.specs.Io.KnownBytes.{Appends, Consumes, IsAtEnd, Keeps};
-ghost use Rattle.survey_link.specs.Link.{Rises};
+ghost use Rattle.std.specs.Io.Slices.{io_slices_bytes};
+ghost use Rattle.survey_link.specs.Link.{next_count, parts_bytes};
 
 use crate::faults::Failed;
 use crate::sink::Sink;
 use crate::source::Source;
-use std::io::{ErrorKind, Read, Write};
+use std::io::{ErrorKind, IoSlice, Read, Write};
 use std::marker::Model;
 
-/// A source over a reader of std. It tells nothing of the bytes left.
+/// A source over a reader of std. It tells nothing of the bytes left and of its readings.
 ///
-/// Each `Err` of the reader counts as a fault; an interrupted call is counted and made again.
+/// What it answers as `Failed` counts as a fault; an interrupted call is made again and counts as none.
 #[derive(Drop)]
 pub struct StreamSource<R> {
     stream: R,
@@ -39,6 +41,8 @@ impl<R> StreamSource<R> {
 impl<R: Read> Source for StreamSource<R> {
     ghost left = { λ _. None };
 
+    ghost readings = { λ _. None };
+
     ghost faults = { λ s. s.faults };
 
     fn read(&mut self, buf: &mut [u8]) -> Result<usize, Failed>
@@ -47,27 +51,29 @@ impl<R: Read> Source for StreamSource<R> {
         ensures given { IfOk result (λ m. Consumes (R.remaining self.old.stream) (R.remaining self.new.stream) (take m buf.new)) }
         ensures end { result ≡ Ok 0 → IsAtEnd (R.remaining self.new.stream) }
         ensures kept { OnErr result (Keeps (R.remaining self.old.stream) (R.remaining self.new.stream)) }
-        ensures failed { OnErr result (Rises self.old.faults self.new.faults) }
+        ensures sound { OnOk result (self.new.faults ≡ self.old.faults) }
+        ensures failed { OnErr result (self.new.faults ≡ next_count self.old.faults) }
         ensures never_falls { self.old.faults ≤ self.new.faults }
     {
         for _ in 0..u64::MAX {
             match self.stream.read(buf) {
                 Ok(count) => return Ok(count),
                 Err(error) => {
-                    self.faults = self.faults.saturating_add(1);
                     if error.kind() != ErrorKind::Interrupted {
-                        return Err(Failed);
+                        break;
                     }
                 }
             }
         }
+        self.faults = self.faults.saturating_add(1);
         Err(Failed)
     }
 }
 
 /// A sink over a writer of std. It tells nothing of the bytes written.
 ///
-/// Each `Err` of the writer and each write that takes nothing count as a fault; an interrupted call is counted and made again.
+/// What it answers as `Failed` counts as a fault, also a write that takes nothing; an interrupted call is made again and
+/// counts as none.
 #[derive(Drop)]
 pub struct StreamSink<W> {
     stream: W,
@@ -96,6 +102,8 @@ impl<W> StreamSink<W> {
 impl<W: Write> Sink for StreamSink<W> {
     ghost held = { λ _. None };
 
+    ghost handed_on = { λ _. None };
+
     ghost faults = { λ s. s.faults };
 
     fn write(&mut self, buf: &[u8]) -> Result<usize, Failed>
@@ -104,43 +112,82 @@ impl<W: Write> Sink for StreamSink<W> {
         ensures count { IfOk result (λ m. m ≤ length buf.now) }
         ensures given { IfOk result (λ m. Appends (W.contents self.old.stream) (W.contents self.new.stream) (take m buf.now)) }
         ensures kept { OnErr result (Keeps (W.contents self.old.stream) (W.contents self.new.stream)) }
-        ensures failed { OnErr result (Rises self.old.faults self.new.faults) }
+        ensures sound { OnOk result (self.new.faults ≡ self.old.faults) }
+        ensures failed { OnErr result (self.new.faults ≡ next_count self.old.faults) }
         ensures never_falls { self.old.faults ≤ self.new.faults }
     {
         for _ in 0..u64::MAX {
             match self.stream.write(buf) {
-                Ok(0) => {
-                    self.faults = self.faults.saturating_add(1);
-                    return Err(Failed);
-                }
+                Ok(0) => break,
                 Ok(count) => return Ok(count),
                 Err(error) => {
-                    self.faults = self.faults.saturating_add(1);
                     if error.kind() != ErrorKind::Interrupted {
-                        return Err(Failed);
+                        break;
                     }
                 }
             }
         }
+        self.faults = self.faults.saturating_add(1);
+        Err(Failed)
+    }
+
+    // By one call of the writer's `write_vectored`.
+    fn write_parts(&mut self, parts: [&[u8]; 4]) -> Result<usize, Failed>
+        requires { 0 < length (parts_bytes parts) }
+        ensures some { IfOk result (λ m. 0 < m) }
+        ensures count { IfOk result (λ m. m ≤ length (parts_bytes parts.entry)) }
+        ensures given { IfOk result (λ m. Appends (W.contents self.old.stream) (W.contents self.new.stream) (take m (parts_bytes parts.entry))) }
+        ensures kept { OnErr result (Keeps (W.contents self.old.stream) (W.contents self.new.stream)) }
+        ensures sound { OnOk result (self.new.faults ≡ self.old.faults) }
+        ensures failed { OnErr result (self.new.faults ≡ next_count self.old.faults) }
+        ensures never_falls { self.old.faults ≤ self.new.faults }
+    {
+        let slices = io_slices(parts);
+        for _ in 0..u64::MAX {
+            match self.stream.write_vectored(&slices) {
+                Ok(0) => break,
+                Ok(count) => return Ok(count),
+                Err(error) => {
+                    if error.kind() != ErrorKind::Interrupted {
+                        break;
+                    }
+                }
+            }
+        }
+        self.faults = self.faults.saturating_add(1);
         Err(Failed)
     }
 
     fn flush(&mut self) -> Result<(), Failed>
         ensures kept { Keeps (W.contents self.old.stream) (W.contents self.new.stream) }
-        ensures failed { OnErr result (Rises self.old.faults self.new.faults) }
+        ensures sound { OnOk result (self.new.faults ≡ self.old.faults) }
+        ensures failed { OnErr result (self.new.faults ≡ next_count self.old.faults) }
         ensures never_falls { self.old.faults ≤ self.new.faults }
     {
         for _ in 0..u64::MAX {
             match self.stream.flush() {
                 Ok(()) => return Ok(()),
                 Err(error) => {
-                    self.faults = self.faults.saturating_add(1);
                     if error.kind() != ErrorKind::Interrupted {
-                        return Err(Failed);
+                        break;
                     }
                 }
             }
         }
+        self.faults = self.faults.saturating_add(1);
         Err(Failed)
     }
+}
+
+// The parts, as std's vectored writes take them.
+fn io_slices(parts: [&[u8]; 4]) -> [IoSlice<'_>; 4]
+    ensures { io_slices_bytes result ≡ parts_bytes parts.entry }
+{
+    let [first, second, third, fourth] = parts;
+    [
+        IoSlice::new(first),
+        IoSlice::new(second),
+        IoSlice::new(third),
+        IoSlice::new(fourth),
+    ]
 }

@@ -1,23 +1,28 @@
-ghost use Rattle.std.specs.Prelude.{◌≡◌, ℕ, ◌<◌, ◌≤◌, List, Some, length, take, drop, min, IfOk, IsOk};
+//! A source in memory that never fails.
+ghost use Rattle.std.specs.Prelude.{◌≡◌, ◌<◌, ◌≤◌, Some, length, take, min, IfOk, IsOk};
 ghost use Rattle.std.specs.Io.KnownBytes.{Consumes};
+ghost use Rattle.survey_link.specs.Link.{told_count, readings_after};
+ghost use Rattle.survey_link.specs.Memory.{after_sure_read};
 
 use crate::faults::Failed;
 use crate::source::Source;
 use std::marker::Model;
 
-/// A source of given bytes that never fails, seen as the bytes left.
+/// A source of given bytes that never fails.
 #[derive(Drop)]
 pub struct SureSource {
     bytes: Vec<u8>,
     at: usize,
+    calls: u64,
 }
 
 impl Model for SureSource {
-    ghost use Rattle.std.specs.Prelude.{ℕ, List, ◌≤◌, drop, length};
+    ghost use Rattle.std.specs.Prelude.{◌≤◌, drop, length};
+    ghost use Rattle.survey_link.specs.Memory.{SureState};
 
-    ghost Value = { List ℕ };
+    ghost Value = { SureState };
 
-    ghost view = { λ a. drop a.at a.bytes.items };
+    ghost view = { λ a. record { unread = drop a.at a.bytes.items; calls = a.calls } };
 
     ghost invariant = { λ a. a.at ≤ length a.bytes.items };
 }
@@ -25,25 +30,33 @@ impl Model for SureSource {
 impl SureSource {
     /// A source of these bytes.
     pub fn new(bytes: Vec<u8>) -> SureSource
-        ensures { result ≡ bytes.items }
+        ensures { result ≡ record { unread = bytes.items; calls = 0 } }
     {
-        SureSource { bytes, at: 0 }
+        SureSource {
+            bytes,
+            at: 0,
+            calls: 0,
+        }
     }
 }
 
 impl Source for SureSource {
-    ghost left = { λ s. Some s };
+    ghost left = { λ s. Some s.unread };
+
+    ghost readings = { λ s. told_count s.calls };
 
     ghost faults = { λ _. 0 };
 
     fn read(&mut self, buf: &mut [u8]) -> Result<usize, Failed>
         requires { 0 < length buf.old }
         ensures sure { IsOk result }
-        ensures all { IfOk result (λ m. m ≡ min (length self.old) (length buf.old)) }
-        ensures given { IfOk result (λ m. self.new ≡ drop m self.old) }
+        ensures all { IfOk result (λ m. m ≡ min (length self.old.unread) (length buf.old)) }
+        ensures given { IfOk result (λ m. self.new ≡ after_sure_read m self.old) }
         ensures count { IfOk result (λ m. m ≤ length buf.old) }
-        ensures taken { IfOk result (λ m. Consumes (Some self.old) (Some self.new) (take m buf.new)) }
+        ensures taken { IfOk result (λ m. Consumes (Some self.old.unread) (Some self.new.unread) (take m buf.new)) }
+        ensures counted { told_count self.new.calls ≡ readings_after 1 (told_count self.old.calls) }
     {
+        self.calls = self.calls.saturating_add(1);
         let rest = &self.bytes[self.at..];
         let count = rest.len().min(buf.len());
         buf[..count].copy_from_slice(&rest[..count]);

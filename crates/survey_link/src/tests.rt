@@ -1,6 +1,7 @@
-ghost use Rattle.std.specs.Prelude.{◌<◌, ◌++◌, ◌⊎◌, length, take, IfOk, OnOk, OnErr};
+//! Each form once, through the trait it meets.
+ghost use Rattle.std.specs.Prelude.{◌≡◌, ◌<◌, ◌++◌, ◌⊎◌, length, take, IfOk, OnOk, OnErr};
 ghost use Rattle.std.specs.Io.KnownBytes.{Appends, Consumes};
-ghost use Rattle.survey_link.specs.Link.{AppendsPrefix, Rises};
+ghost use Rattle.survey_link.specs.Link.{AppendsPrefix, Rises, readings_after};
 
 use super::*;
 use std::alloc::{AllocError, Global};
@@ -17,6 +18,8 @@ fn move_two<S: Source, K: Sink>(
 ) -> Result<(usize, usize), Failed>
     requires first { 0 < length first.old }
     requires second { 0 < length second.old }
+    ensures readings { OnOk result (S.readings source.new ≡ readings_after 1 (readings_after 1 (S.readings source.old))) }
+    ensures handed { OnOk result (K.handed_on sink.new ≡ K.held sink.new) }
     ensures consumed { IfOk result (λ m. Consumes (S.left source.old) (S.left source.new) (take m.0 first.new ++ take m.1 second.new)) }
     ensures appended { IfOk result (λ m. Appends (K.held sink.old) (K.held sink.new) (take m.0 first.new ++ take m.1 second.new)) }
     ensures failed { OnErr result (Rises (S.faults source.old) (S.faults source.new) ⊎ Rises (K.faults sink.old) (K.faults sink.new)) }
@@ -105,10 +108,44 @@ impl Write for Broken {
     }
 }
 
-// A stream whose first call is interrupted, and whose others give one byte.
+// A stream whose first call is interrupted, whose reads then give one byte and whose writes take one. It counts what is
+// flushed.
 #[derive(Drop)]
 struct Bumpy {
     bumped: bool,
+    taken: Vec<u8>,
+    flushes: u32,
+}
+
+impl Bumpy {
+    fn new(alloc: Global) -> Bumpy {
+        Bumpy {
+            bumped: false,
+            taken: Vec::new(alloc),
+            flushes: 0,
+        }
+    }
+}
+
+impl Write for Bumpy {
+    fn write(&mut self, buf: &[u8]) -> io::Result<usize> {
+        if !self.bumped {
+            self.bumped = true;
+            return Err(ErrorKind::Interrupted.into());
+        }
+        match buf.first() {
+            None => Ok(0),
+            Some(first) => {
+                self.taken.push(*first)?;
+                Ok(1)
+            }
+        }
+    }
+
+    fn flush(&mut self) -> io::Result<()> {
+        self.flushes = self.flushes.saturating_add(1);
+        Ok(())
+    }
 }
 
 impl Read for Bumpy {
@@ -250,16 +287,49 @@ fn streams_of_the_outside(rt: HostRuntime) -> Result<(), Fail> {
     assert_eq!(rt; failed, 0);
     assert_eq!(rt; StreamSource::new(Broken).read(&mut [0; 2]), Err(Failed));
     let mut buf = [0; 2];
-    let mut bumpy = StreamSource::new(Bumpy { bumped: false });
+    let mut bumpy = StreamSource::new(Bumpy::new(alloc));
     assert_eq!(rt; bumpy.read(&mut buf), Ok(1));
     assert_eq!(rt; buf, [b'x', 0]);
-    let mut written = Vec::new(alloc);
-    let mut sink = StreamSink::new(&mut written);
+    Ok(())
+}
+
+#[test]
+fn streams_to_the_outside(rt: HostRuntime) -> Result<(), Fail> {
+    let alloc = rt.alloc();
+    let mut bumpy = Bumpy::new(alloc);
+    let mut sink = StreamSink::new(&mut bumpy);
     assert_eq!(rt; write_whole(&mut sink, b"hello"), Ok(()));
+    assert_eq!(rt;
+        write_all_parts(&mut sink, [b", ", b"", b"world", b"!"]),
+        Ok(())
+    );
     assert_eq!(rt; sink.flush(), Ok(()));
-    assert_eq!(rt; written.as_slice(), b"hello".as_slice());
+    assert_eq!(rt; bumpy.taken.as_slice(), b"hello, world!".as_slice());
+    assert_eq!(rt; bumpy.flushes, 1);
     let mut broken = StreamSink::new(Broken);
     assert_eq!(rt; write_whole(&mut broken, b"hello"), Err(Failed));
+    assert_eq!(rt; broken.write_parts([b"", b"h", b"", b""]), Err(Failed));
     assert_eq!(rt; broken.flush(), Err(Failed));
+    Ok(())
+}
+
+// Each row: the room of the sink, the call that fails, the parts, what the first call takes, and what stands in the end.
+const PARTS: [(usize, u64, [&[u8]; 4], Result<usize, Failed>, &[u8]); 5] = [
+    (16, 9, [b"ab", b"", b"cde", b"f"], Ok(6), b"abcdef"),
+    (4, 9, [b"ab", b"", b"cde", b"f"], Ok(4), b"abcd"),
+    (2, 9, [b"ab", b"", b"cde", b"f"], Ok(2), b"ab"),
+    (9, 0, [b"ab", b"", b"cde", b"f"], Err(Failed), b""),
+    (9, 9, [b"", b"", b"", b"f"], Ok(1), b"f"),
+];
+
+#[test]
+fn parts_go_out_in_one_call(rt: HostRuntime) -> Result<(), Fail> {
+    let alloc = rt.alloc();
+    for (room, fails, parts, taken, held) in PARTS {
+        let mut sink = MemSink::new(alloc, room, vec![in alloc; fails]?)?;
+        assert_eq!(rt; sink.write_parts(parts), taken, "{room} {fails}");
+        assert_eq!(rt; sink.bytes(), held, "{room} {fails}");
+    }
+    assert_eq!(rt; NullSink::new().write_parts([b"a", b"bc", b"", b""]), Ok(3));
     Ok(())
 }

@@ -1,4 +1,4 @@
-use Rattle.std.proofs.Common.{arith}
+use Rattle.std.proofs.Common.{arith, ◌∙◌}
 use Rattle.std.proofs.lemmas.Result.{err_from_is_err_and}
 use Rattle.survey_link.proofs.Writes.{wrote_more, wrote_prefix}
 use Rattle.survey_link.proofs.sink.write_whole.Goals as goal
@@ -11,5 +11,6 @@ returns-in_err-written-clause-part g c =
 pub loop-rest-preserved : goal.loop-rest-preserved
 loop-rest-preserved g c = record {
   wrote = wrote_more _ _ _ _ _ _ c.loop-rest.invariant.wrote c.in_ok-written.ensures.appended;
+  handed = c.write.ensures.handed ∙ c.loop-rest.invariant.handed;
   never_falls = omega (arith, c.loop-rest.invariant.never_falls, c.write.ensures.never_falls);
 }

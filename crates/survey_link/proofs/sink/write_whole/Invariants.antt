@@ -1,10 +1,11 @@
-use Rattle.std.proofs.Common.{◌≤◌, length}
+use Rattle.std.proofs.Common.{◌≡◌, ◌≤◌, length}
 use Rattle.survey_link.proofs.Writes.{Wrote}
 use Rattle.survey_link.proofs.sink.write_whole.Given as goal
 
 abbrev pub invariant-loop-rest : goal.invariant-loop-rest
 invariant-loop-rest g l = record {
   wrote : Wrote (g.K.Sink.held l.fn.sink) (g.K.Sink.held l.sink) l.bytes l.rest;
+  handed : g.K.Sink.handed_on l.sink ≡ g.K.Sink.handed_on l.fn.sink;
   never_falls : g.K.Sink.faults l.fn.sink ≤ g.K.Sink.faults l.sink;
 }
 

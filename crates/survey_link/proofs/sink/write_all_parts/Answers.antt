@@ -1,0 +1,16 @@
+use Rattle.std.proofs.Common.{arith, ◌∙◌}
+use Rattle.std.proofs.lemmas.Result.{err_from_is_err_and}
+use Rattle.survey_link.proofs.Writes.{wrote_next, wrote_prefix}
+use Rattle.survey_link.proofs.sink.write_all_parts.Goals as goal
+
+pub returns-in_err-written-clause-part : goal.returns-in_err-written-clause-part
+returns-in_err-written-clause-part g c =
+    let error = err_from_is_err_and c.from_residual.result c.from_residual.ensures.1 in
+    rw (error.1, c.in_err-written.ensures.kept) (wrote_prefix _ _ _ _ c.loop-rest.invariant.wrote)
+
+pub loop-rest-preserved : goal.loop-rest-preserved
+loop-rest-preserved g c = record {
+  wrote = rw c.rest_of-rest.ensures (wrote_next _ _ _ _ _ _ c.loop-rest.invariant.wrote c.in_ok-written.ensures.appended);
+  handed = c.write_parts.ensures.handed ∙ c.loop-rest.invariant.handed;
+  never_falls = omega (arith, c.loop-rest.invariant.never_falls, c.write_parts.ensures.never_falls);
+}

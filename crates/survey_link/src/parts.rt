@@ -1,0 +1,50 @@
+//! Four parts that are written one after another.
+ghost use Rattle.std.specs.Prelude.{◌≡◌, ◌+◌, ◌-◌, ◌^◌, ◌≤◌, ◌++◌, min, length, take, drop, vec_len, vec_capacity};
+ghost use Rattle.survey_link.specs.Link.{parts_bytes};
+
+/// How many bytes the parts have, at most `usize::MAX`.
+pub(crate) fn total(parts: [&[u8]; 4]) -> usize
+    ensures { result ≡ min (length (parts_bytes parts.entry)) (2 ^ 64 - 1) }
+{
+    let [first, second, third, fourth] = parts;
+    first
+        .len()
+        .saturating_add(second.len())
+        .saturating_add(third.len())
+        .saturating_add(fourth.len())
+}
+
+/// The parts without their first `count` bytes.
+pub(crate) fn rest_of<'a>(parts: [&'a [u8]; 4], count: usize) -> [&'a [u8]; 4]
+    requires { count ≤ length (parts_bytes parts) }
+    ensures { parts_bytes result ≡ drop count (parts_bytes parts.entry) }
+{
+    let [first, second, third, fourth] = parts;
+    let (first, count) = without(first, count);
+    let (second, count) = without(second, count);
+    let (third, count) = without(third, count);
+    let (fourth, _) = without(fourth, count);
+    [first, second, third, fourth]
+}
+
+// The part without its first `count` bytes, and how many more than it has are to go.
+fn without(part: &[u8], count: usize) -> (&[u8], usize)
+    ensures rest { result.0.now ≡ drop count part.now }
+    ensures more { result.1 ≡ count - length part.now }
+{
+    let gone = part.len().min(count);
+    (&part[gone..], count - gone)
+}
+
+/// Appends the bytes of the parts for which there is room.
+pub(crate) fn extend_within(bytes: &mut Vec<u8>, room: usize, parts: [&[u8]; 4])
+    requires held { vec_len bytes.old ≤ room }
+    requires reserved { room ≤ vec_capacity bytes.old }
+    ensures bytes { bytes.new.items ≡ take room (bytes.old.items ++ parts_bytes parts.entry) }
+    ensures capacity { vec_capacity bytes.old ≤ vec_capacity bytes.new }
+{
+    for part in parts {
+        let count = part.len().min(room - bytes.len());
+        bytes.extend_from_slice(&part[..count]).unwrap();
+    }
+}
