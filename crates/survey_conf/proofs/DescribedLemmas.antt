@@ -27,14 +27,14 @@ use Rattle.survey_conf.specs.declared.key.Key.{Key}
 use Rattle.survey_conf.specs.declared.key.Key.TheVariants.{CreatorDid, ObsTitle, HipsReleaseDate, HipsStatus, HipsOrder, HipsOrderMin, HipsTileWidth, SurveyBitpix, SurveyBscale, SurveyBzero, SurveyBlank, SurveyVersion, SurveyRule}
 use Rattle.survey_conf.proofs.NumberLemmas.{both}
 use Rattle.survey_conf.proofs.DistinctLemmas.{distinct-extras}
-use Rattle.survey_conf.proofs.KeptLemmas.{Kept, is_kept, kept-lines}
-use Rattle.survey_conf.proofs.TogetherLemmas.{is_complete, read_as-passes, bits-known, blank-number}
+use Rattle.survey_conf.proofs.WellFormedLemmas.{WellFormed, is_well_formed, kept-lines}
+use Rattle.survey_conf.proofs.DepthLemmas.{is_complete, read_as-passes, bits-known, blank-number}
 
 -- a value that is there is of its form
-found-written : (key : List ℕ) (es : Entries) → list_all is_kept es ≡ true → IfSome (lookup (bytes_eq key) es) (λ s. is_written_value s.value ≡ true)
+found-written : (key : List ℕ) (es : Entries) → list_all is_well_formed es ≡ true → IfSome (lookup (bytes_eq key) es) (λ s. is_written_value s.value ≡ true)
 found-written key [] e = tt
 found-written key (x ∷ es) e =
-    let parts = both (is_kept x) (list_all is_kept es) e in
+    let parts = both (is_well_formed x) (list_all is_well_formed es) e in
     by (bytes_eq key x.0) (both (is_key x.0) (is_written_value x.1.value) parts.0).1 (found-written key es parts.1)
   where
     by : (b : Bool) → is_written_value x.1.value ≡ true → IfSome (lookup (bytes_eq key) es) (λ s. is_written_value s.value ≡ true)
@@ -42,7 +42,7 @@ found-written key (x ∷ es) e =
     by true here rest = here
     by false here rest = rest
 
-text-written : (es : Entries) (key : Key) → list_all is_kept es ≡ true → is_there es (name key) ≡ true → is_written_value (unwrap_or (value_of es key) []) ≡ true
+text-written : (es : Entries) (key : Key) → list_all is_well_formed es ≡ true → is_there es (name key) ≡ true → is_written_value (unwrap_or (value_of es key) []) ≡ true
 text-written es key e there = by (setting es (name key)) (found-written (name key) es e) there
   where
     by : (o : Option Setting) → IfSome o (λ s. is_written_value s.value ≡ true) → is_some o ≡ true → is_written_value (unwrap_or (option_map (λ s. s.value) o) []) ≡ true
@@ -76,7 +76,7 @@ found p a (suc n) = by (p a) (found p (a + 1) n)
     by false h = wider (find p (range_with_len (a + 1) n)) h
 
 -- what the lines together have where they have no fault
-pub record Together (es : Entries) : Type 0 where
+pub record FitTogether (es : Entries) : Type 0 where
   pub complete : is_complete es ≡ true
   pub blank : is_blank_of_depth es ≡ true
   pub rule : has_stray_rule es ≡ false
@@ -87,7 +87,7 @@ three true true true x y z e = absurd cc
 three true false c x y z e = absurd cc
 three false b c x y z e = absurd cc
 
-pub together : (es : Entries) → fault_together es ≡ None → Together es
+pub together : (es : Entries) → fault_together es ≡ None → FitTogether es
 unfolding fault_together
 together es e =
     let parts = three (is_complete es) (is_blank_of_depth es) (has_stray_rule es) _ _ _ e in
@@ -175,10 +175,10 @@ rule-read es none first = by (setting es (name SurveyRule)) (absent (is_there es
     by (Some s) h = absurd cc
 
 -- the extra keys are of their form
-extras-written : (es : Entries) → list_all is_kept es ≡ true → list_all is_extra (extras_of es) ≡ true
+extras-written : (es : Entries) → list_all is_well_formed es ≡ true → list_all is_extra (extras_of es) ≡ true
 extras-written [] e = refl
 extras-written (x ∷ es) e =
-    let parts = both (is_kept x) (list_all is_kept es) e in
+    let parts = both (is_well_formed x) (list_all is_well_formed es) e in
     let here = both (is_key x.0) (is_written_value x.1.value) parts.0 in
     by (is_extra_key x.0) refl here.0 here.1 (extras-written es parts.1)
   where
@@ -188,7 +188,7 @@ extras-written (x ∷ es) e =
     by false extra key value rest = rest
 
 -- what the lines describe is a description
-pub described : (es : Entries) → Kept es → fault_together es ≡ None → IsNormal (read_as scale one es SurveyBscale) → IsNormal (read_as real nought es SurveyBzero) → IsDescription (description es)
+pub described : (es : Entries) → WellFormed es → fault_together es ≡ None → IsNormal (read_as scale one es SurveyBscale) → IsNormal (read_as real nought es SurveyBzero) → IsDescription (description es)
 unfolding description
 described es kept none bscale bzero =
     let t = together es none in
@@ -251,7 +251,7 @@ read_as-normal f default es key reads d = by (value_of es key)
 -- lines without a fault give a description
 pub described-lines : ReadIsNormal → (contents : List (List ℕ)) (said : Entries) → said ≡ entries contents → first_fault contents ≡ None → fault_together said ≡ None → IsDescription (description said)
 described-lines normal contents said is none together =
-    described said (subst Kept (sym is) (kept-lines contents none)) together
+    described said (subst WellFormed (sym is) (kept-lines contents none)) together
     (read_as-normal scale one said SurveyBscale (scale-normal normal) one-normal)
     (read_as-normal real nought said SurveyBzero (real-normal normal) nought-normal)
 

@@ -13,10 +13,10 @@ pub mod LineLemmas
 pub mod NumberLemmas
 pub mod EntryLemmas
 pub mod ScanLemmas
-pub mod TogetherLemmas
+pub mod DepthLemmas
 pub mod DistinctLemmas
 pub mod ExtraLemmas
 pub mod TrimLemmas
-pub mod KeptLemmas
+pub mod WellFormedLemmas
 pub mod DescribedLemmas
 pub mod RealLemmas

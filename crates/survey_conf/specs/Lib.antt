@@ -2,9 +2,10 @@ pub mod Lines
 pub mod Numbers
 pub mod Keys
 pub mod Entries
-pub mod Seen
+pub mod EntriesView
 pub mod Faults
+pub mod FaultTexts
 pub mod Description
-pub mod SeenConf
+pub mod ConfView
 pub mod Properties
 pub mod Laws

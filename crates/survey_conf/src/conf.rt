@@ -1,11 +1,12 @@
+//! The description of a survey.
 ghost use Rattle.std.specs.Prelude.{◌≡◌, ℕ, List, IfOk, IfErr, OnOk, None, slice_get};
 ghost use Rattle.std.specs.Option.{option_copied, option_map};
 
+use crate::depth::depth_of;
 use crate::describe::describe;
 use crate::entries::read_lines;
 use crate::fault::ConfRefusal;
 use crate::key::Key;
-use crate::together::depth;
 use decimal_scale::Decimal;
 use decimal_scale::laws::read_is_normal;
 use indexmap::IndexMap;
@@ -29,13 +30,13 @@ pub struct Conf {
 
 impl Model for Conf {
     ghost use Rattle.survey_conf.specs.Description.{Description, IsDescription};
-    ghost use Rattle.survey_conf.specs.SeenConf.{conf_seen};
+    ghost use Rattle.survey_conf.specs.ConfView.{conf_view};
 
     ghost Value = { Description };
 
-    ghost view = { conf_seen };
+    ghost view = { conf_view };
 
-    ghost invariant = { λ c. IsDescription (conf_seen c) };
+    ghost invariant = { λ c. IsDescription (conf_view c) };
 }
 
 impl Conf {
@@ -58,7 +59,7 @@ impl Conf {
             Ok(entries) => entries,
             Err(refusal) => return Err(refusal),
         };
-        let depth = match depth(&entries) {
+        let depth = match depth_of(&entries) {
             Ok(depth) => depth,
             Err(fault) => return Err(ConfRefusal::Fault(fault)),
         };

@@ -3,20 +3,15 @@ ghost use Rattle.std.specs.Prelude.{◌≡◌, [], ◌∷◌, ◌++◌, true, No
 ghost use Rattle.std.specs.Map.{keys_of, lookup};
 ghost use Rattle.std.specs.Option.{unwrap_or};
 ghost use Rattle.std.specs.Str.{bytes_eq};
-ghost use Rattle.survey_conf.specs.Entries.{value_of as spec_value_of, read_as};
-ghost use Rattle.survey_conf.specs.Numbers.{order as spec_order, lowest_order as spec_lowest_order, width_exponent as spec_width_exponent, scale as spec_scale, real as spec_real};
-ghost use Rattle.survey_conf.specs.Description.{description, extras_of, one as spec_one, nought as spec_nought, are_distinct, IsDescription};
-ghost use Rattle.survey_conf.specs.Seen.{seen};
-ghost use Rattle.survey_conf.specs.SeenConf.{seen_extras};
-ghost use Rattle.survey_conf.specs.declared.key.Key.TheVariants.{HipsOrder, HipsOrderMin, HipsTileWidth, SurveyBscale, SurveyBzero};
+ghost use Rattle.survey_conf.specs.Entries;
+ghost use Rattle.survey_conf.specs.Description.{description, extras_of, are_distinct, IsDescription};
+ghost use Rattle.survey_conf.specs.EntriesView.{entries_view};
+ghost use Rattle.survey_conf.specs.ConfView.{extras_view};
 
 use crate::conf::Conf;
 use crate::entries::{Entries, value_of};
 use crate::key::{Key, is_extra_key};
-use crate::number::{lowest_order, order, width_exponent};
-use crate::real::{nought, one, real, scale};
-use crate::together::version_of;
-use decimal_scale::Decimal;
+use crate::values;
 use indexmap::IndexMap;
 use parent_rule::Depth;
 use pyramid_model::Shape;
@@ -28,9 +23,9 @@ pub(crate) fn describe(
     entries: &Entries<'_>,
     depth: Depth,
 ) -> Result<Conf, AllocError>
-    requires kept { IsDescription (description (seen entries.now.entries)) }
-    requires depth { depth ≡ (description (seen entries.now.entries)).shape.depth }
-    ensures { IfOk result (λ conf. conf ≡ description (seen entries.now.entries)) }
+    requires kept { IsDescription (description (entries_view entries.now.entries)) }
+    requires depth { depth ≡ (description (entries_view entries.now.entries)).shape.depth }
+    ensures { IfOk result (λ conf. conf ≡ description (entries_view entries.now.entries)) }
 {
     let creator_did = text(alloc, entries, Key::CreatorDid)?;
     let obs_title = text(alloc, entries, Key::ObsTitle)?;
@@ -43,77 +38,37 @@ pub(crate) fn describe(
         hips_release_date,
         hips_status,
         shape: shape(entries, depth),
-        bscale: bscale(entries),
-        bzero: bzero(entries),
-        version: version_of(entries),
+        bscale: values::scale(entries),
+        bzero: values::zero(entries),
+        version: values::version(entries),
         extras,
     })
 }
 
 // The shape with that depth.
 fn shape(entries: &Entries<'_>, depth: Depth) -> Shape
-    requires { depth ≡ (description (seen entries.now.entries)).shape.depth }
-    ensures { result ≡ (description (seen entries.now.entries)).shape }
+    requires { depth ≡ (description (entries_view entries.now.entries)).shape.depth }
+    ensures { result ≡ (description (entries_view entries.now.entries)).shape }
 {
     Shape {
-        top: top(entries),
-        low: low(entries),
-        n: exponent(entries),
+        top: values::order(entries),
+        low: values::lowest_order(entries),
+        n: values::width_exponent(entries),
         depth,
     }
 }
 
 // A copy of the value of a key, empty where it is not there.
 fn text(alloc: Global, entries: &Entries<'_>, key: Key) -> Result<Vec<u8>, AllocError>
-    ensures { IfOk result (λ text. text.items ≡ unwrap_or (spec_value_of (seen entries.now.entries) key) []) }
+    ensures { IfOk result (λ text. text.items ≡ unwrap_or (Entries.value_of (entries_view entries.now.entries) key) []) }
 {
     Vec::from_slice(alloc, value_of(entries, key).unwrap_or(&[]))
 }
 
-fn top(entries: &Entries<'_>) -> u8
-    ensures { result ≡ read_as spec_order 3 (seen entries.now.entries) HipsOrder }
-{
-    value_of(entries, Key::HipsOrder)
-        .and_then(order)
-        .unwrap_or(3)
-}
-
-fn low(entries: &Entries<'_>) -> u8
-    ensures { result ≡ read_as spec_lowest_order 3 (seen entries.now.entries) HipsOrderMin }
-{
-    value_of(entries, Key::HipsOrderMin)
-        .and_then(lowest_order)
-        .unwrap_or(3)
-}
-
-fn exponent(entries: &Entries<'_>) -> u8
-    ensures { result ≡ read_as spec_width_exponent 9 (seen entries.now.entries) HipsTileWidth }
-{
-    value_of(entries, Key::HipsTileWidth)
-        .and_then(width_exponent)
-        .unwrap_or(9)
-}
-
-fn bscale(entries: &Entries<'_>) -> Decimal
-    ensures { result ≡ read_as spec_scale spec_one (seen entries.now.entries) SurveyBscale }
-{
-    value_of(entries, Key::SurveyBscale)
-        .and_then(scale)
-        .unwrap_or(one())
-}
-
-fn bzero(entries: &Entries<'_>) -> Decimal
-    ensures { result ≡ read_as spec_real spec_nought (seen entries.now.entries) SurveyBzero }
-{
-    value_of(entries, Key::SurveyBzero)
-        .and_then(real)
-        .unwrap_or(nought())
-}
-
 // Copies of the extra keys and of their values.
 fn extras(alloc: Global, entries: &Entries<'_>) -> Result<IndexMap<Vec<u8>, Vec<u8>>, AllocError>
-    requires { are_distinct (keys_of (extras_of (seen entries.now.entries))) ≡ true }
-    ensures { IfOk result (λ extras. seen_extras extras.entries ≡ extras_of (seen entries.now.entries)) }
+    requires { are_distinct (keys_of (extras_of (entries_view entries.now.entries))) ≡ true }
+    ensures { IfOk result (λ extras. extras_view extras.entries ≡ extras_of (entries_view entries.now.entries)) }
 {
     let mut extras = IndexMap::new(alloc);
     for (key, setting) in entries.iter() {
@@ -134,8 +89,8 @@ fn add_extra(
     key: &[u8],
     value: &[u8],
 ) -> Result<(), AllocError>
-    requires { lookup (bytes_eq key.now) (seen_extras extras.old.entries) ≡ None }
-    ensures { OnOk result (seen_extras extras.new.entries ≡ seen_extras extras.old.entries ++ (key.now, value.now) ∷ []) }
+    requires { lookup (bytes_eq key.now) (extras_view extras.old.entries) ≡ None }
+    ensures { OnOk result (extras_view extras.new.entries ≡ extras_view extras.old.entries ++ (key.now, value.now) ∷ []) }
 {
     let key = Vec::from_slice(alloc, key)?;
     let value = Vec::from_slice(alloc, value)?;

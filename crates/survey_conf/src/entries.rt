@@ -2,11 +2,11 @@
 ghost use Rattle.std.specs.Prelude.{◌≡◌, ◌++◌, IfOk, OnOk, IfErr, None};
 ghost use Rattle.std.specs.Option.{option_copied, option_map, option_to_list};
 ghost use Rattle.survey_conf.specs.Lines.{contents};
-ghost use Rattle.survey_conf.specs.Entries.{entries as spec_entries, entry, value_of as spec_value_of, line_of as spec_line_of, is_there as spec_is_there, setting as spec_setting, Setting as SpecSetting};
+ghost use Rattle.survey_conf.specs.Entries;
 ghost use Rattle.survey_conf.specs.Keys.{name};
-ghost use Rattle.survey_conf.specs.Faults.{kind_after as spec_kind_after, kind_of_pair as spec_kind_of_pair, first_fault, at_line, IsRefusedBy};
+ghost use Rattle.survey_conf.specs.Faults;
 ghost use Rattle.survey_conf.specs.declared.fault.ConfRefusal.TheVariants.{Fault};
-ghost use Rattle.survey_conf.specs.Seen.{seen, seen_setting};
+ghost use Rattle.survey_conf.specs.EntriesView.{entries_view, setting_view};
 
 use crate::fault::{ConfFault, ConfKind, ConfRefusal};
 use crate::key::{Key, has_own_prefix};
@@ -26,9 +26,9 @@ pub(crate) type Entries<'a> = IndexMap<&'a [u8], Setting<'a>>;
 
 /// What the lines of a text say; the fault of the least line that has one.
 pub(crate) fn read_lines(alloc: Global, text: &[u8]) -> Result<Entries<'_>, ConfRefusal>
-    ensures read { IfOk result (λ entries. seen entries.entries ≡ spec_entries (contents text.now)) }
-    ensures accepted { OnOk result (first_fault (contents text.now) ≡ None) }
-    ensures refused { IfErr result (λ e. IsRefusedBy (first_fault (contents text.now)) e) }
+    ensures read { IfOk result (λ entries. entries_view entries.entries ≡ Entries.entries (contents text.now)) }
+    ensures accepted { OnOk result (Faults.first_fault (contents text.now) ≡ None) }
+    ensures refused { IfErr result (λ e. Faults.IsRefusedBy (Faults.first_fault (contents text.now)) e) }
 {
     let mut entries = IndexMap::new(alloc);
     let mut rest = text;
@@ -46,10 +46,10 @@ pub(crate) fn read_lines(alloc: Global, text: &[u8]) -> Result<Entries<'_>, Conf
 
 // Adds what a line says.
 fn add_line<'a>(entries: &mut Entries<'a>, line: u64, written: &'a [u8]) -> Result<(), ConfRefusal>
-    ensures added { OnOk result (seen entries.new.entries
-        ≡ seen entries.old.entries ++ option_to_list (entry (line, written.now))) }
-    ensures accepted { OnOk result (spec_kind_after (seen entries.old.entries) written.now ≡ None) }
-    ensures refused { IfErr result (λ e. IsRefusedBy (at_line line (spec_kind_after (seen entries.old.entries) written.now)) e) }
+    ensures added { OnOk result (entries_view entries.new.entries
+        ≡ entries_view entries.old.entries ++ option_to_list (Entries.entry (line, written.now))) }
+    ensures accepted { OnOk result (Faults.kind_after (entries_view entries.old.entries) written.now ≡ None) }
+    ensures refused { IfErr result (λ e. Faults.IsRefusedBy (Faults.at_line line (Faults.kind_after (entries_view entries.old.entries) written.now)) e) }
 {
     if is_skipped(written) {
         return Ok(());
@@ -74,7 +74,7 @@ fn at(line: u64, kind: ConfKind) -> ConfRefusal
 
 // The first kind of fault of a line with that key and value after other lines.
 fn kind_of_pair(entries: &Entries<'_>, key: &[u8], value: &[u8]) -> Option<ConfKind>
-    ensures { result ≡ spec_kind_of_pair (seen entries.now.entries) key.now value.now }
+    ensures { result ≡ Faults.kind_of_pair (entries_view entries.now.entries) key.now value.now }
 {
     let known = Key::of(key);
     if known.is_none() && has_own_prefix(key) {
@@ -91,14 +91,14 @@ fn kind_of_pair(entries: &Entries<'_>, key: &[u8], value: &[u8]) -> Option<ConfK
 
 // The value and the line of a key, where it is there.
 fn find<'a>(entries: &Entries<'a>, key: &[u8]) -> Option<Setting<'a>>
-    ensures { option_map {U = SpecSetting} seen_setting result ≡ spec_setting (seen entries.now.entries) key.now }
+    ensures { option_map {U = Entries.Setting} setting_view result ≡ Entries.setting (entries_view entries.now.entries) key.now }
 {
     entries.get(key).copied()
 }
 
 /// The value of a known key, where it is there.
 pub(crate) fn value_of<'a>(entries: &Entries<'a>, key: Key) -> Option<&'a [u8]>
-    ensures { option_copied result ≡ spec_value_of (seen entries.now.entries) key }
+    ensures { option_copied result ≡ Entries.value_of (entries_view entries.now.entries) key }
 {
     match find(entries, key.name()) {
         Some(setting) => Some(setting.value),
@@ -108,7 +108,7 @@ pub(crate) fn value_of<'a>(entries: &Entries<'a>, key: Key) -> Option<&'a [u8]>
 
 /// The line of a known key, and 0 where it is not there.
 pub(crate) fn line_of(entries: &Entries<'_>, key: Key) -> u64
-    ensures { result ≡ spec_line_of (seen entries.now.entries) key }
+    ensures { result ≡ Entries.line_of (entries_view entries.now.entries) key }
 {
     match find(entries, key.name()) {
         Some(setting) => setting.line,
@@ -118,7 +118,7 @@ pub(crate) fn line_of(entries: &Entries<'_>, key: Key) -> u64
 
 /// Whether a known key is there.
 pub(crate) fn is_there(entries: &Entries<'_>, key: Key) -> bool
-    ensures { result ≡ spec_is_there (seen entries.now.entries) (name key) }
+    ensures { result ≡ Entries.is_there (entries_view entries.now.entries) (name key) }
 {
     find(entries, key.name()).is_some()
 }

@@ -1,7 +1,7 @@
 //! The keys of a description.
 ghost use Rattle.std.specs.Prelude.{◌≡◌, codes, nat_eq};
 ghost use Rattle.std.specs.List.{starts_with};
-ghost use Rattle.survey_conf.specs.Keys.{known_keys, name, takes, known, is_extra_key as spec_is_extra_key};
+ghost use Rattle.survey_conf.specs.Keys;
 
 use crate::number::{bitpix, combine, lowest_order, order, version, whole, width_exponent};
 use crate::real::{real, scale};
@@ -52,14 +52,14 @@ impl Key {
     /// The known key that is written so; `None` exactly where none is.
     #[tactic(auto, unfolding(crate::specs::Keys::known))]
     pub(crate) fn of(text: &[u8]) -> Option<Key>
-        ensures { result ≡ known text.now }
+        ensures { result ≡ Keys.known text.now }
     {
         KNOWN.iter().copied().find(|key| key.name() == text)
     }
 
     /// How the key is written.
     pub(crate) fn name(self) -> &'static [u8]
-        ensures { result.now ≡ name self }
+        ensures { result.now ≡ Keys.name self }
     {
         match self {
             Key::CreatorDid => b"creator_did",
@@ -84,7 +84,7 @@ impl Key {
 
     /// Whether the key takes the value; of the number of blank pixels only whether it is a whole number.
     pub(crate) fn takes(self, value: &[u8]) -> bool
-        ensures { result ≡ takes self value.now }
+        ensures { result ≡ Keys.takes self value.now }
     {
         match self {
             Key::CreatorDid | Key::ObsTitle | Key::HipsReleaseDate | Key::HipsStatus => true,
@@ -107,7 +107,7 @@ impl Key {
 
 /// Whether the key is neither known nor begins with this project's prefix.
 pub(crate) fn is_extra_key(key: &[u8]) -> bool
-    ensures { result ≡ spec_is_extra_key key.now }
+    ensures { result ≡ Keys.is_extra_key key.now }
 {
     Key::of(key).is_none() && !has_own_prefix(key)
 }

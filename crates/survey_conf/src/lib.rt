@@ -2,7 +2,9 @@
 //! (section 4.4.1).
 #![tactic(auto)]
 
+mod blanks;
 mod conf;
+mod depth;
 mod describe;
 mod entries;
 mod fault;
@@ -16,7 +18,7 @@ mod properties_tests;
 mod real;
 #[cfg(test)]
 mod tests;
-mod together;
+mod values;
 
 pub use conf::Conf;
 pub use fault::{ConfFault, ConfKind, ConfRefusal};

@@ -1,14 +1,17 @@
 //! The lines of a text, and what is written in one.
-ghost use Rattle.std.specs.Prelude.{◌≡◌, ℕ, ◌<◌, ◌&&◌, ◌==◌, nat_lt, position, List, ◌∷◌, reverse, length, Some, None, if◌then◌else◌};
-ghost use Rattle.std.specs.List.{take_while, list_all, list_any};
+ghost use Rattle.std.specs.Prelude.{◌≡◌, ℕ, ◌<◌, ◌&&◌, ◌==◌, nat_lt, position, List, ◌∷◌, length, Some, None, if◌then◌else◌};
+ghost use Rattle.std.specs.List.{list_all, list_any};
 ghost use Rattle.std.specs.Option.{option_map};
-ghost use Rattle.survey_conf.specs.Lines.{lines, is_blank as spec_is_blank, without_leading_blanks as spec_without_leading_blanks, without_trailing_blanks as spec_without_trailing_blanks, trimmed as spec_trimmed, content as spec_content, is_skipped as spec_is_skipped, key_in, value_in, is_equals, is_key_byte as spec_is_key_byte, is_key as spec_is_key, is_value_byte as spec_is_value_byte, is_value as spec_is_value, has_form};
+ghost use Rattle.survey_conf.specs.Lines;
+ghost use Rattle.survey_conf.specs.Lines.{lines, key_in, value_in, is_equals, has_form};
 
+use crate::blanks::trimmed;
 use memchr::memchr;
 
-/// The greatest number of bytes of a key, and of a value.
+// The greatest number of bytes of a key.
 const LONGEST_KEY: usize = 64;
 
+// The greatest number of bytes of a value.
 const LONGEST_VALUE: usize = 1024;
 
 /// The first line of a text that is not empty, and what follows its line feed.
@@ -26,7 +29,7 @@ pub(crate) fn first_line(text: &[u8]) -> (&[u8], &[u8])
 /// What is written in a line: the line without one carriage return at its end, trimmed.
 #[tactic(auto, unfolding(crate::specs::Lines::content))]
 pub(crate) fn content(line: &[u8]) -> &[u8]
-    ensures { result.now ≡ spec_content line.now }
+    ensures { result.now ≡ Lines.content line.now }
 {
     match line {
         [front @ .., b'\r'] => trimmed(front),
@@ -36,7 +39,7 @@ pub(crate) fn content(line: &[u8]) -> &[u8]
 
 /// Whether what is written is skipped: nothing, or a comment.
 pub(crate) fn is_skipped(written: &[u8]) -> bool
-    ensures { result ≡ spec_is_skipped written.now }
+    ensures { result ≡ Lines.is_skipped written.now }
 {
     match written {
         [] => true,
@@ -73,53 +76,9 @@ fn place_of(byte: u8, bytes: &[u8]) -> Option<usize>
     memchr(byte, bytes)
 }
 
-// The bytes without the spaces and tabs at both ends.
-#[tactic(auto, unfolding(crate::specs::Lines::trimmed))]
-fn trimmed(bytes: &[u8]) -> &[u8]
-    ensures { result.now ≡ spec_trimmed bytes.now }
-{
-    without_trailing_blanks(without_leading_blanks(bytes))
-}
-
-fn without_leading_blanks(bytes: &[u8]) -> &[u8]
-    ensures { result.now ≡ spec_without_leading_blanks bytes.now }
-{
-    &bytes[leading_blanks(bytes)..]
-}
-
-fn without_trailing_blanks(bytes: &[u8]) -> &[u8]
-    ensures { result.now ≡ spec_without_trailing_blanks bytes.now }
-{
-    &bytes[..bytes.len() - trailing_blanks(bytes)]
-}
-
-// How many spaces and tabs stand before any other byte.
-fn leading_blanks(bytes: &[u8]) -> usize
-    ensures { result ≡ length (take_while spec_is_blank bytes.now) }
-{
-    bytes.iter().take_while(|byte| is_blank(**byte)).count()
-}
-
-// How many stand after any other byte.
-fn trailing_blanks(bytes: &[u8]) -> usize
-    ensures { result ≡ length (take_while spec_is_blank (reverse bytes.now)) }
-{
-    bytes
-        .iter()
-        .rev()
-        .take_while(|byte| is_blank(**byte))
-        .count()
-}
-
-fn is_blank(byte: u8) -> bool
-    ensures { result ≡ spec_is_blank byte }
-{
-    byte == b' ' || byte == b'\t'
-}
-
 #[tactic(auto, unfolding(crate::specs::Lines::is_key))]
 fn is_key(bytes: &[u8]) -> bool
-    ensures { result ≡ spec_is_key bytes.now }
+    ensures { result ≡ Lines.is_key bytes.now }
 {
     match bytes {
         [] => false,
@@ -129,39 +88,39 @@ fn is_key(bytes: &[u8]) -> bool
 
 // Whether the bytes may stand after the first letter of a key.
 fn ends_key(bytes: &[u8]) -> bool
-    ensures { result ≡ (list_all spec_is_key_byte bytes.now && nat_lt (length bytes.now) 64) }
+    ensures { result ≡ (list_all Lines.is_key_byte bytes.now && nat_lt (length bytes.now) 64) }
 {
     are_key_bytes(bytes) && bytes.len() < LONGEST_KEY
 }
 
 fn are_key_bytes(bytes: &[u8]) -> bool
-    ensures { result ≡ list_all spec_is_key_byte bytes.now }
+    ensures { result ≡ list_all Lines.is_key_byte bytes.now }
 {
     bytes.iter().all(|byte| is_key_byte(*byte))
 }
 
 fn is_key_byte(byte: u8) -> bool
-    ensures { result ≡ spec_is_key_byte byte }
+    ensures { result ≡ Lines.is_key_byte byte }
 {
     matches!(byte, b'a'..=b'z' | b'0'..=b'9' | b'_')
 }
 
 #[tactic(auto, unfolding(crate::specs::Lines::is_value))]
 fn is_value(bytes: &[u8]) -> bool
-    ensures { result ≡ spec_is_value bytes.now }
+    ensures { result ≡ Lines.is_value bytes.now }
 {
     !bytes.is_empty() && bytes.len() <= LONGEST_VALUE && are_value_bytes(bytes)
 }
 
 fn are_value_bytes(bytes: &[u8]) -> bool
-    ensures { result ≡ list_all spec_is_value_byte bytes.now }
+    ensures { result ≡ list_all Lines.is_value_byte bytes.now }
 {
     bytes.iter().all(|byte| is_value_byte(*byte))
 }
 
 // Whether the byte is no control character of ASCII.
 fn is_value_byte(byte: u8) -> bool
-    ensures { result ≡ spec_is_value_byte byte }
+    ensures { result ≡ Lines.is_value_byte byte }
 {
     byte >= b' ' && byte != 0x7f
 }

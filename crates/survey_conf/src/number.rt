@@ -3,17 +3,17 @@ ghost use Rattle.std.specs.Prelude.{◌≡◌};
 ghost use Rattle.std.specs.List.{list_all};
 ghost use Rattle.std.specs.Str.Parse.{without_leading_sign};
 ghost use Rattle.survey_conf.specs.Lines.{is_digit};
-ghost use Rattle.survey_conf.specs.Numbers.{is_whole as spec_is_whole, whole as spec_whole, natural as spec_natural, order as spec_order, lowest_order as spec_lowest_order, bitpix as spec_bitpix, version as spec_version, width_exponent as spec_width_exponent, combine as spec_combine};
+ghost use Rattle.survey_conf.specs.Numbers;
 
 use parent_rule::Combine;
 
-/// The greatest number of digits.
+// The greatest number of digits.
 const MOST_DIGITS: usize = 19;
 
 /// The whole number that the value spells, with or without a sign and with 1 to 19 digits; `None` exactly where it spells
 /// none of 64 bits.
 pub(crate) fn whole(value: &[u8]) -> Option<i64>
-    ensures { result ≡ spec_whole value.now }
+    ensures { result ≡ Numbers.whole value.now }
 {
     if !is_whole(value) {
         return None;
@@ -26,7 +26,7 @@ pub(crate) fn whole(value: &[u8]) -> Option<i64>
 
 // Whether the value is an optional sign and digits, not too many.
 fn is_whole(value: &[u8]) -> bool
-    ensures { result ≡ spec_is_whole value.now }
+    ensures { result ≡ Numbers.is_whole value.now }
 {
     let digits = without_sign(value);
     !digits.is_empty() && digits.len() <= MOST_DIGITS && are_digits(digits)
@@ -49,14 +49,14 @@ fn are_digits(bytes: &[u8]) -> bool
 
 #[tactic(auto, unfolding(crate::specs::Numbers::natural))]
 fn natural(value: &[u8]) -> Option<u64>
-    ensures { result ≡ spec_natural value.now }
+    ensures { result ≡ Numbers.natural value.now }
 {
     u64::try_from(whole(value)?).ok()
 }
 
 /// The order of the leaf tiles.
 pub(crate) fn order(value: &[u8]) -> Option<u8>
-    ensures { result ≡ spec_order value.now }
+    ensures { result ≡ Numbers.order value.now }
 {
     match natural(value)? {
         n @ 3..=11 => Some(n as u8),
@@ -66,7 +66,7 @@ pub(crate) fn order(value: &[u8]) -> Option<u8>
 
 /// The lowest order of a tile.
 pub(crate) fn lowest_order(value: &[u8]) -> Option<u8>
-    ensures { result ≡ spec_lowest_order value.now }
+    ensures { result ≡ Numbers.lowest_order value.now }
 {
     match natural(value)? {
         n @ 0..=3 => Some(n as u8),
@@ -76,7 +76,7 @@ pub(crate) fn lowest_order(value: &[u8]) -> Option<u8>
 
 /// The `n` of tiles that are `2^n` wide.
 pub(crate) fn width_exponent(value: &[u8]) -> Option<u8>
-    ensures { result ≡ spec_width_exponent value.now }
+    ensures { result ≡ Numbers.width_exponent value.now }
 {
     match natural(value)? {
         2 => Some(1),
@@ -94,7 +94,7 @@ pub(crate) fn width_exponent(value: &[u8]) -> Option<u8>
 
 /// The width of a stored number in bits.
 pub(crate) fn bitpix(value: &[u8]) -> Option<u8>
-    ensures { result ≡ spec_bitpix value.now }
+    ensures { result ≡ Numbers.bitpix value.now }
 {
     match natural(value)? {
         n @ (8 | 16 | 32 | 64) => Some(n as u8),
@@ -104,7 +104,7 @@ pub(crate) fn bitpix(value: &[u8]) -> Option<u8>
 
 /// The version of a description.
 pub(crate) fn version(value: &[u8]) -> Option<u8>
-    ensures { result ≡ spec_version value.now }
+    ensures { result ≡ Numbers.version value.now }
 {
     match natural(value)? {
         n @ 1..=2 => Some(n as u8),
@@ -114,7 +114,7 @@ pub(crate) fn version(value: &[u8]) -> Option<u8>
 
 /// The way to combine the numbers of four pixels.
 pub(crate) fn combine(value: &[u8]) -> Option<Combine>
-    ensures { result ≡ spec_combine value.now }
+    ensures { result ≡ Numbers.combine value.now }
 {
     if value == b"mean".as_slice() {
         return Some(Combine::Mean);

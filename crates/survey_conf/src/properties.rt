@@ -4,8 +4,9 @@ ghost use Rattle.std.specs.List.{flat_map};
 ghost use Rattle.decimal_scale.specs.Real.{real_text};
 ghost use Rattle.survey_conf.specs.Keys.{name};
 ghost use Rattle.survey_conf.specs.declared.key.Key.TheVariants.{HipsOrder, HipsOrderMin, HipsTileWidth, HipsTileFormat};
-ghost use Rattle.survey_conf.specs.Properties.{line, rule as spec_rule, hips_pairs, survey_pairs, version_pairs, properties_text};
-ghost use Rattle.survey_conf.specs.SeenConf.{seen_extras};
+ghost use Rattle.survey_conf.specs.Properties;
+ghost use Rattle.survey_conf.specs.Properties.{line, hips_pairs, survey_pairs, version_pairs, properties_text};
+ghost use Rattle.survey_conf.specs.ConfView.{extras_view};
 
 use crate::conf::Conf;
 use crate::key::Key;
@@ -51,7 +52,7 @@ fn push_hips_keys(text: &mut Vec<u8>, conf: &Conf) -> Result<(), AllocError>
     push_shape(text, conf.shape)
 }
 
-// The first four of them: whose survey it is, its title, what it shows and the version of HiPS.
+// The keys of whose survey it is, its title, what it shows and the version of HiPS.
 fn push_names(text: &mut Vec<u8>, conf: &Conf) -> Result<(), AllocError>
     ensures { OnOk result (text.new.items ≡ text.old.items ++ flat_map line (take 4 (hips_pairs conf.now))) }
 {
@@ -61,7 +62,7 @@ fn push_names(text: &mut Vec<u8>, conf: &Conf) -> Result<(), AllocError>
     push_key(text, Key::HipsVersion, b"1.4")
 }
 
-// The next three: when it was made, what may be done with it, and the frame.
+// The keys of when it was made, what may be done with it, and the frame.
 fn push_release(text: &mut Vec<u8>, conf: &Conf) -> Result<(), AllocError>
     ensures { OnOk result (text.new.items ≡ text.old.items ++ flat_map line (take 3 (drop 4 (hips_pairs conf.now)))) }
 {
@@ -70,7 +71,7 @@ fn push_release(text: &mut Vec<u8>, conf: &Conf) -> Result<(), AllocError>
     push_key(text, Key::HipsFrame, b"equatorial")
 }
 
-// And the last four, of the pyramid and its tiles.
+// The keys of the pyramid and its tiles.
 fn push_shape(text: &mut Vec<u8>, shape: Shape) -> Result<(), AllocError>
     ensures { OnOk result (text.new.items ≡ text.old.items ++ flat_map line (
         (name HipsOrder, decimal shape.top)
@@ -94,7 +95,7 @@ fn tile_width(shape: Shape) -> u64
 
 // The extra keys, in their order.
 fn push_extras(text: &mut Vec<u8>, extras: &IndexMap<Vec<u8>, Vec<u8>>) -> Result<(), AllocError>
-    ensures { OnOk result (text.new.items ≡ text.old.items ++ flat_map line (seen_extras extras.now.entries)) }
+    ensures { OnOk result (text.new.items ≡ text.old.items ++ flat_map line (extras_view extras.now.entries)) }
 {
     for (key, value) in extras.iter() {
         push_line(text, key, value)?;
@@ -130,7 +131,7 @@ fn push_version(text: &mut Vec<u8>, conf: &Conf) -> Result<(), AllocError>
 
 // How the way to combine is written.
 fn rule(combine: Combine) -> &'static [u8]
-    ensures { result.now ≡ spec_rule combine }
+    ensures { result.now ≡ Properties.rule combine }
 {
     match combine {
         Combine::Mean => b"mean",

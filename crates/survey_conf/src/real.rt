@@ -1,20 +1,20 @@
 //! The two real numbers of a description.
 ghost use Rattle.std.specs.Prelude.{◌≡◌};
-ghost use Rattle.survey_conf.specs.Numbers.{real as spec_real, scale as spec_scale};
-ghost use Rattle.survey_conf.specs.Description.{one as spec_one, nought as spec_nought};
+ghost use Rattle.survey_conf.specs.Numbers;
+ghost use Rattle.survey_conf.specs.Description.{one, nought};
 
 use decimal_scale::Decimal;
 
 /// The real number that the value spells.
 pub(crate) fn real(value: &[u8]) -> Option<Decimal>
-    ensures { result ≡ spec_real value.now }
+    ensures { result ≡ Numbers.real value.now }
 {
     Decimal::read(value).ok()
 }
 
-/// The same, where it is not 0.
+/// The real number that the value spells, where it is not 0.
 pub(crate) fn scale(value: &[u8]) -> Option<Decimal>
-    ensures { result ≡ spec_scale value.now }
+    ensures { result ≡ Numbers.scale value.now }
 {
     let number = real(value)?;
     if number.mantissa() != 0 {
@@ -25,21 +25,21 @@ pub(crate) fn scale(value: &[u8]) -> Option<Decimal>
 }
 
 /// The scale of a description that has none.
-pub(crate) fn one() -> Decimal
-    ensures { result ≡ spec_one }
+pub(crate) fn default_scale() -> Decimal
+    ensures { result ≡ one }
 {
     match Decimal::read(b"1") {
-        Ok(one) => one,
+        Ok(scale) => scale,
         Err(_) => unreachable!(),
     }
 }
 
 /// The zero of a description that has none.
-pub(crate) fn nought() -> Decimal
-    ensures { result ≡ spec_nought }
+pub(crate) fn default_zero() -> Decimal
+    ensures { result ≡ nought }
 {
     match Decimal::read(b"0") {
-        Ok(nought) => nought,
+        Ok(zero) => zero,
         Err(_) => unreachable!(),
     }
 }

@@ -1,6 +1,9 @@
+//! What descriptions answer, and the faults of wrong ones.
 use super::*;
-use parent_rule::{Combine, Depth};
-use std::alloc::Global;
+use itoa::Buffer;
+use parent_rule::Combine;
+use std::alloc::{AllocError, Global};
+use std::process::Abort;
 use std::test::Fail;
 
 // A description of eight lines.
@@ -15,8 +18,64 @@ const LINES: [&str; 8] = [
     "survey_blank = -32768",
 ];
 
-// Those lines with another one at place `at`, or after them.
-fn with_line(alloc: Global, at: usize, other: &str) -> Result<Vec<u8>, Fail> {
+// Another line in place of the one of `LINES` at a place from 0, or after them, and the line and the kind of the fault, or
+// `None` where the description is accepted.
+const OUTCOMES: [(usize, &str, Option<(u64, u8)>); 51] = [
+    (8, "no sign", Some((9, 1))),
+    (8, "survey_odd", Some((9, 1))),
+    (8, "Key = 1", Some((9, 1))),
+    (8, "1st = 1", Some((9, 1))),
+    (8, "a.b = 1", Some((9, 1))),
+    (8, " = 1", Some((9, 1))),
+    (8, "key = ", Some((9, 1))),
+    (8, "key = a\tb", Some((9, 1))),
+    (8, "key = a\x7fb", Some((9, 1))),
+    (8, "survey_versions = 1", Some((9, 2))),
+    (8, "survey_rule = median", Some((9, 2))),
+    (8, "hips_order = 12", Some((9, 3))),
+    (8, "creator_did = a", Some((9, 3))),
+    (8, "key = a\nkey = a", Some((10, 3))),
+    (4, "hips_order = 12", Some((5, 4))),
+    (4, "hips_order = 2", Some((5, 4))),
+    (5, "hips_tile_width = 3", Some((6, 4))),
+    (5, "hips_tile_width = 1024", Some((6, 4))),
+    (5, "hips_tile_width = 1", Some((6, 4))),
+    (6, "survey_bitpix = -32", Some((7, 4))),
+    (6, "survey_bitpix = 8", Some((8, 4))),
+    (7, "survey_blank = -32769", Some((8, 4))),
+    (7, "survey_blank = 9223372036854775808", Some((8, 4))),
+    (8, "hips_order_min = 4", Some((9, 4))),
+    (8, "hips_order_min = 00000000000000000003", Some((9, 4))),
+    (8, "survey_bscale = 0.0E9", Some((9, 4))),
+    (8, "survey_bzero = .", Some((9, 4))),
+    (8, "survey_version = 3", Some((9, 4))),
+    (8, "survey_rule = mode", Some((9, 4))),
+    (8, "dataproduct_type = cube", Some((9, 4))),
+    (8, "hips_version = 1.40", Some((9, 4))),
+    (8, "hips_frame = galactic", Some((9, 4))),
+    (8, "hips_tile_format = png", Some((9, 4))),
+    (0, "#", Some((0, 5))),
+    (1, "", Some((0, 5))),
+    (2, "", Some((0, 5))),
+    (3, "", Some((0, 5))),
+    (4, "", Some((0, 5))),
+    (6, "", Some((0, 5))),
+    (7, "", Some((0, 5))),
+    (4, "hips_order = 12\nhips_order_min = 9", Some((5, 4))),
+    (0, "# one\n\n\t# three\nhips_order = 12", Some((4, 4))),
+    (4, "hips_order = 04\r", None),
+    (5, "# the default width", None),
+    (8, "survey_version = +1", None),
+    (8, "hips_order_min = -0", None),
+    (8, "hips_order_min = 0000000000000000003", None),
+    (8, " \t# a comment", None),
+    (8, "\t \r", None),
+    (8, "\t key_1 \t=\t caf\u{e9}\t", None),
+    (8, "survey_version = 2\nsurvey_rule = mean", None),
+];
+
+// `LINES` with another one at place `at`, or after them.
+fn with_line(alloc: Global, at: usize, other: &str) -> Result<Vec<u8>, AllocError> {
     let mut text = Vec::new(alloc);
     for (i, line) in LINES.iter().enumerate() {
         let line = if i == at { other } else { *line };
@@ -29,117 +88,22 @@ fn with_line(alloc: Global, at: usize, other: &str) -> Result<Vec<u8>, Fail> {
     Ok(text)
 }
 
-// The fault of a text, as a line and a kind.
-fn fault(alloc: Global, text: &[u8]) -> Result<Option<(u64, u8)>, Fail> {
+// The fault of a text, as a line and the number of a kind.
+fn fault(alloc: Global, text: &[u8]) -> Result<Option<(u64, u8)>, ConfRefusal> {
     match Conf::read(alloc, text) {
         Ok(_conf) => Ok(None),
-        Err(ConfRefusal::Fault(fault)) => Ok(Some((fault.line, fault.kind as u8))),
-        Err(refusal) => Err(refusal)?,
+        Err(ConfRefusal::Fault(fault)) => Ok(Some((fault.line, fault.kind.number()))),
+        Err(refusal) => Err(refusal),
     }
-}
-
-#[test]
-fn reads_a_description(rt: HostRuntime) -> Result<(), Fail> {
-    let alloc = rt.alloc();
-    let text = with_line(
-        alloc,
-        8,
-        "survey_version = 2\r\nsurvey_rule = median\nzeta = 26 = z \nalpha=1",
-    )?;
-    let conf = Conf::read(alloc, &text)?;
-    let shape = conf.shape();
-    assert_eq!(rt; (shape.top, shape.low, shape.n), (4, 3, 1));
-    let depth = Depth::new(16, -32768).ok_or("a depth")?;
-    assert_eq!(rt; shape.depth, depth.with(Combine::Median));
-    assert_eq!(rt; (conf.bscale().mantissa(), conf.bscale().exp()), (1, 0));
-    assert_eq!(rt; (conf.bzero().mantissa(), conf.bzero().exp()), (0, 0));
-    let title: Option<&[u8]> = Some(b"Survey one");
-    assert_eq!(rt; conf.value(b"obs_title"), title);
-    let zeta: Option<&[u8]> = Some(b"26 = z");
-    assert_eq!(rt; conf.value(b"zeta"), zeta);
-    assert_eq!(rt; conf.value(b"hips_order"), None);
-    assert_eq!(rt; conf.value(b"beta"), None);
-    let first: Option<(&[u8], &[u8])> = Some((b"zeta", b"26 = z"));
-    assert_eq!(rt; conf.extra(0), first);
-    let second: Option<(&[u8], &[u8])> = Some((b"alpha", b"1"));
-    assert_eq!(rt; conf.extra(1), second);
-    assert_eq!(rt; conf.extra(2), None);
-    Ok(())
 }
 
 #[test]
 fn reports_the_first_fault(rt: HostRuntime) -> Result<(), Fail> {
     let alloc = rt.alloc();
-    for (at, other, line, kind) in [
-        (8, "no sign", 9, 1),
-        (8, "survey_odd", 9, 1),
-        (8, "Key = 1", 9, 1),
-        (8, "1st = 1", 9, 1),
-        (8, "a.b = 1", 9, 1),
-        (8, " = 1", 9, 1),
-        (8, "key = ", 9, 1),
-        (8, "key = a\tb", 9, 1),
-        (8, "key = a\x7fb", 9, 1),
-        (8, "survey_versions = 1", 9, 2),
-        (8, "survey_rule = median", 9, 2),
-        (8, "hips_order = 12", 9, 3),
-        (8, "creator_did = a", 9, 3),
-        (8, "key = a\nkey = a", 10, 3),
-        (4, "hips_order = 12", 5, 4),
-        (4, "hips_order = 2", 5, 4),
-        (5, "hips_tile_width = 3", 6, 4),
-        (5, "hips_tile_width = 1024", 6, 4),
-        (5, "hips_tile_width = 1", 6, 4),
-        (6, "survey_bitpix = -32", 7, 4),
-        (6, "survey_bitpix = 8", 8, 4),
-        (7, "survey_blank = -32769", 8, 4),
-        (7, "survey_blank = 9223372036854775808", 8, 4),
-        (8, "hips_order_min = 4", 9, 4),
-        (8, "hips_order_min = 00000000000000000003", 9, 4),
-        (8, "survey_bscale = 0.0E9", 9, 4),
-        (8, "survey_bzero = .", 9, 4),
-        (8, "survey_version = 3", 9, 4),
-        (8, "survey_rule = mode", 9, 4),
-        (8, "dataproduct_type = cube", 9, 4),
-        (8, "hips_version = 1.40", 9, 4),
-        (8, "hips_frame = galactic", 9, 4),
-        (8, "hips_tile_format = png", 9, 4),
-        (0, "#", 0, 5),
-        (1, "", 0, 5),
-        (2, "", 0, 5),
-        (3, "", 0, 5),
-        (4, "", 0, 5),
-        (6, "", 0, 5),
-        (7, "", 0, 5),
-        (4, "hips_order = 12\nhips_order_min = 9", 5, 4),
-        (0, "# one\n\n\t# three\nhips_order = 12", 4, 4),
-    ] {
+    for (at, other, found) in OUTCOMES {
         assert_eq!(rt;
             fault(alloc, &with_line(alloc, at, other)?)?,
-            Some((line, kind)),
-            "{other}"
-        );
-    }
-    Ok(())
-}
-
-#[test]
-fn accepts_other_spellings(rt: HostRuntime) -> Result<(), Fail> {
-    let alloc = rt.alloc();
-    for (at, other) in [
-        (4, "hips_order = 04\r"),
-        (5, "# the default width"),
-        (8, "survey_version = +1"),
-        (8, "hips_order_min = -0"),
-        (8, "hips_order_min = 0000000000000000003"),
-        (8, " \t# a comment"),
-        (8, "\t \r"),
-        (8, "\t key_1 \t=\t caf\u{e9}\t"),
-        (8, "survey_version = 2\nsurvey_rule = mean"),
-    ] {
-        assert_eq!(rt;
-            fault(alloc, &with_line(alloc, at, other)?)?,
-            None,
+            found,
             "{other}"
         );
     }
@@ -155,22 +119,92 @@ fn bounds_keys_and_values(rt: HostRuntime) -> Result<(), Fail> {
         (1, 1025, Some((9, 1))),
     ] {
         let mut text = with_line(alloc, 8, "")?;
-        text.extend_from_slice(vec![in alloc; b'k'; key]?.as_slice())?;
+        text.resize(text.len() + key, b'k')?;
         text.push(b'=')?;
-        text.extend_from_slice(vec![in alloc; 0xff; value]?.as_slice())?;
+        text.resize(text.len() + value, 0xff)?;
         assert_eq!(rt; fault(alloc, &text)?, found, "{key} {value}");
     }
     Ok(())
 }
 
 #[test]
-fn a_fault_is_shown_as_two_numbers(rt: HostRuntime) -> Result<(), Fail> {
-    let alloc = rt.alloc();
-    let fault = ConfFault {
+fn a_refusal_is_shown_as_two_numbers(rt: HostRuntime) -> Result<(), Fail> {
+    let refusal = ConfRefusal::Fault(ConfFault {
         line: 5,
         kind: ConfKind::Range,
-    };
-    assert_eq!(rt; fault.to_string(alloc)?.as_str(), "5 4");
-    assert_eq!(rt; ConfRefusal::Fault(fault).to_string(alloc)?.as_str(), "5 4");
+    });
+    assert_eq!(rt; refusal.to_string(rt.alloc())?.as_str(), "5 4");
+    Ok(())
+}
+
+// Two keys of HiPS, two extra keys, one key whose value is a number, and one that is not there.
+const ANSWERS: [(&str, Option<&str>); 6] = [
+    ("creator_did", Some("ivo://example/P/one")),
+    ("obs_title", Some("Survey one")),
+    ("zeta", Some("26 = z")),
+    ("alpha", Some("1")),
+    ("hips_order", None),
+    ("beta", None),
+];
+
+fn check_texts(rt: &impl Abort, conf: &Conf) {
+    for (key, value) in ANSWERS {
+        assert!(rt;
+            conf.value(key.as_bytes()) == value.map(|value| value.as_bytes()),
+            "{key}"
+        );
+    }
+    assert!(rt; conf.extra(0) == Some((b"zeta".as_slice(), b"26 = z".as_slice())));
+    assert!(rt; conf.extra(1) == Some((b"alpha".as_slice(), b"1".as_slice())));
+    assert!(rt; conf.extra(2).is_none());
+}
+
+fn check_numbers(rt: &impl Abort, conf: &Conf) {
+    let shape = conf.shape();
+    assert_eq!(rt; (shape.top, shape.low, shape.n), (4, 3, 1));
+    assert_eq!(rt; (shape.depth.bitpix(), shape.depth.blank()), (16, -32768));
+    assert_eq!(rt; shape.depth.combine(), Combine::Median);
+    assert_eq!(rt; (conf.bscale().mantissa(), conf.bscale().exp()), (1, 0));
+    assert_eq!(rt; (conf.bzero().mantissa(), conf.bzero().exp()), (0, 0));
+}
+
+#[test]
+fn answers_what_the_lines_say(rt: HostRuntime) -> Result<(), Fail> {
+    let more = "survey_version = 2\r\nsurvey_rule = median\nzeta = 26 = z \nalpha=1";
+    let conf = Conf::read(rt.alloc(), &with_line(rt.alloc(), 8, more)?)?;
+    check_texts(&rt, &conf);
+    check_numbers(&rt, &conf);
+    Ok(())
+}
+
+// How many extra keys a long description has.
+const MANY: u32 = 20_000;
+
+// `LINES`, and after them `MANY` extra keys, each with the greatest value.
+fn long_text(alloc: Global) -> Result<Vec<u8>, AllocError> {
+    let mut text = with_line(alloc, 8, "")?;
+    for i in 0..MANY {
+        text.extend_from_slice(b"key_")?;
+        text.extend_from_slice(Buffer::new().format(i).as_bytes())?;
+        text.push(b'=')?;
+        text.resize(text.len() + 1024, b'v')?;
+        text.push(b'\n')?;
+    }
+    Ok(text)
+}
+
+#[test]
+fn reads_a_long_description(rt: HostRuntime) -> Result<(), Fail> {
+    let conf = Conf::read(rt.alloc(), &long_text(rt.alloc())?)?;
+    for (key, length) in [
+        ("key_0", Some(1024)),
+        ("key_19999", Some(1024)),
+        ("key_20000", None),
+    ] {
+        let value = conf.value(key.as_bytes());
+        assert_eq!(rt; value.map(|value| value.len()), length, "{key}");
+    }
+    assert!(rt; conf.extra(19_999).is_some());
+    assert!(rt; conf.extra(20_000).is_none());
     Ok(())
 }

@@ -1,6 +1,6 @@
-use Rattle.survey_conf.specs.Seen.{seen}
+use Rattle.survey_conf.specs.EntriesView.{entries_view}
 use Rattle.survey_conf.proofs.DescribedLemmas.{shape-described}
 use Rattle.survey_conf.proofs.describe.shape.Goals as goal
 
 pub returns : goal.returns
-returns c = shape-described (seen c.args.entries.now.entries) c.top.result c.low.result c.exponent.result c.args.depth c.top.ensures c.low.ensures c.exponent.ensures c.requires
+returns c = shape-described (entries_view c.args.entries.now.entries) c.order.result c.lowest_order.result c.width_exponent.result c.args.depth c.order.ensures c.lowest_order.ensures c.width_exponent.ensures c.requires

@@ -4,11 +4,11 @@ use Rattle.std.specs.declared.alloc.Global.{Global}
 use Rattle.survey_conf.specs.Description.{Description}
 use Rattle.survey_conf.specs.declared.conf.Conf.TheInside.{Inside}
 
-abbrev pub seen_extras : List (Vec ℕ Global × Vec ℕ Global) → List (List ℕ × List ℕ)
-seen_extras es = map (λ e. (e.0.items, e.1.items)) es
+abbrev pub extras_view : List (Vec ℕ Global × Vec ℕ Global) → List (List ℕ × List ℕ)
+extras_view es = map (λ e. (e.0.items, e.1.items)) es
 
-abbrev pub conf_seen : Inside → Description
-conf_seen c = record {
+abbrev pub conf_view : Inside → Description
+conf_view c = record {
   creator_did = c.creator_did.items;
   obs_title = c.obs_title.items;
   hips_release_date = c.hips_release_date.items;
@@ -17,5 +17,5 @@ conf_seen c = record {
   bscale = c.bscale;
   bzero = c.bzero;
   version = c.version;
-  extras = seen_extras c.extras.entries;
+  extras = extras_view c.extras.entries;
 }

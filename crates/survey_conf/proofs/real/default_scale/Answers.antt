@@ -1,6 +1,6 @@
 use Rattle.std.proofs.Common.{◌∙◌}
 use Rattle.survey_conf.proofs.RealLemmas.{read-one, same-ok, never-err}
-use Rattle.survey_conf.proofs.real.one.Goals as goal
+use Rattle.survey_conf.proofs.real.default_scale.Goals as goal
 
 pub unreachable-requires : goal.unreachable-requires
 unreachable-requires c = never-err _ _ _ (c.read.ensures ∙ read-one) c.in-Err.is

@@ -4,8 +4,8 @@ use denote.Ref.{Bor}
 use Rattle.survey_conf.specs.Entries.{Entries, Setting}
 use Rattle.survey_conf.specs.declared.entries.Setting.{Setting as Slices}
 
-abbrev pub seen_setting : Slices → Setting
-seen_setting s = record { line = s.line; value = s.value.now }
+abbrev pub setting_view : Slices → Setting
+setting_view s = record { line = s.line; value = s.value.now }
 
-abbrev pub seen : List (Bor (List ℕ) × Slices) → Entries
-seen es = map (λ e. (e.0.now, seen_setting e.1)) es
+abbrev pub entries_view : List (Bor (List ℕ) × Slices) → Entries
+entries_view es = map (λ e. (e.0.now, setting_view e.1)) es

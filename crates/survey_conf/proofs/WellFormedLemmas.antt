@@ -20,11 +20,11 @@ use Rattle.survey_conf.proofs.ScanLemmas.{entries-append}
 use Rattle.survey_conf.proofs.TrimLemmas.{trimmed-trimmed}
 
 -- a key and a value of their form
-abbrev pub is_kept : List ℕ × Setting → Bool
-is_kept e = is_key e.0 && is_written_value e.1.value
+abbrev pub is_well_formed : List ℕ × Setting → Bool
+is_well_formed e = is_key e.0 && is_written_value e.1.value
 
-pub record Kept (es : Entries) : Type 0 where
-  pub form : list_all is_kept es ≡ true
+pub record WellFormed (es : Entries) : Type 0 where
+  pub form : list_all is_well_formed es ≡ true
   pub distinct : are_distinct (keys_of es) ≡ true
 
 all-push : {X : Type 0} (p : X → Bool) (xs : List X) (x : X) → list_all p xs ≡ true → p x ≡ true → list_all p (xs ++ x ∷ []) ≡ true
@@ -40,7 +40,7 @@ absent es key value = by (is_unknown key) (lookup (bytes_eq key) es)
     by false None none = refl
     by false (Some s) none = absurd cc
 
-form-kept : (written : List ℕ) (line : ℕ) → has_form written ≡ true → is_kept (key_in written, record { line = line; value = value_in written }) ≡ true
+form-kept : (written : List ℕ) (line : ℕ) → has_form written ≡ true → is_well_formed (key_in written, record { line = line; value = value_in written }) ≡ true
 form-kept written line e =
     let outer = both (list_any is_equals written && is_key (key_in written)) (is_value (value_in written)) e in
     let inner = both (list_any is_equals written) (is_key (key_in written)) outer.0 in
@@ -49,19 +49,19 @@ form-kept written line e =
     rw (inner.1, outer.1, same) refl
 
 -- a line without a fault keeps it
-pub kept-more : (es : Entries) (line : ℕ) (written : List ℕ) → Kept es → kind_after es written ≡ None → Kept (es ++ option_to_list (entry (line, written)))
+pub kept-more : (es : Entries) (line : ℕ) (written : List ℕ) → WellFormed es → kind_after es written ≡ None → WellFormed (es ++ option_to_list (entry (line, written)))
 unfolding kind_after
 kept-more es line written kept = by (is_skipped written) (has_form written) refl
   where
-    add : kind_of_pair es (key_in written) (value_in written) ≡ None → has_form written ≡ true → Kept (es ++ (key_in written, record { line = line; value = value_in written }) ∷ [])
+    add : kind_of_pair es (key_in written) (value_in written) ≡ None → has_form written ≡ true → WellFormed (es ++ (key_in written, record { line = line; value = value_in written }) ∷ [])
     add none form = record {
-      form = all-push is_kept es _ kept.form (form-kept written line form);
+      form = all-push is_well_formed es _ kept.form (form-kept written line form);
       distinct = distinct-push es (key_in written) _ kept.distinct (absent es (key_in written) (value_in written) none);
     }
 
     by : (skipped form : Bool) → has_form written ≡ form → cond skipped None (cond (not form) (Some Syntax) (kind_of_pair es (key_in written) (value_in written))) ≡ None
-        → Kept (es ++ option_to_list (cond skipped None (Some (key_in written, record { line = line; value = value_in written }))))
-    by true form is none = subst Kept (sym (append-nil es)) kept
+        → WellFormed (es ++ option_to_list (cond skipped None (Some (key_in written, record { line = line; value = value_in written }))))
+    by true form is none = subst WellFormed (sym (append-nil es)) kept
     by false true is none = add none is
     by false false is none = absurd cc
 
@@ -69,15 +69,15 @@ at_line-none : (line : ℕ) (kind : Option ConfKind) → at_line line kind ≡ N
 at_line-none line None e = refl
 at_line-none line (Some k) e = absurd cc
 
-kept-take : (contents : List (List ℕ)) (n : ℕ) → n ≤ length contents → ((k : ℕ) → k < n → fault_at contents k ≡ None) → Kept (entries (take n contents))
+kept-take : (contents : List (List ℕ)) (n : ℕ) → n ≤ length contents → ((k : ℕ) → k < n → fault_at contents k ≡ None) → WellFormed (entries (take n contents))
 unfolding entries
 kept-take contents zero within clean = record { form = refl; distinct = refl }
 kept-take contents (suc n) within clean =
     let written : List ℕ = get_or contents n [] in
     let longer : take (suc n) contents ≡ take n contents ++ written ∷ [] = ap (λ m. take m contents) (sym (add-one n)) ∙ take_more contents n [] (omega arith) in
-    let before : Kept (entries (take n contents)) = kept-take contents n (omega arith) (λ k below. clean k (omega arith)) in
+    let before : WellFormed (entries (take n contents)) = kept-take contents n (omega arith) (λ k below. clean k (omega arith)) in
     let count : length (take n contents) + 1 ≡ n + 1 = ap (λ m. m + 1) (length-take-le n contents (omega arith)) in
-    subst Kept (sym (entries-append (take n contents) written (n + 1) count) ∙ ap entries (sym longer))
+    subst WellFormed (sym (entries-append (take n contents) written (n + 1) count) ∙ ap entries (sym longer))
     (kept-more (entries (take n contents)) (n + 1) written before (at_line-none (n + 1) _ (clean n (omega arith))))
 
 none_each : {X : Type 0} (f : ℕ → Option X) (a n : ℕ) → slice_get (filter_map f (range_with_len a n)) 0 ≡ None → (k : ℕ) → k < n → f (a + k) ≡ None
@@ -90,7 +90,7 @@ none_each {X} f a (suc n) e k below = by (f a) refl (λ later. none_each f (a + 
     by None here rest later (suc k) below = ap f (omega arith) ∙ rest later k (omega arith)
     by (Some x) here rest later k below = absurd cc
 
-pub kept-lines : (contents : List (List ℕ)) → first_fault contents ≡ None → Kept (entries contents)
+pub kept-lines : (contents : List (List ℕ)) → first_fault contents ≡ None → WellFormed (entries contents)
 kept-lines contents none =
-    subst (λ cs. Kept (entries cs)) (take_all (length contents) contents (omega arith))
+    subst (λ cs. WellFormed (entries cs)) (take_all (length contents) contents (omega arith))
     (kept-take contents (length contents) (omega arith) (λ k below. ap (fault_at contents) (omega arith) ∙ none_each (fault_at contents) 0 (length contents) none k below))

@@ -1,6 +1,6 @@
 use Rattle.std.proofs.Common.{◌∙◌}
 use Rattle.survey_conf.proofs.RealLemmas.{read-nought, same-ok, never-err}
-use Rattle.survey_conf.proofs.real.nought.Goals as goal
+use Rattle.survey_conf.proofs.real.default_zero.Goals as goal
 
 pub unreachable-requires : goal.unreachable-requires
 unreachable-requires c = never-err _ _ _ (c.read.ensures ∙ read-nought) c.in-Err.is
