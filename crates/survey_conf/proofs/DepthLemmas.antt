@@ -13,7 +13,7 @@ use Rattle.survey_conf.specs.Keys.{name, required_keys}
 use Rattle.survey_conf.specs.Entries.{Entries, is_there, line_of, read_as, value_of}
 use Rattle.survey_conf.specs.Faults.{fault_together, is_blank_of_depth, has_stray_rule}
 use Rattle.survey_conf.proofs.LineLemmas.{not_true}
-use Rattle.survey_conf.proofs.NumberLemmas.{both}
+use Rattle.std.proofs.lemmas.Bool.{and_parts}
 use Rattle.survey_conf.specs.declared.fault.ConfKind.TheVariants.{Missing, Range, Unknown}
 use Rattle.survey_conf.specs.declared.key.Key.{Key}
 use Rattle.survey_conf.specs.declared.key.Key.TheVariants.{SurveyBitpix, SurveyBlank, SurveyRule}
@@ -49,7 +49,7 @@ natural_that-passes test value = by (natural value)
     by None = tt
     by (Some n) = at n (test n) refl
 
--- and so does its default
+-- what is read of a key passes a test that what is read of texts and the default pass
 pub read_as-passes : (test : ℕ → Bool) (default : ℕ) (es : Entries) (key : Key) → test default ≡ true → test (read_as (natural_that test) default es key) ≡ true
 read_as-passes test default es key d = by (value_of es key)
   where
@@ -67,7 +67,7 @@ bits-known es = read_as-passes is_bitpix 8 es SurveyBitpix refl
 -- the test of the blank number
 pub blank-number : (bits : ℕ) (blank : ℤ) → (int_le (least_number bits) blank && int_le blank (greatest_number bits)) ≡ true → IsNumber bits blank
 blank-number bits blank e =
-    let parts = both (int_le (least_number bits) blank) (int_le blank (greatest_number bits)) e in
+    let parts = and_parts (int_le (least_number bits) blank) (int_le blank (greatest_number bits)) e in
     let low : int_le (least_number bits) blank ≡ true = parts.0 in
     let high : int_le blank (greatest_number bits) ≡ true = parts.1 in
     record { low = grind (arith, ints); high = grind (arith, ints) }

@@ -25,7 +25,7 @@ use Rattle.survey_conf.specs.Description.{Description, description, description_
 use Rattle.survey_conf.specs.declared.fault.ConfFault.{ConfFault}
 use Rattle.survey_conf.specs.declared.key.Key.{Key}
 use Rattle.survey_conf.specs.declared.key.Key.TheVariants.{CreatorDid, ObsTitle, HipsReleaseDate, HipsStatus, HipsOrder, HipsOrderMin, HipsTileWidth, SurveyBitpix, SurveyBscale, SurveyBzero, SurveyBlank, SurveyVersion, SurveyRule}
-use Rattle.survey_conf.proofs.NumberLemmas.{both}
+use Rattle.std.proofs.lemmas.Bool.{and_parts}
 use Rattle.survey_conf.proofs.DistinctLemmas.{distinct-extras}
 use Rattle.survey_conf.proofs.WellFormedLemmas.{WellFormed, is_well_formed, kept-lines}
 use Rattle.survey_conf.proofs.DepthLemmas.{is_complete, read_as-passes, bits-known, blank-number}
@@ -34,8 +34,8 @@ use Rattle.survey_conf.proofs.DepthLemmas.{is_complete, read_as-passes, bits-kno
 found-written : (key : List ℕ) (es : Entries) → list_all is_well_formed es ≡ true → IfSome (lookup (bytes_eq key) es) (λ s. is_written_value s.value ≡ true)
 found-written key [] e = tt
 found-written key (x ∷ es) e =
-    let parts = both (is_well_formed x) (list_all is_well_formed es) e in
-    by (bytes_eq key x.0) (both (is_key x.0) (is_written_value x.1.value) parts.0).1 (found-written key es parts.1)
+    let parts = and_parts (is_well_formed x) (list_all is_well_formed es) e in
+    by (bytes_eq key x.0) (and_parts (is_key x.0) (is_written_value x.1.value) parts.0).1 (found-written key es parts.1)
   where
     by : (b : Bool) → is_written_value x.1.value ≡ true → IfSome (lookup (bytes_eq key) es) (λ s. is_written_value s.value ≡ true)
         → IfSome (cond b (Some x.1) (lookup (bytes_eq key) es)) (λ s. is_written_value s.value ≡ true)
@@ -52,10 +52,10 @@ text-written es key e there = by (setting es (name key)) (found-written (name ke
 -- each required key is there
 seven : (a b c d e f g : Bool) → (a && (b && (c && (d && (e && (f && (g && true))))))) ≡ true → (a ≡ true) × (b ≡ true) × (c ≡ true) × (d ≡ true)
 seven a b c d e f g h =
-    let p = both a _ h in
-    let q = both b _ p.1 in
-    let r = both c _ q.1 in
-    (p.0, q.0, r.0, (both d _ r.1).0)
+    let p = and_parts a _ h in
+    let q = and_parts b _ p.1 in
+    let r = and_parts c _ q.1 in
+    (p.0, q.0, r.0, (and_parts d _ r.1).0)
 
 complete-texts : (es : Entries) → is_complete es ≡ true
     → (is_there es (name CreatorDid) ≡ true) × (is_there es (name ObsTitle) ≡ true) × (is_there es (name HipsReleaseDate) ≡ true) × (is_there es (name HipsStatus) ≡ true)
@@ -123,7 +123,7 @@ exponent-read es = by (value_of es HipsTileWidth)
 
 pub shape-read : (es : Entries) → IsShape (read_as order 3 es HipsOrder) (read_as lowest_order 3 es HipsOrderMin) (read_as width_exponent 9 es HipsTileWidth)
 shape-read es =
-    let top = both (nat_le 3 (read_as order 3 es HipsOrder)) (nat_le (read_as order 3 es HipsOrder) 11) (read_as-passes (λ n. nat_le 3 n && nat_le n 11) 3 es HipsOrder refl) in
+    let top = and_parts (nat_le 3 (read_as order 3 es HipsOrder)) (nat_le (read_as order 3 es HipsOrder) 11) (read_as-passes (λ n. nat_le 3 n && nat_le n 11) 3 es HipsOrder refl) in
     let low : nat_le (read_as lowest_order 3 es HipsOrderMin) 3 ≡ true = read_as-passes (λ n. nat_le n 3) 3 es HipsOrderMin refl in
     let exponent = exponent-read es in
     record {
@@ -136,7 +136,7 @@ shape-read es =
 
 pub version-read : (es : Entries) → (1 ≤ read_as version 1 es SurveyVersion) × (read_as version 1 es SurveyVersion ≤ 2)
 version-read es =
-    let parts = both (nat_le 1 (read_as version 1 es SurveyVersion)) (nat_le (read_as version 1 es SurveyVersion) 2) (read_as-passes (λ n. nat_le 1 n && nat_le n 2) 1 es SurveyVersion refl) in
+    let parts = and_parts (nat_le 1 (read_as version 1 es SurveyVersion)) (nat_le (read_as version 1 es SurveyVersion) 2) (read_as-passes (λ n. nat_le 1 n && nat_le n 2) 1 es SurveyVersion refl) in
     (grind (arith, nat_tests, parts), grind (arith, nat_tests, parts))
 
 -- a scale is not 0
@@ -178,8 +178,8 @@ rule-read es none first = by (setting es (name SurveyRule)) (absent (is_there es
 extras-written : (es : Entries) → list_all is_well_formed es ≡ true → list_all is_extra (extras_of es) ≡ true
 extras-written [] e = refl
 extras-written (x ∷ es) e =
-    let parts = both (is_well_formed x) (list_all is_well_formed es) e in
-    let here = both (is_key x.0) (is_written_value x.1.value) parts.0 in
+    let parts = and_parts (is_well_formed x) (list_all is_well_formed es) e in
+    let here = and_parts (is_key x.0) (is_written_value x.1.value) parts.0 in
     by (is_extra_key x.0) refl here.0 here.1 (extras-written es parts.1)
   where
     by : (b : Bool) → is_extra_key x.0 ≡ b → is_key x.0 ≡ true → is_written_value x.1.value ≡ true → list_all is_extra (extras_of es) ≡ true

@@ -7,7 +7,7 @@ use Rattle.std.specs.Cmp.Lexicographic.{nat_list_eq_equiv}
 use Rattle.survey_conf.specs.Keys.{is_extra_key}
 use Rattle.survey_conf.specs.Entries.{Entries}
 use Rattle.survey_conf.specs.Description.{are_distinct, extras_of}
-use Rattle.survey_conf.proofs.NumberLemmas.{both}
+use Rattle.std.proofs.lemmas.Bool.{and_parts}
 
 neither : (a b : Bool) → (a || b) ≡ false → (a ≡ false) × (b ≡ false)
 neither true b e = absurd cc
@@ -31,7 +31,7 @@ module _ {X : Type 0} where
   pub absent-before : (xs : List (List ℕ × X)) (k : List ℕ) (v : X) (ys : List (List ℕ × X)) → are_distinct (keys_of (xs ++ (k, v) ∷ ys)) ≡ true → lookup (bytes_eq k) xs ≡ None
   absent-before [] k v ys e = refl
   absent-before (x ∷ xs) k v ys e =
-      let parts = both (not (list_any (bytes_eq x.0) (keys_of (xs ++ (k, v) ∷ ys)))) (are_distinct (keys_of (xs ++ (k, v) ∷ ys))) e in
+      let parts = and_parts (not (list_any (bytes_eq x.0) (keys_of (xs ++ (k, v) ∷ ys)))) (are_distinct (keys_of (xs ++ (k, v) ∷ ys))) e in
       let apart : bytes_eq k x.0 ≡ false = flipped x.0 k (any-skips x.0 xs k v ys (denied (list_any (bytes_eq x.0) (keys_of (xs ++ (k, v) ∷ ys))) parts.0)) in
       rw apart (absent-before xs k v ys parts.1)
 
@@ -53,7 +53,7 @@ module _ {X : Type 0} where
   pub distinct-push : (es : List (List ℕ × X)) (k : List ℕ) (v : X) → are_distinct (keys_of es) ≡ true → lookup (bytes_eq k) es ≡ None → are_distinct (keys_of (es ++ (k, v) ∷ [])) ≡ true
   distinct-push [] k v e none = refl
   distinct-push (x ∷ es) k v e none =
-      let parts = both (not (list_any (bytes_eq x.0) (keys_of es))) (are_distinct (keys_of es)) e in
+      let parts = and_parts (not (list_any (bytes_eq x.0) (keys_of es))) (are_distinct (keys_of es)) e in
       let away = none-parts k x es none in
       rw (any-push x.0 es k v (denied (list_any (bytes_eq x.0) (keys_of es)) parts.0) (flipped k x.0 away.0)) (distinct-push es k v parts.1 away.1)
 
@@ -68,11 +68,11 @@ any-extras key (x ∷ es) e =
     by true apart rest = rw apart rest
     by false apart rest = rest
 
--- nor do the extra keys among them stand twice
+-- no extra key stands twice where no key does
 pub distinct-extras : (es : Entries) → are_distinct (keys_of es) ≡ true → are_distinct (keys_of (extras_of es)) ≡ true
 distinct-extras [] e = refl
 distinct-extras (x ∷ es) e =
-    let parts = both (not (list_any (bytes_eq x.0) (keys_of es))) (are_distinct (keys_of es)) e in
+    let parts = and_parts (not (list_any (bytes_eq x.0) (keys_of es))) (are_distinct (keys_of es)) e in
     by (is_extra_key x.0) (any-extras x.0 es (denied (list_any (bytes_eq x.0) (keys_of es)) parts.0)) (distinct-extras es parts.1)
   where
     by : (b : Bool) → list_any (bytes_eq x.0) (keys_of (extras_of es)) ≡ false → are_distinct (keys_of (extras_of es)) ≡ true

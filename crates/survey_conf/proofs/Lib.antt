@@ -10,7 +10,6 @@ mod RoundTripDistinct
 mod RoundTripFound
 mod RoundTrip
 pub mod LineLemmas
-pub mod NumberLemmas
 pub mod EntryLemmas
 pub mod ScanLemmas
 pub mod DepthLemmas

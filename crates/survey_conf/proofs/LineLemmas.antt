@@ -55,7 +55,7 @@ lines_first text i found =
     ∙ more_parts (before_first is_line_feed text) (slice_split is_line_feed (after_first is_line_feed text)) some
     ∙ ap (λ n. take n text ∷ without_empty_last (slice_split is_line_feed (drop (n + 1) text))) parts.0
 
--- and where it has none, it is one line
+-- a text without a line feed is one line
 pub lines_only : (text : List ℕ) → 0 < length text → position is_line_feed text ≡ None → lines text ≡ text ∷ lines []
 unfolding lines
 lines_only [] some none = absurd (omega arith)

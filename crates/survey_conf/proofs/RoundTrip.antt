@@ -3,8 +3,8 @@ use Rattle.std.proofs.Common.{◌≡◌, ℕ, ◌≤◌, ◌^◌, true, false, �
 use Rattle.std.specs.Fmt.{signed_decimal}
 use Rattle.std.specs.List.{list_all}
 use Rattle.std.proofs.lemmas.Bool.{cases_Bool, eqb-false}
-use Rattle.decimal_scale.specs.Laws.{WrittenIsRead}
-use Rattle.decimal_scale.specs.Real.{real_text}
+use Rattle.decimal_scale.specs.Real.{real_text, is_whole}
+use Rattle.decimal_scale.specs.Whole.{whole_value}
 use Rattle.parent_rule.specs.declared.combine.Combine.{Combine}
 use Rattle.parent_rule.specs.declared.combine.Combine.TheVariants.{Mean, Median}
 use Rattle.survey_conf.specs.Lines.{contents}
@@ -19,13 +19,13 @@ use Rattle.survey_conf.specs.declared.key.Key.TheVariants.{CreatorDid, ObsTitle,
 use Rattle.survey_conf.proofs.RoundTripLines.{contents_of}
 use Rattle.survey_conf.proofs.RoundTripEntries.{settings, entries_of}
 use Rattle.survey_conf.proofs.RoundTripFaults.{are_pairs, no_first_fault}
-use Rattle.survey_conf.proofs.RoundTripNumbers.{order_read, lowest_order_read, bitpix_read, width_read, blank_read, blank_of_depth, real_read, scale_read}
+use Rattle.survey_conf.proofs.RoundTripNumbers.{NumbersAreRead, order_read, lowest_order_read, bitpix_read, width_read, blank_read, blank_of_depth, real_read, scale_read}
 use Rattle.survey_conf.proofs.RoundTripPairs.{pairs_fine}
 use Rattle.survey_conf.proofs.RoundTripDistinct.{pairs_distinct}
 use Rattle.survey_conf.proofs.RoundTripFound.{found, value_found, there_found, extras_found}
 
 version_two : version (codes "2") ≡ Some 2
-unfolding natural whole
+unfolding natural whole whole_value is_whole
 version_two = refl
 
 rule_read : (c : Combine) → combine (rule c) ≡ Some c
@@ -39,7 +39,7 @@ version_one v low high e = let other = eqb-false v 2 e in omega arith
 says : Description → Entries
 says d = settings 1 (description_pairs d)
 
-module _ (law : WrittenIsRead) (d : Description) (h : IsDescription d) where
+module _ (law : NumbersAreRead) (d : Description) (h : IsDescription d) where
   text_says : entries (contents (description_text d)) ≡ says d
   unfolding says
   text_says =
@@ -64,10 +64,10 @@ module _ (law : WrittenIsRead) (d : Description) (h : IsDescription d) where
   stands stands_for default k text x e f = rw (value_said k, e, f) refl
 
   bitpix_said : read_as bitpix 8 (says d) SurveyBitpix ≡ d.shape.depth.bitpix
-  bitpix_said = stands bitpix 8 SurveyBitpix (decimal d.shape.depth.bitpix) d.shape.depth.bitpix refl (bitpix_read d.shape.depth.bitpix h.bitpix)
+  bitpix_said = stands bitpix 8 SurveyBitpix (decimal d.shape.depth.bitpix) d.shape.depth.bitpix refl (bitpix_read law d.shape.depth.bitpix h.bitpix)
 
   blank_said : read_as whole (pos 0) (says d) SurveyBlank ≡ d.shape.depth.blank
-  blank_said = stands whole (pos 0) SurveyBlank (signed_decimal d.shape.depth.blank) d.shape.depth.blank refl (blank_read d.shape.depth.bitpix d.shape.depth.blank h.bitpix h.blank)
+  blank_said = stands whole (pos 0) SurveyBlank (signed_decimal d.shape.depth.blank) d.shape.depth.blank refl (blank_read law d.shape.depth.bitpix d.shape.depth.blank h.bitpix h.blank)
 
   version_said : read_as version 1 (says d) SurveyVersion ≡ d.version
   version_said =
@@ -90,9 +90,9 @@ module _ (law : WrittenIsRead) (d : Description) (h : IsDescription d) where
     value_said ObsTitle,
     value_said HipsReleaseDate,
     value_said HipsStatus,
-    stands order 3 HipsOrder (decimal d.shape.top) d.shape.top refl (order_read d.shape.top h.shape.least_top h.shape.greatest_top),
-    stands lowest_order 3 HipsOrderMin (decimal d.shape.low) d.shape.low refl (lowest_order_read d.shape.low h.shape.low_order),
-    stands width_exponent 9 HipsTileWidth (decimal (2 ^ d.shape.n)) d.shape.n refl (width_read d.shape.n h.shape.least_n h.shape.greatest_n),
+    stands order 3 HipsOrder (decimal d.shape.top) d.shape.top refl (order_read law d.shape.top h.shape.least_top h.shape.greatest_top),
+    stands lowest_order 3 HipsOrderMin (decimal d.shape.low) d.shape.low refl (lowest_order_read law d.shape.low h.shape.low_order),
+    stands width_exponent 9 HipsTileWidth (decimal (2 ^ d.shape.n)) d.shape.n refl (width_read law d.shape.n h.shape.least_n h.shape.greatest_n),
     bitpix_said,
     blank_said,
     rule_said,

@@ -1,9 +1,9 @@
 -- Numbers, as they are written: their texts are values with no blank at the ends, and are read as the same numbers.
-use Rattle.std.proofs.Common.{◌≡◌, ℕ, zero, suc, ◌+◌, ◌^◌, ◌<◌, ◌≤◌, Bool, true, false, T, ◌&&◌, ◌||◌, ◌==◌, nat_le, eqb-true, le-leb, leb-true, List, [], ◌∷◌, ◌++◌, length, length-append, ℤ, pos, negsuc, int_le, ◌≤ℤ◌, unsigned_abs, Some, IsTrue, decimal, codes, refl, sym, ap, subst, inl, inr, arith, find, le_trans}
+use Rattle.std.proofs.Common.{◌≡◌, ℕ, zero, suc, ◌+◌, ◌^◌, ◌<◌, ◌≤◌, Bool, true, false, cond, T, ◌&&◌, ◌||◌, ◌==◌, nat_le, eqb-true, le-leb, leb-true, List, [], ◌∷◌, ◌++◌, length, length-append, drop, ℤ, pos, negsuc, int_le, ◌≤ℤ◌, unsigned_abs, Some, IsTrue, decimal, codes, refl, sym, ap, subst, inl, inr, arith, find, le_trans}
 use Rattle.std.specs.Fmt.{signed_decimal}
 use Rattle.std.specs.List.{AllByRecursion, list_all, range_with_len}
 use Rattle.std.specs.Result.{result_ok}
-use Rattle.std.specs.Str.Parse.{AllDigits, digits_value, starts_with_minus, without_leading_sign, signed_digits_value}
+use Rattle.std.specs.Str.Parse.{AllDigits, without_leading_sign}
 use Rattle.std.proofs.Math.Nat.{pow-le-pow_right}
 use Rattle.std.proofs.lemmas.Bool.{and_parts, and_from, or_cases}
 use Rattle.std.proofs.lemmas.Bool.Decides.{nat_tests}
@@ -12,11 +12,12 @@ use Rattle.std.proofs.lemmas.Int.{ints}
 use Rattle.std.proofs.lemmas.List.Elements.{All-from_recursion}
 use Rattle.std.proofs.lemmas.List.Sums.{list_all-from_AllPass}
 use Rattle.std.proofs.lemmas.Str.Parse.{digit_from_value}
-use Rattle.decimal_scale.specs.Laws.{WrittenIsRead}
+use Rattle.decimal_scale.specs.Laws.{WrittenIsRead, WholeIsRead}
+use Rattle.decimal_scale.specs.Whole.{fits_64_bits}
 use Rattle.decimal_scale.specs.Real.{DecimalNumber, IsNormal, real_text}
 use Rattle.parent_rule.specs.Depth.{is_bitpix, least_number, greatest_number, IsNumber}
-use Rattle.survey_conf.specs.Lines.{is_blank, is_digit, is_value_byte, is_value}
-use Rattle.survey_conf.specs.Numbers.{is_whole, fits_64_bits, whole, natural, natural_that, order, lowest_order, bitpix, width_exponent, real, scale, not_zero}
+use Rattle.survey_conf.specs.Lines.{is_blank, is_value_byte, is_value}
+use Rattle.survey_conf.specs.Numbers.{whole, natural, natural_that, order, lowest_order, bitpix, width_exponent, real, scale, not_zero}
 use Rattle.survey_conf.proofs.RoundTripBytes.{IsBare, prefix_len_none, suffix_len_none}
 use Rattle.survey_conf.proofs.RoundTripLines.{all_weaker, all_append}
 
@@ -71,32 +72,11 @@ digit_bytes (d ∷ ds) h = (digit_from_value d h.0, digit_bytes ds h.1)
 digit_visible : (b : ℕ) → IsDigitByte b → IsVisible b
 digit_visible b h = record { low = omega arith; high = omega arith }
 
-digit_test : (b : ℕ) → IsDigitByte b → is_digit b ≡ true
-digit_test b h = grind (arith, nat_tests)
-
-no_minus : (b : ℕ) → IsDigitByte b → (b == 45) ≡ false
-no_minus b h = grind (arith, nat_tests)
-
-no_plus : (b : ℕ) → IsDigitByte b → (b == 43) ≡ false
-no_plus b h = grind (arith, nat_tests)
-
-no_minus_first : (ds : List ℕ) → AllByRecursion IsDigitByte ds → starts_with_minus ds ≡ false
-no_minus_first [] h = refl
-no_minus_first (d ∷ ds) h = no_minus d h.0
-
-no_sign_first : (ds : List ℕ) → AllByRecursion IsDigitByte ds → without_leading_sign ds ≡ ds
-no_sign_first [] h = refl
-no_sign_first (d ∷ ds) h = rw (no_minus d h.0, no_plus d h.0) refl
-
-all_digits : (ds : List ℕ) → AllByRecursion IsDigitByte ds → list_all is_digit ds ≡ true
-all_digits ds h = list_all-from_AllPass is_digit ds (All-from_recursion (λ b. is_digit b ≡ true) ds (all_weaker IsDigitByte (λ b. is_digit b ≡ true) ds digit_test h))
-
--- the digits of a number below 2^63
+-- the digits of a number up to 2^63
 record AreDigits (n : ℕ) : Type 0 where
   some : 1 ≤ length (decimal n)
   short : length (decimal n) ≤ 19
   bytes : AllByRecursion IsDigitByte (decimal n)
-  value : digits_value 10 (decimal n) ≡ n
 
 digits_of : (n : ℕ) → n ≤ 2 ^ 63 → AreDigits n
 digits_of n small =
@@ -105,58 +85,57 @@ digits_of n small =
       some = numeral.0.0;
       short = length-decimal-le 19 n (omega arith) (omega arith) (omega arith);
       bytes = digit_bytes (decimal n) numeral.0.1;
-      value = numeral.1;
     }
 
 -- ---- whole numbers
 
-whole_decimal_test : (n : ℕ) → AreDigits n → is_whole (decimal n) ≡ true
-whole_decimal_test n h =
-    rw (no_sign_first (decimal n) h.bytes, le-leb 1 (length (decimal n)) h.some, le-leb (length (decimal n)) 19 h.short, all_digits (decimal n) h.bytes) refl
+-- what is written of numbers is read again
+pub record NumbersAreRead : Type 0 where
+  pub whole : WholeIsRead
+  pub real : WrittenIsRead
 
-signed_value : (n : ℕ) → AreDigits n → signed_digits_value 10 (decimal n) ≡ pos n
-signed_value n h = rw (no_sign_first (decimal n) h.bytes, no_minus_first (decimal n) h.bytes, h.value) refl
+-- a text without its sign is no longer
+length-without_leading_sign-le : (text : List ℕ) → length (without_leading_sign text) ≤ length text
+length-without_leading_sign-le [] = omega arith
+length-without_leading_sign-le (c ∷ cs) = by (c == 45) (c == 43)
+  where
+    by : (minus plus : Bool) → length (cond minus cs (drop (cond plus 1 0) (c ∷ cs))) ≤ length (c ∷ cs)
+    by true plus = omega arith
+    by false true = omega arith
+    by false false = omega arith
 
-pub whole_decimal : (n : ℕ) → n < 2 ^ 63 → whole (decimal n) ≡ Some (pos n)
-unfolding whole
-whole_decimal n small =
-    let h = digits_of n (omega arith) in
-    let fits : fits_64_bits (pos n) ≡ true = le-leb n 9223372036854775807 (omega arith) in
-    rw (whole_decimal_test n h, signed_value n h, fits) refl
-
-whole_negative : (m : ℕ) → m < 2 ^ 63 → whole (signed_decimal (negsuc m)) ≡ Some (negsuc m)
-unfolding whole
-whole_negative m small =
-    let h = digits_of (suc m) (omega arith) in
-    let fits : fits_64_bits (negsuc m) ≡ true = rw (le-leb m 9223372036854775807 (omega arith)) refl in
-    rw (le-leb 1 (length (decimal (suc m))) h.some, le-leb (length (decimal (suc m))) 19 h.short, all_digits (decimal (suc m)) h.bytes, h.value, fits) refl
-
-pub whole_signed : (z : ℤ) → fits_64_bits z ≡ true → whole (signed_decimal z) ≡ Some z
-whole_signed (pos n) h =
+signed_short : (z : ℤ) → fits_64_bits z ≡ true → length (without_leading_sign (signed_decimal z)) ≤ 19
+signed_short (pos n) h =
     let high = leb-true n 9223372036854775807 h in
-    whole_decimal n (omega arith)
-whole_signed (negsuc m) h =
+    let digits = digits_of n (omega arith) in
+    le_trans (length-without_leading_sign-le (decimal n)) digits.short
+signed_short (negsuc m) h =
     let low = leb-true m 9223372036854775807 (and_parts (nat_le m 9223372036854775807) true h).0 in
-    whole_negative m (omega arith)
+    let digits = digits_of (suc m) (omega arith) in
+    digits.short
 
-natural_decimal : (n : ℕ) → n < 2 ^ 63 → natural (decimal n) ≡ Some n
+pub whole_signed : NumbersAreRead → (z : ℤ) → fits_64_bits z ≡ true → whole (signed_decimal z) ≡ Some z
+unfolding whole
+whole_signed law z h = rw (le-leb (length (without_leading_sign (signed_decimal z))) 19 (signed_short z h)) (law.whole z h)
+
+natural_decimal : NumbersAreRead → (n : ℕ) → n < 2 ^ 63 → natural (decimal n) ≡ Some n
 unfolding natural
-natural_decimal n small = rw (whole_decimal n small) refl
+natural_decimal law n small = rw (whole_signed law (pos n) (le-leb n 9223372036854775807 (omega arith))) refl
 
-natural_that_decimal : (test : ℕ → Bool) (n : ℕ) → n < 2 ^ 63 → test n ≡ true → natural_that test (decimal n) ≡ Some n
-natural_that_decimal test n small h = rw (natural_decimal n small, h) refl
+natural_that_decimal : NumbersAreRead → (test : ℕ → Bool) (n : ℕ) → n < 2 ^ 63 → test n ≡ true → natural_that test (decimal n) ≡ Some n
+natural_that_decimal law test n small h = rw (natural_decimal law n small, h) refl
 
-pub order_read : (n : ℕ) → 3 ≤ n → n ≤ 11 → order (decimal n) ≡ Some n
-order_read n low high = natural_that_decimal (λ n. nat_le 3 n && nat_le n 11) n (omega arith) (and_from (nat_le 3 n) (nat_le n 11) (le-leb 3 n low) (le-leb n 11 high))
+pub order_read : NumbersAreRead → (n : ℕ) → 3 ≤ n → n ≤ 11 → order (decimal n) ≡ Some n
+order_read law n low high = natural_that_decimal law (λ n. nat_le 3 n && nat_le n 11) n (omega arith) (and_from (nat_le 3 n) (nat_le n 11) (le-leb 3 n low) (le-leb n 11 high))
 
-pub lowest_order_read : (n : ℕ) → n ≤ 3 → lowest_order (decimal n) ≡ Some n
-lowest_order_read n high = natural_that_decimal (λ n. nat_le n 3) n (omega arith) (le-leb n 3 high)
+pub lowest_order_read : NumbersAreRead → (n : ℕ) → n ≤ 3 → lowest_order (decimal n) ≡ Some n
+lowest_order_read law n high = natural_that_decimal law (λ n. nat_le n 3) n (omega arith) (le-leb n 3 high)
 
 pub bitpix_small : (n : ℕ) → IsTrue (is_bitpix n) → n ≤ 64
 bitpix_small n h = grind (arith, nat_tests)
 
-pub bitpix_read : (n : ℕ) → IsTrue (is_bitpix n) → bitpix (decimal n) ≡ Some n
-bitpix_read n h = natural_that_decimal is_bitpix n (let small = bitpix_small n h in omega arith) h
+pub bitpix_read : NumbersAreRead → (n : ℕ) → IsTrue (is_bitpix n) → bitpix (decimal n) ≡ Some n
+bitpix_read law n h = natural_that_decimal law is_bitpix n (let small = bitpix_small n h in omega arith) h
 
 exponent_found : (n : ℕ) → 1 ≤ n → n ≤ 9 → find (λ m. 2 ^ n == 2 ^ m) (range_with_len 1 9) ≡ Some n
 exponent_found zero low high = absurd (omega arith)
@@ -174,8 +153,8 @@ exponent_found (suc (suc (suc (suc (suc (suc (suc (suc (suc (suc n)))))))))) low
 pub width_small : (n : ℕ) → n ≤ 9 → 2 ^ n ≤ 512
 width_small n high = pow-le-pow_right {n = 2} (omega arith) {i = n} {j = 9} high
 
-pub width_read : (n : ℕ) → 1 ≤ n → n ≤ 9 → width_exponent (decimal (2 ^ n)) ≡ Some n
-width_read n low high = rw (natural_decimal (2 ^ n) (let small = width_small n high in omega arith)) (exponent_found n low high)
+pub width_read : NumbersAreRead → (n : ℕ) → 1 ≤ n → n ≤ 9 → width_exponent (decimal (2 ^ n)) ≡ Some n
+width_read law n low high = rw (natural_decimal law (2 ^ n) (let small = width_small n high in omega arith)) (exponent_found n low high)
 
 -- the blank number of a depth
 T_true : (b : Bool) → T b → b ≡ true
@@ -220,18 +199,18 @@ in_64_bits bits z h number =
     let within = limits_within bits h in
     fits_between (least_number bits) z (greatest_number bits) number.low number.high within.0 within.1
 
-pub blank_read : (bits : ℕ) (z : ℤ) → IsTrue (is_bitpix bits) → IsNumber bits z → whole (signed_decimal z) ≡ Some z
-blank_read bits z h number = whole_signed z (in_64_bits bits z h number)
+pub blank_read : NumbersAreRead → (bits : ℕ) (z : ℤ) → IsTrue (is_bitpix bits) → IsNumber bits z → whole (signed_decimal z) ≡ Some z
+blank_read law bits z h number = whole_signed law z (in_64_bits bits z h number)
 
 pub blank_of_depth : (bits : ℕ) (z : ℤ) → IsNumber bits z → (int_le (least_number bits) z && int_le z (greatest_number bits)) ≡ true
 blank_of_depth bits z h = rw (le_test (least_number bits) z h.low, le_test z (greatest_number bits) h.high) refl
 
 -- ---- reals
 
-pub real_read : WrittenIsRead → (number : DecimalNumber) → IsNormal number → real (real_text number) ≡ Some number
-real_read law number h = ap result_ok (law number h)
+pub real_read : NumbersAreRead → (number : DecimalNumber) → IsNormal number → real (real_text number) ≡ Some number
+real_read law number h = ap result_ok (law.real number h)
 
-pub scale_read : WrittenIsRead → (number : DecimalNumber) → IsNormal number → not_zero number ≡ true → scale (real_text number) ≡ Some number
+pub scale_read : NumbersAreRead → (number : DecimalNumber) → IsNormal number → not_zero number ≡ true → scale (real_text number) ≡ Some number
 scale_read law number h other = rw (real_read law number h, other) refl
 
 -- ---- the texts as values

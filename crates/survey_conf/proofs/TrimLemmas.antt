@@ -22,7 +22,7 @@ module _ (p : ℕ → Bool) where
   first_fails true n e = absurd (omega arith)
   first_fails false n e = refl
 
-  -- nor at the front of a part of it
+  -- where nothing passes at the front of a list, nothing does at the front of what it begins with
   front-take : (xs : List ℕ) (n : ℕ) → prefix_len p xs ≡ 0 → prefix_len p (take n xs) ≡ 0
   front-take [] zero e = refl
   front-take [] (suc n) e = refl

@@ -15,7 +15,7 @@ use Rattle.survey_conf.specs.Description.{is_written_value, are_distinct}
 use Rattle.survey_conf.specs.declared.fault.ConfKind.{ConfKind}
 use Rattle.survey_conf.specs.declared.fault.ConfKind.TheVariants.{Syntax, Unknown, Twice, Range}
 use Rattle.survey_conf.proofs.DistinctLemmas.{distinct-push}
-use Rattle.survey_conf.proofs.NumberLemmas.{both}
+use Rattle.std.proofs.lemmas.Bool.{and_parts}
 use Rattle.survey_conf.proofs.ScanLemmas.{entries-append}
 use Rattle.survey_conf.proofs.TrimLemmas.{trimmed-trimmed}
 
@@ -29,7 +29,7 @@ pub record WellFormed (es : Entries) : Type 0 where
 
 all-push : {X : Type 0} (p : X → Bool) (xs : List X) (x : X) → list_all p xs ≡ true → p x ≡ true → list_all p (xs ++ x ∷ []) ≡ true
 all-push p [] x e h = rw h refl
-all-push p (y ∷ xs) x e h = let parts = both (p y) (list_all p xs) e in rw (parts.0) (all-push p xs x parts.1 h)
+all-push p (y ∷ xs) x e h = let parts = and_parts (p y) (list_all p xs) e in rw (parts.0) (all-push p xs x parts.1 h)
 
 -- a pair without a fault has a new key
 absent : (es : Entries) (key value : List ℕ) → kind_of_pair es key value ≡ None → lookup (bytes_eq key) es ≡ None
@@ -42,8 +42,8 @@ absent es key value = by (is_unknown key) (lookup (bytes_eq key) es)
 
 form-kept : (written : List ℕ) (line : ℕ) → has_form written ≡ true → is_well_formed (key_in written, record { line = line; value = value_in written }) ≡ true
 form-kept written line e =
-    let outer = both (list_any is_equals written && is_key (key_in written)) (is_value (value_in written)) e in
-    let inner = both (list_any is_equals written) (is_key (key_in written)) outer.0 in
+    let outer = and_parts (list_any is_equals written && is_key (key_in written)) (is_value (value_in written)) e in
+    let inner = and_parts (list_any is_equals written) (is_key (key_in written)) outer.0 in
     let same : bytes_eq (trimmed (value_in written)) (value_in written) ≡ true =
     (bytes_decides (trimmed (value_in written)) (value_in written)).1 (trimmed-trimmed _) in
     rw (inner.1, outer.1, same) refl

@@ -1,32 +1,20 @@
 -- What a value stands for where its key asks for a number or for one of some words: this project's profile.
-use Rattle.std.specs.Prelude.{ℕ, ◌^◌, ◌-◌, Bool, not, ◌&&◌, ◌==◌, nat_le, if◌then◌else◌, List, length, ℤ, pos, negsuc, int_le, Option, Some, None, find, codes}
-use Rattle.std.specs.List.{list_all, range_with_len}
+use Rattle.std.specs.Prelude.{ℕ, ◌^◌, Bool, not, ◌&&◌, ◌==◌, nat_le, if◌then◌else◌, List, length, ℤ, pos, negsuc, Option, Some, None, find, codes}
+use Rattle.std.specs.List.{range_with_len}
 use Rattle.std.specs.Option.{option_and_then}
 use Rattle.std.specs.Ordering.{int_eq}
 use Rattle.std.specs.Result.{result_ok}
 use Rattle.std.specs.Str.{bytes_eq}
-use Rattle.std.specs.Str.Parse.{without_leading_sign, signed_digits_value}
+use Rattle.std.specs.Str.Parse.{without_leading_sign}
 use Rattle.decimal_scale.specs.Real.{DecimalNumber, read_real}
+use Rattle.decimal_scale.specs.Whole.{whole_value}
 use Rattle.parent_rule.specs.Depth.{is_bitpix}
 use Rattle.parent_rule.specs.declared.combine.Combine.{Combine}
 use Rattle.parent_rule.specs.declared.combine.Combine.TheVariants.{Mean, Median}
-use Rattle.survey_conf.specs.Lines.{is_digit}
 
--- an optional sign and 1 to 19 digits
-abbrev pub is_whole : List ℕ → Bool
-is_whole value =
-    let digits = without_leading_sign value in
-    nat_le 1 (length digits) && nat_le (length digits) 19 && list_all is_digit digits
-
--- from -2^63 to 2^63 - 1
-abbrev pub fits_64_bits : ℤ → Bool
-fits_64_bits n = int_le (negsuc (2 ^ 63 - 1)) n && int_le n (pos (2 ^ 63 - 1))
-
--- the whole number that a value spells
+-- the whole number of 64 bits that a value spells, with an optional sign and 1 to 19 digits
 unfoldable pub whole : List ℕ → Option ℤ
-whole value =
-    let n = signed_digits_value 10 value in
-    if is_whole value && fits_64_bits n then Some n else None
+whole value = if nat_le (length (without_leading_sign value)) 19 then whole_value value else None
 
 -- a whole number that is not negative
 abbrev pub not_negative : ℤ → Option ℕ
@@ -36,7 +24,7 @@ not_negative (negsuc n) = None
 unfoldable pub natural : List ℕ → Option ℕ
 natural value = option_and_then not_negative (whole value)
 
--- the same, where it passes a test
+-- a whole number that is not negative and passes a test
 abbrev pub natural_that : (ℕ → Bool) → List ℕ → Option ℕ
 natural_that test value = option_and_then (λ n. if test n then Some n else None) (natural value)
 

@@ -1,10 +1,8 @@
 //! What a value stands for where its key asks for a whole number or for one of some words.
 ghost use Rattle.std.specs.Prelude.{◌≡◌};
-ghost use Rattle.std.specs.List.{list_all};
-ghost use Rattle.std.specs.Str.Parse.{without_leading_sign};
-ghost use Rattle.survey_conf.specs.Lines.{is_digit};
 ghost use Rattle.survey_conf.specs.Numbers;
 
+use decimal_scale::{split_sign, whole_number};
 use parent_rule::Combine;
 
 // The greatest number of digits.
@@ -12,39 +10,16 @@ const MOST_DIGITS: usize = 19;
 
 /// The whole number that the value spells, with or without a sign and with 1 to 19 digits; `None` exactly where it spells
 /// none of 64 bits.
+#[tactic(auto, unfolding(crate::specs::Numbers::whole))]
 pub(crate) fn whole(value: &[u8]) -> Option<i64>
     ensures { result ≡ Numbers.whole value.now }
 {
-    if !is_whole(value) {
-        return None;
+    let (_, digits) = split_sign(value);
+    if digits.len() <= MOST_DIGITS {
+        whole_number(value)
+    } else {
+        None
     }
-    match std::str::from_utf8(value) {
-        Ok(text) => text.parse().ok(),
-        Err(_) => None,
-    }
-}
-
-// Whether the value is an optional sign and digits, not too many.
-fn is_whole(value: &[u8]) -> bool
-    ensures { result ≡ Numbers.is_whole value.now }
-{
-    let digits = without_sign(value);
-    !digits.is_empty() && digits.len() <= MOST_DIGITS && are_digits(digits)
-}
-
-fn without_sign(value: &[u8]) -> &[u8]
-    ensures { result.now ≡ without_leading_sign value.now }
-{
-    match value {
-        [b'+' | b'-', digits @ ..] => digits,
-        _ => value,
-    }
-}
-
-fn are_digits(bytes: &[u8]) -> bool
-    ensures { result ≡ list_all is_digit bytes.now }
-{
-    bytes.iter().all(|byte| byte.is_ascii_digit())
 }
 
 #[tactic(auto, unfolding(crate::specs::Numbers::natural))]
