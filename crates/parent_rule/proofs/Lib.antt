@@ -3,3 +3,4 @@ mod Medians
 mod Cases
 mod Rows
 mod Examples
+pub mod FourNumbers

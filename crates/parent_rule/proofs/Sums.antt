@@ -2,8 +2,8 @@
 use Rattle.std.proofs.Common.{◌≡◌, ℕ, ◌+◌, ◌<◌, List, [], ◌∷◌, ◌++◌, length, take, get_or, arith, ℤ, pos, negsuc, ◌+ℤ◌, ◌*ℤ◌, ◌≤ℤ◌, FitsSigned, w64}
 use Rattle.std.proofs.lemmas.Int.{ints}
 use Rattle.std.proofs.lemmas.List.{take_more}
-use Rattle.parent_rule.specs.Combined.{int_sum}
-use Rattle.parent_rule.specs.CombinedLaws.{mean_of_sum, mean_of_sum-low, mean_of_sum-high}
+use Rattle.parent_rule.specs.Combined.{int_sum, mean_of_sum}
+use Rattle.parent_rule.specs.CombinedLaws.{mean_of_sum-low, mean_of_sum-high}
 
 int_sum-push : (vs : List ℤ) (v : ℤ) → int_sum (vs ++ v ∷ []) ≡ int_sum vs +ℤ v
 int_sum-push [] v = omega (arith, ints)

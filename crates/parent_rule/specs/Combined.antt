@@ -14,9 +14,12 @@ abbrev pub int_sum : List ℤ → ℤ
 int_sum [] = pos 0
 int_sum (v ∷ vs) = v +ℤ int_sum vs
 
--- the mean, rounded half up: (2 * sum + count) / (2 * count), rounded down
+-- the mean of so many numbers of a sum, rounded half up: (2 * sum + count) / (2 * count), rounded down
+abbrev pub mean_of_sum : ℤ → ℕ → ℤ
+mean_of_sum sum count = int_div_euclid (pos 2 *ℤ sum +ℤ pos count) (pos (2 * count))
+
 abbrev pub rounded_mean : List ℤ → ℤ
-rounded_mean vs = int_div_euclid (pos 2 *ℤ int_sum vs +ℤ pos (length vs)) (pos (2 * length vs))
+rounded_mean vs = mean_of_sum (int_sum vs) (length vs)
 
 -- a mean that is the blank number is one more, so that it does not read as blank
 abbrev pub mean_beside_blank : ℤ → List ℤ → ℤ

@@ -10,18 +10,14 @@ use Rattle.std.specs.Ordering.{int_eq}
 use Rattle.std.specs.Prelude.{int_le}
 use borrow.Author.Differences.{up, down}
 use Rattle.parent_rule.specs.Depth.{IsNumber, least_number, greatest_number}
-use Rattle.parent_rule.specs.Combined.{combined, combined_of, not_blank, int_sum, rounded_mean, mean_beside_blank, placed, ascending, lower_median}
+use Rattle.parent_rule.specs.Combined.{combined, combined_of, not_blank, int_sum, mean_of_sum, rounded_mean, mean_beside_blank, placed, ascending, lower_median}
 use Rattle.parent_rule.specs.declared.combine.Combine.{Combine}
 use Rattle.parent_rule.specs.declared.combine.Combine.TheVariants.{Mean, Median}
 
 -- a quotient q that rounds down has k * q ≤ a < k * q + k
-rounds_down : (a : ℤ) (k : ℕ) → 0 < k → (up (int_div_euclid a (pos k)) * k + down a ≤ down (int_div_euclid a (pos k)) * k + up a) × (down (int_div_euclid a (pos k)) * k + up a < up (int_div_euclid a (pos k)) * k + down a + k)
+pub rounds_down : (a : ℤ) (k : ℕ) → 0 < k → (up (int_div_euclid a (pos k)) * k + down a ≤ down (int_div_euclid a (pos k)) * k + up a) × (down (int_div_euclid a (pos k)) * k + up a < up (int_div_euclid a (pos k)) * k + down a + k)
 rounds_down (pos a) k h = omega arith
 rounds_down (negsuc a) k h = omega arith
-
--- the mean of n numbers of that sum
-abbrev pub mean_of_sum : ℤ → ℕ → ℤ
-mean_of_sum sum n = int_div_euclid (pos 2 *ℤ sum +ℤ pos n) (pos (2 * n))
 
 -- a mean is no less than what each number is no less than, and no more than what each is no more than
 pub mean_of_sum-low : (sum low : ℤ) (n : ℕ) → 0 < n → (pos n *ℤ low) ≤ℤ sum → low ≤ℤ mean_of_sum sum n

@@ -1,4 +1,5 @@
 pub mod Depth
 pub mod Combined
+pub mod Weighed
 pub mod CombinedLaws
 pub mod Permit

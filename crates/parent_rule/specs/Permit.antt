@@ -1,7 +1,7 @@
--- One merge of four tiles into the tile above them, which a permit allows and a counter counts.
+-- One merge of tiles, which a permit stands for and a counter counts.
 use Rattle.std.specs.Prelude.{ℕ, ◌+◌, ◌-◌, ◌^◌, min}
 
--- the cell whose tile may be merged once
+-- the cell that a permit is made out for
 pub record PermittedCell : Type 0 where
   pub order : ℕ
   pub npix : ℕ

@@ -1,3 +1,4 @@
+//! The two ways to combine.
 /// How the numbers of four pixels are combined into one.
 #[derive(Clone, Copy, Debug, PartialEq, Eq, Hash)]
 pub enum Combine {

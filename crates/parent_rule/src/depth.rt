@@ -1,5 +1,6 @@
+//! What the stored numbers of a survey are.
 ghost use Rattle.std.specs.Prelude.{◌≡◌, ◌*◌, ◌↔◌, IsSome, IfSome, IsTrue};
-ghost use Rattle.parent_rule.specs.Depth.{is_bitpix, IsNumber};
+ghost use Rattle.parent_rule.specs.Depth.{is_bitpix, least_number, greatest_number, IsNumber};
 ghost use Rattle.parent_rule.specs.declared.combine.Combine.TheVariants.{Mean};
 
 use crate::combine::Combine;
@@ -37,12 +38,9 @@ impl Depth {
         ensures blank { IfSome result (λ depth. depth.blank ≡ blank) }
         ensures combine { IfSome result (λ depth. depth.combine ≡ Mean) }
     {
-        let (least, greatest) = match bitpix {
-            8 => (0, 255),
-            16 => (i64::from(i16::MIN), i64::from(i16::MAX)),
-            32 => (i64::from(i32::MIN), i64::from(i32::MAX)),
-            64 => (i64::MIN, i64::MAX),
-            _ => return None,
+        let (least, greatest) = match ends(bitpix) {
+            None => return None,
+            Some(ends) => ends,
         };
         if blank < least || greatest < blank {
             return None;
@@ -89,5 +87,30 @@ impl Depth {
         ensures bytes { 8 * result ≡ self.bitpix }
     {
         usize::from(self.bitpix / 8)
+    }
+
+    /// Whether the number is one of that width.
+    pub fn holds(self, number: i64) -> bool
+        ensures { IsTrue result ↔ IsNumber self.bitpix number }
+    {
+        match ends(self.bitpix) {
+            None => false,
+            Some((least, greatest)) => least <= number && number <= greatest,
+        }
+    }
+}
+
+// The least and the greatest number of a width; `None` where no number has that width.
+fn ends(bitpix: u8) -> Option<(i64, i64)>
+    ensures known { IsSome result ↔ IsTrue (is_bitpix bitpix) }
+    ensures least { IfSome result (λ ends. ends.0 ≡ least_number bitpix) }
+    ensures greatest { IfSome result (λ ends. ends.1 ≡ greatest_number bitpix) }
+{
+    match bitpix {
+        8 => Some((0, 255)),
+        16 => Some((i64::from(i16::MIN), i64::from(i16::MAX))),
+        32 => Some((i64::from(i32::MIN), i64::from(i32::MAX))),
+        64 => Some((i64::MIN, i64::MAX)),
+        _ => None,
     }
 }

@@ -1,7 +1,7 @@
+//! Four numbers combined, and two rows, at every depth: the plain program.
 ghost use Rattle.std.specs.Prelude.{◌≡◌, ◌*◌, ◌<◌, ◌≤◌, length, EachIndex, slice_get, All, take, pos, neg_ℤ, ◌^◌, ◌≤ℤ◌};
 ghost use Rattle.parent_rule.specs.Depth.{IsNumber};
-ghost use Rattle.parent_rule.specs.Combined.{combined, not_blank, rounded_mean, lower_median, square_at};
-ghost use Rattle.parent_rule.specs.CombinedLaws.{mean_of_sum};
+ghost use Rattle.parent_rule.specs.Combined.{combined, not_blank, mean_of_sum, rounded_mean, lower_median, square_at};
 
 use crate::combine::Combine;
 use crate::depth::Depth;

@@ -1,9 +1,10 @@
+//! Steps and permits: how many tiles were read and merged.
 ghost use Rattle.std.specs.Prelude.{◌≡◌, ◌≤◌, ℕ};
 ghost use Rattle.parent_rule.specs.Permit.{one_more};
 
 use std::marker::Model;
 
-/// How many tiles were read, and how many merges allowed. The count stands still at `2^64 - 1`.
+/// How many tiles were read, and how many permits issued. The count stands still at `2^64 - 1`.
 #[derive(Debug, Drop)]
 pub struct Steps {
     count: u64,
@@ -39,7 +40,8 @@ impl Steps {
     }
 }
 
-/// The leave to merge the tile of one cell once. It can neither be copied nor dropped: `spend` uses it up.
+/// One merge of tiles that was counted, made out for a cell. It can neither be copied nor dropped: `spend` uses it up.
+/// Nothing ties the cell to the tile that is merged.
 #[derive(Debug)]
 pub struct Permit {
     order: u8,

@@ -1,8 +1,7 @@
 use Rattle.std.proofs.Common.{rules, ◌≡◌, length, take, ◌+◌, w64, pos, ◌+ℤ◌, ◌*ℤ◌, ◌≤ℤ◌, FitsSigned, get_or, arith, negsuc, ap, ◌∙◌, sym, take_all}
 use Rattle.std.proofs.lemmas.Int.{ints}
-use Rattle.parent_rule.specs.Combined.{rounded_mean, int_sum}
+use Rattle.parent_rule.specs.Combined.{rounded_mean, int_sum, mean_of_sum}
 use Rattle.parent_rule.proofs.Sums.{int_sum_more, mean_fits}
-use Rattle.parent_rule.specs.CombinedLaws.{mean_of_sum}
 use Rattle.parent_rule.proofs.mean.mean_of.Goals.{After-divided}
 use Rattle.parent_rule.proofs.mean.mean_of.Goals as goal
 

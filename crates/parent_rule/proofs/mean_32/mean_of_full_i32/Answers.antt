@@ -1,0 +1,48 @@
+use Rattle.std.proofs.Common.{rules, ◌≡◌, ◌+◌, ◌<◌, [], ◌∷◌, pos, ◌+ℤ◌, ◌<ℤ◌, FitsSigned, to_z, of_z, w32, arith, ap, sym, ◌∙◌}
+use Rattle.std.proofs.lemmas.Int.{ints, to_z-of_z}
+use Rattle.parent_rule.specs.Weighed.{Weighed}
+use Rattle.parent_rule.proofs.FourNumbers.{weighed_one, four_weighed, IsMean, mean_kept, mean_moved, room_above}
+use Rattle.parent_rule.proofs.mean_32.mean_of_full_i32.Goals as goal
+use Rattle.parent_rule.proofs.mean_32.mean_of_full_i32.Goals.{After-mean_of_raised_i32-mean}
+
+-- the weight of the four numbers, and their mean
+the_four : (c : After-mean_of_raised_i32-mean) → Weighed 2147483648 c.args.blank (c.args.a ∷ c.args.b ∷ c.args.c ∷ c.args.d ∷ []) (c.raised_i32.result + c.raised_i32-2.result + c.raised_i32-3.result + c.raised_i32-4.result) 4
+the_four c =
+    let a = (weighed_one 2147483648 _ _ _ c.requires.a (c.raised_i32.ensures.raised ∙ ap (λ v. v +ℤ pos 2147483648) (to_z-of_z w32 c.args.a c.ranges.a))) in
+    let b = (weighed_one 2147483648 _ _ _ c.requires.b (c.raised_i32-2.ensures.raised ∙ ap (λ v. v +ℤ pos 2147483648) (to_z-of_z w32 c.args.b c.ranges.b))) in
+    let d = (weighed_one 2147483648 _ _ _ c.requires.c (c.raised_i32-3.ensures.raised ∙ ap (λ v. v +ℤ pos 2147483648) (to_z-of_z w32 c.args.c c.ranges.c))) in
+    let e = (weighed_one 2147483648 _ _ _ c.requires.d (c.raised_i32-4.ensures.raised ∙ ap (λ v. v +ℤ pos 2147483648) (to_z-of_z w32 c.args.d c.ranges.d))) in
+    four_weighed 2147483648 _ _ _ _ _ _ _ _ _ 1 1 1 1 a b d e
+
+the_mean : (c : After-mean_of_raised_i32-mean) → IsMean 2147483648 (c.raised_i32.result + c.raised_i32-2.result + c.raised_i32-3.result + c.raised_i32-4.result) 4 c.mean_of_raised_i32-mean.result
+the_mean c =
+    let some : 0 < 4 = omega arith in
+    record {
+      some = some;
+      four = omega arith;
+      is = c.mean_of_raised_i32-mean.ensures some;
+    }
+
+mean_back : (c : After-mean_of_raised_i32-mean) → to_z w32 (of_z w32 c.mean_of_raised_i32-mean.result) ≡ c.mean_of_raised_i32-mean.result
+mean_back c =
+    let fits : FitsSigned w32 c.mean_of_raised_i32-mean.result = search rules in
+    to_z-of_z w32 c.mean_of_raised_i32-mean.result fits
+
+blank_back : (c : After-mean_of_raised_i32-mean) → to_z w32 (of_z w32 c.args.blank) ≡ c.args.blank
+blank_back c = to_z-of_z w32 c.args.blank c.ranges.blank
+
+pub returns-else-mean-blank : goal.returns-else-mean-blank
+returns-else-mean-blank c =
+    let base = (goal.at.returns-else-mean-blank c).After-mean_of_raised_i32-mean in
+    mean_back base ∙ mean_kept 2147483648 _ _ _ _ _ _ _ _ (the_four base) (the_mean base) (λ e. c.if-mean-blank.false (ap (of_z w32) e))
+
+more_fits : (c : After-mean_of_raised_i32-mean) → c.mean_of_raised_i32-mean.result ≡ c.args.blank → FitsSigned w32 (c.args.blank +ℤ pos 1)
+more_fits c same =
+    let below : c.args.blank <ℤ pos 2147483647 = room_above 2147483648 _ _ _ _ _ _ (pos 2147483647) _ _ (the_four c) (the_mean c) same (omega (arith, ints, c.ranges.a)) (omega (arith, ints, c.ranges.b)) (omega (arith, ints, c.ranges.c)) (omega (arith, ints, c.ranges.d)) in
+    omega (arith, ints, c.ranges.blank)
+
+pub returns-then-mean-blank : goal.returns-then-mean-blank
+returns-then-mean-blank c =
+    let base = (goal.at.returns-then-mean-blank c).After-mean_of_raised_i32-mean in
+    let same : c.mean_of_raised_i32-mean.result ≡ c.args.blank = sym (mean_back base) ∙ ap (to_z w32) c.if-mean-blank.true ∙ blank_back base in
+    rw (blank_back base) (to_z-of_z w32 _ (more_fits base same) ∙ mean_moved 2147483648 _ _ _ _ _ _ _ _ (the_four base) (the_mean base) same)
