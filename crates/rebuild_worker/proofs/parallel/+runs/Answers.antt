@@ -1,0 +1,27 @@
+use Rattle.std.proofs.Common.{◌≡◌, ◌∙◌, ap, take, drop, Vec, Global}
+use Rattle.rebuild_worker.specs.declared.named.Named.{Named}
+use Rattle.std.specs.Prelude.{All}
+use Rattle.std.proofs.lemmas.Result.{IfOk-at_ok, IfOk-weaker}
+use Rattle.rebuild_worker.specs.Level.{merges_of, ShowsItsCell}
+use Rattle.rebuild_worker.specs.Shown.{all_shown}
+use Rattle.rebuild_worker.proofs.Levels.{two_runs, all_of_two}
+use Rattle.rebuild_worker.proofs.parallel.+runs.Goals as goal
+
+pub returns-clause-merges : goal.returns-clause-merges
+returns-clause-merges g t c =
+    let front = IfOk-at_ok (λ level. (all_shown level.items ≡ merges_of c.args.shape c.args.children.now c.split_off.new.self)
+    × All (ShowsItsCell c.args.shape c.args.children.now) (all_shown level.items)) c.in_ok-first.was c.join-last.ensures.second in
+    let back = IfOk-at_ok (λ level. (all_shown level.items ≡ merges_of c.args.shape c.args.children.now c.in_ok-rest.rest)
+    × All (ShowsItsCell c.args.shape c.args.children.now) (all_shown level.items)) c.in_ok-last.was c.join-last.ensures.first in
+    let front_is : c.split_off.new.self ≡ take c.front_of-at.result c.args.todo = c.in_ok-rest.ensures.front in
+    let back_is : c.in_ok-rest.rest ≡ drop c.front_of-at.result c.args.todo = c.in_ok-rest.ensures.back in
+    IfOk-weaker _ _ _ (λ (all : Vec Named Global) is. two_runs c.args.shape c.args.children.now c.in_ok-first.field-0.items c.in_ok-last.field-0.items all.items c.args.todo c.front_of-at.result is
+    (front.0 ∙ ap (merges_of c.args.shape c.args.children.now) c.in_ok-rest.ensures.front) (back.0 ∙ ap (merges_of c.args.shape c.args.children.now) back_is)) c.joined.ensures
+
+pub returns-clause-pixels : goal.returns-clause-pixels
+returns-clause-pixels g t c =
+    let front = IfOk-at_ok (λ level. (all_shown level.items ≡ merges_of c.args.shape c.args.children.now c.split_off.new.self)
+    × All (ShowsItsCell c.args.shape c.args.children.now) (all_shown level.items)) c.in_ok-first.was c.join-last.ensures.second in
+    let back = IfOk-at_ok (λ level. (all_shown level.items ≡ merges_of c.args.shape c.args.children.now c.in_ok-rest.rest)
+    × All (ShowsItsCell c.args.shape c.args.children.now) (all_shown level.items)) c.in_ok-last.was c.join-last.ensures.first in
+    IfOk-weaker _ _ _ (λ (all : Vec Named Global) is. all_of_two c.args.shape c.args.children.now c.in_ok-first.field-0.items c.in_ok-last.field-0.items all.items is front.1 back.1) c.joined.ensures

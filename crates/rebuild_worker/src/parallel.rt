@@ -1,0 +1,122 @@
+ghost use Rattle.std.specs.Prelude.{◌≡◌, ◌+◌, ◌*◌, ◌<◌, ◌≤◌, ◌^◌, ◌++◌, IfOk, All};
+ghost use Rattle.std.specs.Thread.{IsSync};
+ghost use Rattle.rebuild_worker.specs.Level.{merges_of, IsAboveLeaves, HaveShape, ShowsItsCell};
+ghost use Rattle.rebuild_worker.specs.Shown.{all_shown};
+
+use crate::named::Named;
+use crate::permits::Permits;
+use crate::serial::merge_all;
+use leaf_store::Store;
+use parent_rule::Permit;
+use pyramid_model::Shape;
+use std::alloc::{AllocError, Global};
+use std::thread::{Threads, available_parallelism, join};
+use survey_link::Gate;
+use tile_pixels::Tile;
+
+// A worker beyond the second has at least this many pixels to make: it takes about as long as four starts of a thread.
+const PIXELS_OF_A_WORKER: usize = 65536;
+
+/// The same list as `level_serial`, made by as many workers as the machine has processors. Each has a run of the permits
+/// to itself, and a worker that can't be started has its work done by the caller. A single merge is made by the caller;
+/// two have a worker each, since a gate may hold one of them for long, and more workers come only where they repay.
+///
+/// # Errors
+///
+/// `AllocError` where there is no memory for the tiles and their lists.
+pub fn level_parallel<R: Threads + Sync, G: Gate + Sync>(
+    rt: &R,
+    alloc: Global,
+    gate: &G,
+    shape: Shape,
+    children: &Store<Tile>,
+    todo: Vec<Permit>,
+) -> Result<Vec<Named>, AllocError>
+    requires cells { All (IsAboveLeaves shape) todo.items }
+    requires children { HaveShape shape children.now }
+    ensures merges { IfOk result (λ level. all_shown level.items ≡ merges_of shape children.now todo.items) }
+    ensures pixels { IfOk result (λ level. All (ShowsItsCell shape children.now) (all_shown level.items)) }
+{
+    let workers = workers_for(rt, todo.len(), shape.n);
+    merge_by(
+        rt,
+        alloc,
+        gate,
+        shape,
+        children,
+        Permits::new(todo),
+        workers,
+    )
+}
+
+// How many workers a number of merges repays.
+fn workers_for(rt: &impl Threads, merges: usize, n: u8) -> usize
+    requires { n ≤ 9 }
+{
+    if merges < 2 {
+        return 1;
+    }
+    let processors = match available_parallelism(rt) {
+        Ok(count) => count.get(),
+        Err(_) => 2,
+    };
+    let pixels = merges.saturating_mul(1 << (2 * n));
+    let repaid = pixels / PIXELS_OF_A_WORKER;
+    processors.min(repaid).max(2).min(merges)
+}
+
+// The workers are halved at each step, and the back half goes to a new thread, so the stack grows as the logarithm of their
+// number.
+#[cycle(runs)]
+fn merge_by<R: Threads + Sync, G: Gate + Sync>(
+    rt: &R,
+    alloc: Global,
+    gate: &G,
+    shape: Shape,
+    children: &Store<Tile>,
+    mut todo: Permits,
+    workers: usize,
+) -> Result<Vec<Named>, AllocError>
+    requires cells { All (IsAboveLeaves shape) todo }
+    requires children { HaveShape shape children.now }
+    ensures merges { IfOk result (λ level. all_shown level.items ≡ merges_of shape children.now todo) }
+    ensures pixels { IfOk result (λ level. All (ShowsItsCell shape children.now) (all_shown level.items)) }
+{
+    if workers < 2 {
+        return merge_all(alloc, gate, shape, children, todo);
+    }
+    let near = workers / 2;
+    let far = workers - near;
+    let at = front_of(todo.len(), near, far);
+    let rest = todo.split_off(at)?;
+    let front = move || -> Result<Vec<Named>, AllocError>
+        requires { IsSync R.row × IsSync G.row × All (IsAboveLeaves shape) todo × HaveShape shape children.now }
+        ensures { IfOk result (λ level. (all_shown level.items ≡ merges_of shape children.entry.now todo)
+            × All (ShowsItsCell shape children.entry.now) (all_shown level.items)) }
+    { merge_by(rt, alloc, gate, shape, children, todo, near) };
+    let back = move || -> Result<Vec<Named>, AllocError>
+        requires { IsSync R.row × IsSync G.row × All (IsAboveLeaves shape) rest × HaveShape shape children.now }
+        ensures { IfOk result (λ level. (all_shown level.items ≡ merges_of shape children.entry.now rest)
+            × All (ShowsItsCell shape children.entry.now) (all_shown level.items)) }
+    { merge_by(rt, alloc, gate, shape, children, rest, far) };
+    let (last, first) = join(rt, back, front);
+    joined(first?, last?)
+}
+
+// How many of some permits the first `near` of `near + far` workers make.
+fn front_of(permits: usize, near: usize, far: usize) -> usize
+    requires workers { near + far < 2 ^ 64 }
+    requires some { 0 < near + far }
+    ensures { result ≤ permits }
+{
+    let workers = near + far;
+    permits / workers * near + (permits % workers).min(near)
+}
+
+// The front with the back behind it.
+fn joined(mut front: Vec<Named>, mut back: Vec<Named>) -> Result<Vec<Named>, AllocError>
+    ensures { IfOk result (λ level. level.items ≡ front.items ++ back.items) }
+{
+    front.append(&mut back)?;
+    Ok(front)
+}
