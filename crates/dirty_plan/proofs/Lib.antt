@@ -1,0 +1,5 @@
+pub mod Ascending
+pub mod Select
+pub mod Climbing
+pub mod LawLemmas
+pub mod Orders

@@ -1,0 +1,113 @@
+//! Worked plans.
+ghost use Rattle.std.specs.Prelude.{◌<◌, All, IsTrue};
+ghost use Rattle.std.specs.List.Sorted.{IsStrictlyIncreasing};
+ghost use Rattle.healpix_nested.specs.Cells.{cell_count};
+
+use super::*;
+use healpix_nested::cells;
+use parent_rule::{Permit, Steps};
+use std::process::Abort;
+use std::test::Fail;
+
+// An order and its cells.
+type Order<'a> = (u8, &'a [u64]);
+
+// Whether each number is below the next.
+fn ascend(numbers: &[u64]) -> bool
+    ensures { IsTrue result → IsStrictlyIncreasing numbers.now }
+{
+    for i in 1..numbers.len() {
+        if numbers[i - 1] >= numbers[i] {
+            return false;
+        }
+    }
+    true
+}
+
+// Whether all are cells of the order.
+fn are_cells(order: u8, numbers: &[u64]) -> bool
+    ensures { IsTrue result → All (λ cell. cell < cell_count order) numbers.now }
+{
+    if order > 20 {
+        return false;
+    }
+    let end = cells(order);
+    numbers.iter().all(|number| *number < end)
+}
+
+// Whether the permits are those of these cells; it uses them up.
+fn are_of(order: u8, cells: &[u64], mut permits: Vec<Permit>) -> bool {
+    let mut same = permits.len() == cells.len();
+    while let Some(permit) = permits.pop() {
+        let wanted = cells.get(permits.len()).copied();
+        same = same && permit.order() == order && wanted == Some(permit.npix());
+        permit.spend();
+    }
+    permits.destroy_empty();
+    same
+}
+
+// Whether these permits come next.
+fn next_is(list: &mut Worklist, (order, cells): Order<'_>) -> bool {
+    match list.take() {
+        Some((found, permits)) => are_of(order, cells, permits) && found == order,
+        None => false,
+    }
+}
+
+// Whether all orders were taken.
+fn is_taken(list: &mut Worklist) -> bool {
+    match list.take() {
+        Some((order, permits)) => {
+            are_of(order, &[], permits);
+            false
+        }
+        None => true,
+    }
+}
+
+#[test]
+fn plans(rt: HostRuntime) -> Result<(), Fail> {
+    let cases: [(u8, u8, &[u64], &[Order<'_>], u64); 6] = [
+        (4, 3, &[0, 1, 4, 3071], &[(3, &[0, 1, 767])], 3),
+        (5, 3, &[0, 16], &[(4, &[0, 4]), (3, &[0, 1])], 4),
+        (5, 3, &[], &[(4, &[]), (3, &[])], 0),
+        (3, 3, &[0, 5], &[], 0),
+        (4, 2, &[0, 15, 16], &[(3, &[0, 3, 4]), (2, &[0, 1])], 5),
+        (
+            3,
+            0,
+            &[0, 63, 767],
+            &[(2, &[0, 15, 191]), (1, &[0, 3, 47]), (0, &[0, 11])],
+            8,
+        ),
+    ];
+    for (top, low, touched, wanted, work) in cases {
+        assert!(rt; low <= 3 && 3 <= top && top <= 11);
+        assert!(rt; ascend(touched));
+        assert!(rt; are_cells(top, touched));
+        let mut steps = Steps::new();
+        let mut list = plan(rt.alloc(), top, low, touched, &mut steps)?;
+        assert_eq!(rt; steps.count(), work, "{touched:?} of order {top}");
+        for order in wanted {
+            assert!(rt;
+                next_is(&mut list, *order),
+                "{touched:?} of order {top}: {order:?}"
+            );
+        }
+        assert!(rt; is_taken(&mut list));
+    }
+    Ok(())
+}
+
+#[test]
+fn a_list_may_be_let_go(rt: HostRuntime) -> Result<(), Fail> {
+    let touched: &[u64] = &[7];
+    assert!(rt; ascend(touched));
+    assert!(rt; are_cells(11, touched));
+    let mut steps = Steps::new();
+    let mut list = plan(rt.alloc(), 11, 0, touched, &mut steps)?;
+    assert!(rt; next_is(&mut list, (10, &[1])));
+    assert_eq!(rt; steps.count(), 11);
+    Ok(())
+}
