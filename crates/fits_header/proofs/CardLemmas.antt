@@ -3,11 +3,10 @@ use Rattle.std.proofs.Common.{◌≡◌, ℕ, zero, suc, ◌+◌, ◌-◌, ◌*�
 use Rattle.std.specs.Prelude.{nat_lt, position}
 use Rattle.std.specs.List.{list_all, position_or_len, range_with_len}
 use Rattle.std.specs.Simd.{first_chunks}
-use Rattle.std.proofs.lemmas.Bool.{cases_lt}
+use Rattle.std.proofs.lemmas.Bool.{and_parts, cases_lt}
 use Rattle.std.proofs.lemmas.Bool.Decides.{nat_tests}
 use Rattle.std.proofs.lemmas.List.{drop-drop, take_all}
 use Rattle.fits_header.specs.Cards.{card, cards}
-use Rattle.fits_header.proofs.NumberLemmas.{both}
 
 card-next : (text : List ℕ) (k : ℕ) → take 80 (drop (80 * k) text) ≡ card text (k + 1)
 card-next text k =
@@ -44,5 +43,5 @@ position-none p xs all = let e : position_or_len (λ x. not (p x)) xs ≡ length
     passed : {A : Type 0} (p : A → Bool) (xs : List A) → list_all p xs ≡ true → position_or_len (λ x. not (p x)) xs ≡ length xs
     passed p [] all = refl
     passed p (x ∷ xs) all =
-        let parts = both (p x) (list_all p xs) all in
+        let parts = and_parts (p x) (list_all p xs) all in
         rw (parts.0, passed p xs parts.1) (omega arith)

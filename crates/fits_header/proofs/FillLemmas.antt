@@ -5,8 +5,8 @@ use Rattle.std.specs.List.{list_all}
 use Rattle.std.proofs.lemmas.Bool.Decides.{nat_tests}
 use Rattle.std.proofs.Math.Seq.{take-append-add, drop-append-add}
 use Rattle.std.proofs.lemmas.List.{drop-drop, take-replicate, drop-replicate, append-nil, length-replicate}
+use Rattle.std.proofs.lemmas.Bool.{and_parts}
 use Rattle.fits_header.specs.WrittenCards.{is_word, is_word_byte, filled, set_right, keyword_columns, value_card}
-use Rattle.fits_header.proofs.NumberLemmas.{both}
 
 pub length-filled : (n : ℕ) (xs : List ℕ) → length xs ≤ n → length (filled n xs) ≡ n
 length-filled n xs short =
@@ -95,6 +95,6 @@ length-filled-append n xs ys short = length-append (filled n xs) ys ∙ ap (λ m
 
 pub word-short : (text : List ℕ) → is_word text ≡ true → length text ≤ 8
 word-short text word =
-    let parts = both (nat_le 1 (length text) && nat_le (length text) 8) (list_all is_word_byte text) word in
-    let bound = both (nat_le 1 (length text)) (nat_le (length text) 8) parts.0 in
+    let parts = and_parts (nat_le 1 (length text) && nat_le (length text) 8) (list_all is_word_byte text) word in
+    let bound = and_parts (nat_le 1 (length text)) (nat_le (length text) 8) parts.0 in
     grind (arith, nat_tests, bound.1)

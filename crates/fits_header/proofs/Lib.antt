@@ -1,4 +1,3 @@
-pub mod NumberLemmas
 pub mod CardLemmas
 pub mod ReadLemmas
 pub mod KeywordLemmas
@@ -8,6 +7,5 @@ pub mod OutcomeLemmas
 pub mod FillLemmas
 pub mod WriteLemmas
 pub mod MadeLemmas
-pub mod WholeLemmas
 pub mod ReadBackLemmas
 pub mod HeaderLemmas

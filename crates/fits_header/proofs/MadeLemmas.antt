@@ -8,12 +8,13 @@ use Rattle.std.proofs.lemmas.Int.{ints}
 use Rattle.std.proofs.lemmas.Fmt.{decimal_by_steps, decimal_nonempty, length-decimal-le}
 use Rattle.std.proofs.lemmas.List.{length-replicate}
 use Rattle.std.proofs.lemmas.List.Folds.{list_all-append}
+use Rattle.std.proofs.lemmas.Bool.{and_parts}
 use Rattle.decimal_scale.specs.Real.{DecimalNumber, IsNormal, real_text}
-use Rattle.fits_header.specs.Values.{ends_value, fits_64_bits}
+use Rattle.decimal_scale.specs.Whole.{fits_64_bits}
+use Rattle.fits_header.specs.Values.{ends_value}
 use Rattle.fits_header.specs.Reading.{is_text_byte}
 use Rattle.fits_header.specs.WrittenCards.{is_word, is_word_byte, filled, set_right, keyword_columns, value_card, text_card}
 use Rattle.fits_header.specs.Laws.{IsCard, MadeCardsAreCards}
-use Rattle.fits_header.proofs.NumberLemmas.{both}
 use Rattle.fits_header.proofs.FillLemmas.{length-filled, length-columns, word-short}
 
 -- ---- plain bytes
@@ -34,7 +35,7 @@ all-append p xs ys e f = list_all-append p xs ys ∙ ap (λ b. b && list_all p y
 all-weaker : (p q : ℕ → Bool) → ((b : ℕ) → p b ≡ true → q b ≡ true) → (xs : List ℕ) → list_all p xs ≡ true → list_all q xs ≡ true
 all-weaker p q weaker [] e = refl
 all-weaker p q weaker (x ∷ xs) e =
-    let parts = both (p x) (list_all p xs) e in
+    let parts = and_parts (p x) (list_all p xs) e in
     ap (λ b. b && list_all q xs) (weaker x parts.0) ∙ all-weaker p q weaker xs parts.1
 
 digit_plain : (d : ℕ) → d < 10 → is_plain (48 + d) ≡ true
@@ -103,14 +104,14 @@ logical-plain false = record { some = omega arith; short = omega arith; bytes = 
 -- ---- cards
 
 plain_text : (b : ℕ) → is_plain b ≡ true → is_text_byte b ≡ true
-plain_text b e = (both (is_text_byte b) (not (ends_value b)) e).0
+plain_text b e = (and_parts (is_text_byte b) (not (ends_value b)) e).0
 
 word_text : (b : ℕ) → is_word_byte b ≡ true → is_text_byte b ≡ true
 word_text b e = grind (arith, nat_tests)
 
 word-text : (text : List ℕ) → is_word text ≡ true → list_all is_text_byte text ≡ true
 word-text text word =
-    all-weaker is_word_byte is_text_byte word_text text (both (nat_le 1 (length text) && nat_le (length text) 8) (list_all is_word_byte text) word).1
+    all-weaker is_word_byte is_text_byte word_text text (and_parts (nat_le 1 (length text) && nat_le (length text) 8) (list_all is_word_byte text) word).1
 
 spaces-text : (n : ℕ) → list_all is_text_byte (replicate n 32) ≡ true
 spaces-text zero = refl

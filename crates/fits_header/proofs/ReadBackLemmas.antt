@@ -6,21 +6,21 @@ use Rattle.std.specs.List.{list_all, position_or_len, prefix_len}
 use Rattle.std.specs.Option.{option_and_then}
 use Rattle.std.specs.Result.{result_ok}
 use Rattle.std.proofs.lemmas.List.{take_at, drop_at}
+use Rattle.std.proofs.lemmas.Bool.{and_parts}
 use Rattle.decimal_scale.specs.Real.{DecimalNumber, real_text, read_real}
-use Rattle.decimal_scale.specs.Laws.{WrittenIsRead}
+use Rattle.decimal_scale.specs.Laws.{WrittenIsRead, WholeIsRead}
+use Rattle.decimal_scale.specs.Whole.{whole_value}
 use Rattle.fits_header.specs.Laws.{WrittenValuesAreRead}
-use Rattle.fits_header.specs.Values.{is_space, ends_value, without_leading_spaces, value_field, field_text, value_text, logical, whole, real}
+use Rattle.fits_header.specs.Values.{is_space, ends_value, without_leading_spaces, value_field, field_text, value_text, logical, real}
 use Rattle.fits_header.specs.Reading.{is_text_byte}
 use Rattle.fits_header.specs.WrittenCards.{is_word, filled, set_right, keyword_columns, value_card}
-use Rattle.fits_header.proofs.NumberLemmas.{both}
 use Rattle.fits_header.proofs.FillLemmas.{length-columns, word-short}
 use Rattle.fits_header.proofs.MadeLemmas.{is_plain, IsPlain, logical-plain, integer-plain, real-plain}
-use Rattle.fits_header.proofs.WholeLemmas.{whole-signed}
 
 -- ---- bytes
 
 plain_stays : (b : ℕ) → is_plain b ≡ true → ends_value b ≡ false
-plain_stays b e = by (ends_value b) (both (is_text_byte b) (not (ends_value b)) e).1
+plain_stays b e = by (ends_value b) (and_parts (is_text_byte b) (not (ends_value b)) e).1
   where
     by : (c : Bool) → not c ≡ true → c ≡ false
     by true h = absurd cc
@@ -53,7 +53,7 @@ ends-at : (text : List ℕ) (n : ℕ) → list_all is_plain text ≡ true → po
 ends-at [] zero e = refl
 ends-at [] (suc n) e = refl
 ends-at (b ∷ text) n e =
-    let parts = both (is_plain b) (list_all is_plain text) e in
+    let parts = and_parts (is_plain b) (list_all is_plain text) e in
     let next : 1 + length text ≡ suc (length text) = omega arith in
     rw (plain_stays b parts.0, ends-at text n parts.1) next
 
@@ -65,7 +65,7 @@ field-of : (keyword text : List ℕ) (before after : ℕ) → length keyword ≡
     → without_leading_spaces (drop 10 ((keyword ++ (replicate before 32 ++ text)) ++ replicate after 32)) ≡ text ++ replicate after 32
 field-of keyword [] before after ten some e = absurd (omega arith)
 field-of keyword (b ∷ text) before after ten some e =
-    let parts = both (is_plain b) (list_all is_plain text) e in
+    let parts = and_parts (is_plain b) (list_all is_plain text) e in
     ap (λ xs. without_leading_spaces (drop 10 xs)) (append_assoc keyword (replicate before 32 ++ b ∷ text) (replicate after 32))
     ∙ ap without_leading_spaces (drop_at keyword ((replicate before 32 ++ b ∷ text) ++ replicate after 32) 10 ten)
     ∙ ap without_leading_spaces (append_assoc (replicate before 32) (b ∷ text) (replicate after 32))
@@ -99,12 +99,12 @@ real-text : (v : DecimalNumber) → read_real (real_text v) ≡ Ok v → real (r
 unfolding real
 real-text v e = ap result_ok e
 
-pub written-values : WrittenIsRead → WrittenValuesAreRead
-written-values reals = record {
+pub written-values : WrittenIsRead → WholeIsRead → WrittenValuesAreRead
+written-values reals wholes = record {
   of_logical = λ keyword v word.
       ap (option_and_then logical) (written-text keyword (cond v (codes "T") (codes "F")) word (logical-plain v)) ∙ logical-text v;
   of_integer = λ keyword v word fits.
-      ap (option_and_then whole) (written-text keyword (signed_decimal v) word (integer-plain v fits)) ∙ whole-signed v fits;
+      ap (option_and_then whole_value) (written-text keyword (signed_decimal v) word (integer-plain v fits)) ∙ wholes v fits;
   of_real = λ keyword v word normal.
       ap (option_and_then real) (written-text keyword (real_text v) word (real-plain v normal)) ∙ real-text v (reals v normal);
 }

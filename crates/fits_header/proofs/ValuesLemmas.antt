@@ -4,7 +4,8 @@ use Rattle.std.specs.Prelude.{is_some, slice_get}
 use Rattle.std.specs.List.{cons_option, filter_map, list_any}
 use Rattle.std.specs.Option.{option_and_then, option_map_or, option_or}
 use Rattle.std.specs.Str.{bytes_eq}
-use Rattle.fits_header.specs.Values.{keywords, columns, is_named, value_text, logical, whole, real, takes, has_value}
+use Rattle.decimal_scale.specs.Whole.{whole_value}
+use Rattle.fits_header.specs.Values.{keywords, columns, is_named, value_text, logical, real, takes, has_value}
 use Rattle.fits_header.specs.Reading.{value_in, value_of, values, is_bad}
 use Rattle.fits_header.specs.Scan.{has_keyword, with_value}
 use Rattle.fits_header.specs.declared.header.Header.{Header}
@@ -56,13 +57,13 @@ unfolding values
 values-skipped first_simple cards card skipped =
     rw (
       value_of-skipped logical Simple cards card (skipped Simple),
-      value_of-skipped whole Bitpix cards card (skipped Bitpix),
-      value_of-skipped whole Naxis cards card (skipped Naxis),
-      value_of-skipped whole Naxis1 cards card (skipped Naxis1),
-      value_of-skipped whole Naxis2 cards card (skipped Naxis2),
+      value_of-skipped whole_value Bitpix cards card (skipped Bitpix),
+      value_of-skipped whole_value Naxis cards card (skipped Naxis),
+      value_of-skipped whole_value Naxis1 cards card (skipped Naxis1),
+      value_of-skipped whole_value Naxis2 cards card (skipped Naxis2),
       value_of-skipped real Bscale cards card (skipped Bscale),
       value_of-skipped real Bzero cards card (skipped Bzero),
-      value_of-skipped whole Blank cards card (skipped Blank),
+      value_of-skipped whole_value Blank cards card (skipped Blank),
     ) refl
 
 -- the value of a keyword, with that of the text where it is the card's own
@@ -73,13 +74,13 @@ values-chosen : (own : Keyword) (text : List ℕ) (first_simple : Bool) (cards :
 values-chosen own text first_simple cards = record {
   first_simple = first_simple;
   simple = chosen own text logical Simple cards;
-  bitpix = chosen own text whole Bitpix cards;
-  naxis = chosen own text whole Naxis cards;
-  naxis1 = chosen own text whole Naxis1 cards;
-  naxis2 = chosen own text whole Naxis2 cards;
+  bitpix = chosen own text whole_value Bitpix cards;
+  naxis = chosen own text whole_value Naxis cards;
+  naxis1 = chosen own text whole_value Naxis1 cards;
+  naxis2 = chosen own text whole_value Naxis2 cards;
   bscale = chosen own text real Bscale cards;
   bzero = chosen own text real Bzero cards;
-  blank = chosen own text whole Blank cards;
+  blank = chosen own text whole_value Blank cards;
 }
 
 chosen-is : (own : Keyword) (text : List ℕ) (first_simple : Bool) (cards : List (List ℕ)) → values-chosen own text first_simple cards ≡ with_value own text (values first_simple cards)
@@ -104,13 +105,13 @@ unfolding values values-chosen
 values-more own first_simple cards card text named e =
     rw (
       more logical Simple own cards card text named e,
-      more whole Bitpix own cards card text named e,
-      more whole Naxis own cards card text named e,
-      more whole Naxis1 own cards card text named e,
-      more whole Naxis2 own cards card text named e,
+      more whole_value Bitpix own cards card text named e,
+      more whole_value Naxis own cards card text named e,
+      more whole_value Naxis1 own cards card text named e,
+      more whole_value Naxis2 own cards card text named e,
       more real Bscale own cards card text named e,
       more real Bzero own cards card text named e,
-      more whole Blank own cards card text named e,
+      more whole_value Blank own cards card text named e,
     ) refl
 
 pub values-named : (own : Keyword) (first_simple : Bool) (cards : List (List ℕ)) (card text : List ℕ) → is_named own card ≡ true → value_text card ≡ Some text
@@ -161,10 +162,10 @@ tells kind keyword same card good = by (is_named keyword card) refl
 pub has-named : (keyword : Keyword) (first_simple : Bool) (cards : List (List ℕ)) → list_any is_bad cards ≡ false → has_keyword keyword (values first_simple cards) ≡ list_any (is_named keyword) cards
 unfolding values
 has-named Simple first_simple cards good = found (value_in logical Simple) (is_named Simple) (tells logical Simple (λ _. refl)) cards good
-has-named Bitpix first_simple cards good = found (value_in whole Bitpix) (is_named Bitpix) (tells whole Bitpix (λ _. refl)) cards good
-has-named Naxis first_simple cards good = found (value_in whole Naxis) (is_named Naxis) (tells whole Naxis (λ _. refl)) cards good
-has-named Naxis1 first_simple cards good = found (value_in whole Naxis1) (is_named Naxis1) (tells whole Naxis1 (λ _. refl)) cards good
-has-named Naxis2 first_simple cards good = found (value_in whole Naxis2) (is_named Naxis2) (tells whole Naxis2 (λ _. refl)) cards good
+has-named Bitpix first_simple cards good = found (value_in whole_value Bitpix) (is_named Bitpix) (tells whole_value Bitpix (λ _. refl)) cards good
+has-named Naxis first_simple cards good = found (value_in whole_value Naxis) (is_named Naxis) (tells whole_value Naxis (λ _. refl)) cards good
+has-named Naxis1 first_simple cards good = found (value_in whole_value Naxis1) (is_named Naxis1) (tells whole_value Naxis1 (λ _. refl)) cards good
+has-named Naxis2 first_simple cards good = found (value_in whole_value Naxis2) (is_named Naxis2) (tells whole_value Naxis2 (λ _. refl)) cards good
 has-named Bscale first_simple cards good = found (value_in real Bscale) (is_named Bscale) (tells real Bscale (λ _. refl)) cards good
 has-named Bzero first_simple cards good = found (value_in real Bzero) (is_named Bzero) (tells real Bzero (λ _. refl)) cards good
-has-named Blank first_simple cards good = found (value_in whole Blank) (is_named Blank) (tells whole Blank (λ _. refl)) cards good
+has-named Blank first_simple cards good = found (value_in whole_value Blank) (is_named Blank) (tells whole_value Blank (λ _. refl)) cards good

@@ -3,8 +3,9 @@ use Rattle.std.specs.Prelude.{◌≡◌, ℕ, ◌<◌, Bool, true, false, ℤ, L
 use Rattle.std.specs.List.{AllByRecursion, list_all}
 use Rattle.std.specs.Option.{option_and_then, option_map_or, option_or}
 use Rattle.decimal_scale.specs.Real.{DecimalNumber, IsNormal}
+use Rattle.decimal_scale.specs.Whole.{fits_64_bits, whole_value}
 use Rattle.fits_header.specs.Cards.{header_length, is_end_card}
-use Rattle.fits_header.specs.Values.{value_text, fits_64_bits, logical, whole, real}
+use Rattle.fits_header.specs.Values.{value_text, logical, real}
 use Rattle.fits_header.specs.Reading.{header_of, is_text_byte, read_header, value_fault, twice_fault}
 use Rattle.fits_header.specs.WrittenCards.{is_word, logical_card, integer_card, real_card, text_card, end_card}
 use Rattle.fits_header.specs.FitsFile.{header_text}
@@ -32,7 +33,7 @@ pub record MadeCardsAreCards : Type 0 where
 -- the value that is written is read again
 pub record WrittenValuesAreRead : Type 0 where
   pub of_logical : (keyword : List ℕ) (v : Bool) → is_word keyword ≡ true → option_and_then logical (value_text (logical_card keyword v)) ≡ Some v
-  pub of_integer : (keyword : List ℕ) (v : ℤ) → is_word keyword ≡ true → fits_64_bits v ≡ true → option_and_then whole (value_text (integer_card keyword v)) ≡ Some v
+  pub of_integer : (keyword : List ℕ) (v : ℤ) → is_word keyword ≡ true → fits_64_bits v ≡ true → option_and_then whole_value (value_text (integer_card keyword v)) ≡ Some v
   pub of_real : (keyword : List ℕ) (v : DecimalNumber) → is_word keyword ≡ true → IsNormal v → option_and_then real (value_text (real_card keyword v)) ≡ Some v
 
 -- a header that is written is read by its cards, whatever follows it

@@ -3,8 +3,9 @@
 use Rattle.std.specs.Prelude.{ℕ, ◌+◌, ◌*◌, Bool, not, ◌&&◌, nat_le, nat_lt, if◌then◌else◌, List, [], length, take, position, find, Option, Some, None, is_none, unwrap_or, slice_get, slice_index_or, Result, Ok, Err}
 use Rattle.std.specs.List.{filter_map, list_any, range_with_len}
 use Rattle.std.specs.Option.{option_map, option_map_or, option_and_then, option_or}
+use Rattle.decimal_scale.specs.Whole.{whole_value}
 use Rattle.fits_header.specs.Cards.{cards, cards_before_end, header_length}
-use Rattle.fits_header.specs.Values.{keywords, is_named, value_text, logical, whole, real, has_value}
+use Rattle.fits_header.specs.Values.{keywords, is_named, value_text, logical, real, has_value}
 use Rattle.fits_header.specs.declared.fault.HeaderFault.{HeaderFault}
 use Rattle.fits_header.specs.declared.fault.HeaderFault.TheVariants.{Short, NotAscii, NoEnd, BadValue, Twice}
 use Rattle.fits_header.specs.declared.header.Header.{Header}
@@ -26,13 +27,13 @@ unfoldable pub values : Bool → List (List ℕ) → Header
 values first_simple cards = record {
   first_simple = first_simple;
   simple = value_of logical Simple cards;
-  bitpix = value_of whole Bitpix cards;
-  naxis = value_of whole Naxis cards;
-  naxis1 = value_of whole Naxis1 cards;
-  naxis2 = value_of whole Naxis2 cards;
+  bitpix = value_of whole_value Bitpix cards;
+  naxis = value_of whole_value Naxis cards;
+  naxis1 = value_of whole_value Naxis1 cards;
+  naxis2 = value_of whole_value Naxis2 cards;
   bscale = value_of real Bscale cards;
   bzero = value_of real Bzero cards;
-  blank = value_of whole Blank cards;
+  blank = value_of whole_value Blank cards;
 }
 
 -- card 1 is a named card SIMPLE

@@ -1,7 +1,8 @@
 -- What one pass over the cards of a header gives, and what it knows after some of them.
 use Rattle.std.specs.Prelude.{ℕ, Bool, List, None, is_some, Result, Ok, Err}
 use Rattle.std.specs.Option.{option_map_or, option_or}
-use Rattle.fits_header.specs.Values.{logical, whole, real}
+use Rattle.decimal_scale.specs.Whole.{whole_value}
+use Rattle.fits_header.specs.Values.{logical, real}
 use Rattle.fits_header.specs.Reading.{header_of, value_fault, twice_fault}
 use Rattle.fits_header.specs.declared.fault.HeaderFault.{HeaderFault}
 use Rattle.fits_header.specs.declared.header.Header.{Header}
@@ -40,10 +41,10 @@ has_keyword Blank header = is_some header.blank
 -- the header where the keyword has the value of the text, unless it had one
 abbrev pub with_value : Keyword → List ℕ → Header → Header
 with_value Simple text header = record header { simple = option_or header.simple (logical text) }
-with_value Bitpix text header = record header { bitpix = option_or header.bitpix (whole text) }
-with_value Naxis text header = record header { naxis = option_or header.naxis (whole text) }
-with_value Naxis1 text header = record header { naxis1 = option_or header.naxis1 (whole text) }
-with_value Naxis2 text header = record header { naxis2 = option_or header.naxis2 (whole text) }
+with_value Bitpix text header = record header { bitpix = option_or header.bitpix (whole_value text) }
+with_value Naxis text header = record header { naxis = option_or header.naxis (whole_value text) }
+with_value Naxis1 text header = record header { naxis1 = option_or header.naxis1 (whole_value text) }
+with_value Naxis2 text header = record header { naxis2 = option_or header.naxis2 (whole_value text) }
 with_value Bscale text header = record header { bscale = option_or header.bscale (real text) }
 with_value Bzero text header = record header { bzero = option_or header.bzero (real text) }
-with_value Blank text header = record header { blank = option_or header.blank (whole text) }
+with_value Blank text header = record header { blank = option_or header.blank (whole_value text) }

@@ -1,11 +1,11 @@
 -- Named cards and their values (FITS 4.0, sections 4.1.2, 4.2 and 4.4). Bytes: 32 a space, 47 `/`.
-use Rattle.std.specs.Prelude.{ℕ, ◌^◌, ◌-◌, Bool, true, false, ◌&&◌, ◌||◌, ◌==◌, if◌then◌else◌, List, [], ◌∷◌, length, drop, ℤ, pos, negsuc, int_le, Option, Some, None, is_some, nat_eq, codes}
+use Rattle.std.specs.Prelude.{ℕ, Bool, true, false, ◌||◌, ◌==◌, if◌then◌else◌, List, [], ◌∷◌, length, drop, Option, Some, None, is_some, nat_eq, codes}
 use Rattle.std.specs.List.{before_first, prefix_len, starts_with}
 use Rattle.std.specs.Option.{option_map_or}
 use Rattle.std.specs.Result.{result_ok}
 use Rattle.std.specs.Str.{bytes_eq}
-use Rattle.std.specs.Str.Parse.{without_leading_sign, signed_digits_value}
-use Rattle.decimal_scale.specs.Real.{DecimalNumber, is_whole, read_real}
+use Rattle.decimal_scale.specs.Real.{DecimalNumber, read_real}
+use Rattle.decimal_scale.specs.Whole.{whole_value}
 use Rattle.fits_header.specs.declared.keyword.Keyword.{Keyword}
 use Rattle.fits_header.specs.declared.keyword.Keyword.TheVariants.{Simple, Bitpix, Naxis, Naxis1, Naxis2, Bscale, Bzero, Blank}
 
@@ -73,16 +73,6 @@ unfoldable pub logical : List ℕ → Option Bool
 logical text = if bytes_eq text (codes "T") then Some true
     else (if bytes_eq text (codes "F") then Some false else None)
 
--- from -2^63 to 2^63 - 1
-abbrev pub fits_64_bits : ℤ → Bool
-fits_64_bits n = int_le (negsuc (2 ^ 63 - 1)) n && int_le n (pos (2 ^ 63 - 1))
-
--- an optional sign and one or more digits, a number of 64 bits
-unfoldable pub whole : List ℕ → Option ℤ
-whole text =
-    if is_whole (without_leading_sign text) && fits_64_bits (signed_digits_value 10 text)
-    then Some (signed_digits_value 10 text) else None
-
 -- a real number that `decimal_scale` accepts
 unfoldable pub real : List ℕ → Option DecimalNumber
 real text = result_ok (read_real text)
@@ -90,13 +80,13 @@ real text = result_ok (read_real text)
 -- the text is a value of the kind that the keyword has
 abbrev pub takes : Keyword → List ℕ → Bool
 takes Simple text = is_some (logical text)
-takes Bitpix text = is_some (whole text)
-takes Naxis text = is_some (whole text)
-takes Naxis1 text = is_some (whole text)
-takes Naxis2 text = is_some (whole text)
+takes Bitpix text = is_some (whole_value text)
+takes Naxis text = is_some (whole_value text)
+takes Naxis1 text = is_some (whole_value text)
+takes Naxis2 text = is_some (whole_value text)
 takes Bscale text = is_some (real text)
 takes Bzero text = is_some (real text)
-takes Blank text = is_some (whole text)
+takes Blank text = is_some (whole_value text)
 
 -- the card has a value text of the kind that the keyword has
 abbrev pub has_value : Keyword → List ℕ → Bool

@@ -1,6 +1,7 @@
+//! Cards that are written, and the header that they make.
 ghost use Rattle.std.specs.Prelude.{◌≡◌, ℕ, ◌*◌, ◌+◌, ◌≤◌, List, ◌++◌, length, drop, IsTrue};
 ghost use Rattle.std.specs.List.{concat};
-ghost use Rattle.fits_header.specs.Cards.{whole_blocks as spec_whole_blocks};
+ghost use Rattle.fits_header.specs.Cards.{whole_blocks};
 ghost use Rattle.fits_header.specs.WrittenCards.{is_word, filled, keyword_columns, set_right, value_card, logical_card, integer_card, real_card, text_card, end_card};
 ghost use Rattle.fits_header.specs.FitsFile.{header_text};
 
@@ -133,8 +134,8 @@ fn put(card: &mut [u8; CARD_LEN], start: usize, text: &[u8])
 /// 3.3.1), and says how many bytes that took. The rest stays.
 #[tactic(auto, unfolding(crate::specs::FitsFile::header_text))]
 pub fn write_cards(cards: &[Card], out: &mut [u8]) -> usize
-    requires { spec_whole_blocks (80 * length cards.now) ≤ length out.old }
-    ensures len { result ≡ spec_whole_blocks (80 * length cards.now) }
+    requires { whole_blocks (80 * length cards.now) ≤ length out.old }
+    ensures len { result ≡ whole_blocks (80 * length cards.now) }
     ensures written { out.new ≡ header_text cards.now ++ drop result out.old }
 {
     let used = CARD_LEN * cards.len();

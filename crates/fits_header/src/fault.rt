@@ -1,3 +1,4 @@
+//! Why a text is no header.
 ghost use Rattle.std.specs.Prelude.{Some};
 ghost use Rattle.fits_header.specs.Faults.{fault_text};
 

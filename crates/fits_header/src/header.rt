@@ -1,5 +1,6 @@
-ghost use Rattle.std.specs.Prelude.{◌≡◌, List, ℕ, ◌≤◌, ◌<◌, length, Some, None, take};
-ghost use Rattle.fits_header.specs.Cards.{cards_before_end, cards as spec_cards};
+//! A header that is read.
+ghost use Rattle.std.specs.Prelude.{◌≡◌, List, ℕ, ◌%◌, ◌≤◌, ◌<◌, length, Some, None, take, IfOk};
+ghost use Rattle.fits_header.specs.Cards.{cards_before_end, cards as cards_of};
 ghost use Rattle.fits_header.specs.Reading.{read_header};
 
 use crate::blocks::{CARD_LEN, MAX_HEADER_LEN, cards_before_end, place_not_ascii, whole_blocks};
@@ -43,7 +44,9 @@ impl Header {
     /// is no end card; `BadValue` where a named card has no value of its keyword's kind; `Twice` where a named card has the
     /// keyword of an earlier one.
     pub fn read(bytes: &[u8]) -> Result<(Header, usize), HeaderFault>
-        ensures { result ≡ read_header bytes.now }
+        ensures outcome { result ≡ read_header bytes.now }
+        ensures within { IfOk result (λ read. read.1 ≤ length bytes.now) }
+        ensures blocks { IfOk result (λ read. read.1 % 2880 ≡ 0) }
     {
         let (cards, _) = bytes.as_chunks::<CARD_LEN>();
         match cards_before_end(cards) {
@@ -56,8 +59,10 @@ impl Header {
 // Reads the header that has these cards before its end card.
 fn read_to_end(bytes: &[u8], cards: &[[u8; CARD_LEN]]) -> Result<(Header, usize), HeaderFault>
     requires before { cards_before_end bytes.now ≡ Some (length cards.now) }
-    requires cards { cards.now ≡ take (length cards.now) (spec_cards bytes.now) }
-    ensures { result ≡ read_header bytes.now }
+    requires cards { cards.now ≡ take (length cards.now) (cards_of bytes.now) }
+    ensures outcome { result ≡ read_header bytes.now }
+    ensures within { IfOk result (λ read. read.1 ≤ length bytes.now) }
+    ensures blocks { IfOk result (λ read. read.1 % 2880 ≡ 0) }
 {
     let len = whole_blocks(CARD_LEN * (cards.len() + 1));
     if bytes.len() < len {

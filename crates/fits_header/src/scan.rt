@@ -2,8 +2,8 @@
 ghost use Rattle.std.specs.Prelude.{◌≡◌, ℕ, ◌+◌, ◌<◌, List, [], length, slice_index_or, true, false, is_some, OnOk, IfErr, if◌then◌else◌};
 ghost use Rattle.std.specs.Option.{option_or};
 ghost use Rattle.fits_header.specs.Values.{takes};
-ghost use Rattle.fits_header.specs.Reading.{begins_simple as spec_begins_simple, is_bad};
-ghost use Rattle.fits_header.specs.Scan.{read_cards as spec_read_cards, with_value, has_keyword, no_values as spec_no_values};
+ghost use Rattle.fits_header.specs.Reading.{begins_simple, is_bad};
+ghost use Rattle.fits_header.specs.Scan.{read_cards, with_value, has_keyword, no_values};
 ghost use Rattle.fits_header.specs.Scanned.{IsScanned};
 ghost use Rattle.fits_header.specs.declared.fault.HeaderFault.TheVariants.{BadValue};
 
@@ -11,7 +11,8 @@ use crate::blocks::CARD_LEN;
 use crate::fault::HeaderFault;
 use crate::header::Header;
 use crate::keyword::Keyword;
-use crate::value::{logical, real, value_text, whole};
+use crate::value::{logical, real, value_text};
+use decimal_scale::whole_number;
 
 // What the cards say so far.
 #[derive(Drop)]
@@ -27,7 +28,7 @@ struct Scan {
 /// `BadValue` with the least card that has no value of its kind; else `Twice` with the least that repeats a keyword.
 pub(crate) fn read_cards(cards: &[[u8; CARD_LEN]]) -> Result<Header, HeaderFault>
     requires { length cards.now < 1296 }
-    ensures { result ≡ spec_read_cards cards.now }
+    ensures { result ≡ read_cards cards.now }
 {
     let mut scan = Scan {
         header: no_values(begins_simple(cards)),
@@ -44,7 +45,7 @@ pub(crate) fn read_cards(cards: &[[u8; CARD_LEN]]) -> Result<Header, HeaderFault
 
 // Whether the first card is a named card SIMPLE.
 fn begins_simple(cards: &[[u8; CARD_LEN]]) -> bool
-    ensures { result ≡ spec_begins_simple cards.now }
+    ensures { result ≡ begins_simple cards.now }
 {
     match cards {
         [] => false,
@@ -53,7 +54,7 @@ fn begins_simple(cards: &[[u8; CARD_LEN]]) -> bool
 }
 
 fn no_values(first_simple: bool) -> Header
-    ensures { result ≡ spec_no_values first_simple }
+    ensures { result ≡ no_values first_simple }
 {
     Header {
         first_simple,
@@ -141,13 +142,13 @@ impl Header {
     {
         match keyword {
             Keyword::Simple => fill(&mut self.simple, logical(text)),
-            Keyword::Bitpix => fill(&mut self.bitpix, whole(text)),
-            Keyword::Naxis => fill(&mut self.naxis, whole(text)),
-            Keyword::Naxis1 => fill(&mut self.naxis1, whole(text)),
-            Keyword::Naxis2 => fill(&mut self.naxis2, whole(text)),
+            Keyword::Bitpix => fill(&mut self.bitpix, whole_number(text)),
+            Keyword::Naxis => fill(&mut self.naxis, whole_number(text)),
+            Keyword::Naxis1 => fill(&mut self.naxis1, whole_number(text)),
+            Keyword::Naxis2 => fill(&mut self.naxis2, whole_number(text)),
             Keyword::Bscale => fill(&mut self.bscale, real(text)),
             Keyword::Bzero => fill(&mut self.bzero, real(text)),
-            Keyword::Blank => fill(&mut self.blank, whole(text)),
+            Keyword::Blank => fill(&mut self.blank, whole_number(text)),
         }
     }
 }

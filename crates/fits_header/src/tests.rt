@@ -1,4 +1,4 @@
-ghost use Rattle.std.specs.Prelude.{◌≤◌, length};
+//! Headers as outside tools write them, and worked examples, as tables.
 
 use crate::{BLOCK_LEN, CARD_LEN, Card, Header, HeaderFault, whole_blocks, write_cards};
 use decimal_scale::Decimal;
@@ -103,41 +103,6 @@ fn reads_what_tools_write(rt: HostRuntime) -> Result<(), Fail> {
     Ok(())
 }
 
-fn header_len(text: &[u8]) -> Result<usize, HeaderFault> {
-    match Header::read(text) {
-        Ok((_, len)) => Ok(len),
-        Err(fault) => Err(fault),
-    }
-}
-
-#[test]
-fn a_header_ends_behind_its_end_card(rt: HostRuntime) -> Result<(), Fail> {
-    for (comments, lines, outcome) in [
-        (0, "END", Ok(2_880)),
-        (0, "END\nEND\n\u{7}", Ok(2_880)),
-        (35, "END", Ok(2_880)),
-        (35, "END     \u{7f}", Ok(2_880)),
-        (36, "END", Ok(5_760)),
-        (1_295, "END", Ok(103_680)),
-        (1_295, "ENDE", Err(HeaderFault::NoEnd)),
-        (1_296, "END", Err(HeaderFault::NoEnd)),
-        (1_296, "\u{7}", Err(HeaderFault::NoEnd)),
-        (1_259, "END-", Err(HeaderFault::Short)),
-        (0, "", Err(HeaderFault::Short)),
-        (0, "SIMPLE  = ?\n\u{7}", Err(HeaderFault::Short)),
-        (1_295, "\u{1f}", Err(HeaderFault::NotAscii { at: 103_600 })),
-        (1_296, "", Err(HeaderFault::NoEnd)),
-    ] {
-        let text = header(rt.alloc(), comments, lines)?;
-        assert_eq!(rt;
-            header_len(text.as_slice()),
-            outcome,
-            "{comments} cards and {lines}"
-        );
-    }
-    Ok(())
-}
-
 #[test]
 fn a_header_may_have_no_values(rt: HostRuntime) -> Result<(), Fail> {
     let nothing = Header {
@@ -177,55 +142,73 @@ fn a_short_input_has_no_header(rt: HostRuntime) -> Result<(), Fail> {
     Ok(())
 }
 
+// How long the header is, or why there is none: its text.
+fn length_or_fault(alloc: Global, text: &[u8]) -> Result<String, Fail> {
+    match Header::read(text) {
+        Ok((_, len)) => Ok(format!(in alloc; "{len}")?),
+        Err(fault) => Ok(format!(in alloc; "{fault}")?),
+    }
+}
+
 #[test]
-fn reports_the_first_fault(rt: HostRuntime) -> Result<(), Fail> {
-    for (lines, fault, shown) in [
-        ("\u{7}\nEND", HeaderFault::NotAscii { at: 0 }, "2 0"),
+fn a_header_has_a_length_or_a_first_fault(rt: HostRuntime) -> Result<(), Fail> {
+    let alloc = rt.alloc();
+    for (comments, lines, answer) in [
+        (0, "END", "2880"),
+        (0, "END\nEND\n\u{7}", "2880"),
+        (35, "END", "2880"),
+        (35, "END     \u{7f}", "2880"),
+        (36, "END", "5760"),
+        (1_295, "END", "103680"),
+        (1_259, "END-", "1"),
+        (0, "", "1"),
+        (0, "SIMPLE  = ?\n\u{7}", "1"),
+        (1_295, "\u{1f}", "2 103600"),
+        (0, "\u{7}\nEND", "2 0"),
+        (0, "SIMPLE  = ? / \u{7f}\nEND", "2 14"),
+        (0, "BITPIX  = ?\nBITPIX  = \t\nEND", "2 90"),
+        (1_295, "ENDE", "3"),
+        (1_296, "END", "3"),
+        (1_296, "\u{7}", "3"),
+        (1_296, "", "3"),
+        (0, "SIMPLE  = t\nEND", "4 1"),
+        (0, "SIMPLE  = T\nBITPIX  = 16.0\nEND", "4 2"),
         (
-            "SIMPLE  = ? / \u{7f}\nEND",
-            HeaderFault::NotAscii { at: 14 },
-            "2 14",
-        ),
-        (
-            "BITPIX  = ?\nBITPIX  = \t\nEND",
-            HeaderFault::NotAscii { at: 90 },
-            "2 90",
-        ),
-        ("SIMPLE  = t\nEND", HeaderFault::BadValue { card: 1 }, "4 1"),
-        (
-            "SIMPLE  = T\nBITPIX  = 16.0\nEND",
-            HeaderFault::BadValue { card: 2 },
-            "4 2",
-        ),
-        (
-            "SIMPLE  = T\nBITPIX  = 16\nBITPIX  = 16\nEND",
-            HeaderFault::Twice { card: 3 },
-            "5 3",
-        ),
-        (
-            "BLANK   = 1\nBSCALE  = 1\nBLANK   = 1\nBSCALE  = 1\nBLANK   = 1\nEND",
-            HeaderFault::Twice { card: 3 },
-            "5 3",
-        ),
-        (
+            0,
             "NAXIS   = 1\n\nNAXIS   = 1\nNAXIS1  = 1\nNAXIS1  = ?\nNAXIS2  =\nEND",
-            HeaderFault::BadValue { card: 5 },
             "4 5",
         ),
+        (0, "BZERO   = 1\nBZERO   = ?\nEND", "4 2"),
+        (0, "BZERO   = ?\nBZERO   = 1\nEND", "4 1"),
+        (0, "SIMPLE  = TRUE\nEND", "4 1"),
+        (0, "SIMPLE  = f\nEND", "4 1"),
+        (0, "SIMPLE  = 'T'\nEND", "4 1"),
+        (0, "SIMPLE  =\nEND", "4 1"),
+        (0, "BITPIX  = 16.0\nEND", "4 1"),
+        (0, "BITPIX  = 1E1\nEND", "4 1"),
+        (0, "BITPIX  = 1 6\nEND", "4 1"),
+        (0, "BITPIX  = 16 bits\nEND", "4 1"),
+        (0, "BITPIX  = / 16\nEND", "4 1"),
+        (0, "BITPIX  = -\nEND", "4 1"),
+        (0, "BITPIX  = --1\nEND", "4 1"),
+        (0, "BITPIX  = 9223372036854775808\nEND", "4 1"),
+        (0, "BITPIX  = -9223372036854775809\nEND", "4 1"),
+        (0, "BSCALE  = 1,0\nEND", "4 1"),
+        (0, "BSCALE  = 1.0 1\nEND", "4 1"),
+        (0, "BSCALE  = E5\nEND", "4 1"),
+        (0, "BSCALE  = 1234567890123456789\nEND", "4 1"),
+        (0, "BSCALE  = 1E401\nEND", "4 1"),
+        (0, "BZERO   = NaN\nEND", "4 1"),
+        (0, "SIMPLE  = T\nBITPIX  = 16\nBITPIX  = 16\nEND", "5 3"),
         (
-            "BZERO   = 1\nBZERO   = ?\nEND",
-            HeaderFault::BadValue { card: 2 },
-            "4 2",
-        ),
-        (
-            "BZERO   = ?\nBZERO   = 1\nEND",
-            HeaderFault::BadValue { card: 1 },
-            "4 1",
+            0,
+            "BLANK   = 1\nBSCALE  = 1\nBLANK   = 1\nBSCALE  = 1\nBLANK   = 1\nEND",
+            "5 3",
         ),
     ] {
-        let text = header(rt.alloc(), 0, lines)?;
-        assert_eq!(rt; Header::read(text.as_slice()), Err(fault), "{lines}");
-        assert_eq!(rt; format!(in rt.alloc(); "{fault}")?.as_str(), shown);
+        let text = header(alloc, comments, lines)?;
+        let found = length_or_fault(alloc, text.as_slice())?;
+        assert_eq!(rt; found.as_str(), answer, "{comments} cards and {lines}");
     }
     Ok(())
 }
@@ -286,107 +269,59 @@ fn reads_values(rt: HostRuntime) -> Result<(), Fail> {
     Ok(())
 }
 
-#[test]
-fn refuses_values(rt: HostRuntime) -> Result<(), Fail> {
-    for line in [
-        "SIMPLE  = TRUE",
-        "SIMPLE  = f",
-        "SIMPLE  = 'T'",
-        "SIMPLE  =",
-        "BITPIX  = 16.0",
-        "BITPIX  = 1E1",
-        "BITPIX  = 1 6",
-        "BITPIX  = 16 bits",
-        "BITPIX  = / 16",
-        "BITPIX  = -",
-        "BITPIX  = --1",
-        "BITPIX  = 9223372036854775808",
-        "BITPIX  = -9223372036854775809",
-        "BSCALE  = 1,0",
-        "BSCALE  = 1.0 1",
-        "BSCALE  = E5",
-        "BSCALE  = 1234567890123456789",
-        "BSCALE  = 1E401",
-        "BZERO   = NaN",
-    ] {
-        let mut text = Vec::new(rt.alloc());
-        push_card(&mut text, line)?;
-        push_card(&mut text, "END")?;
-        fill_block(&mut text)?;
-        let fault = HeaderFault::BadValue { card: 1 };
-        assert_eq!(rt; Header::read(text.as_slice()), Err(fault), "{line}");
-    }
-    Ok(())
-}
-
-// What `write_cards` writes over bytes `#`.
-fn written(alloc: Global, cards: &[Card]) -> Result<Vec<u8>, Fail>
-    requires { length cards.now ≤ 100 }
-{
-    let len = whole_blocks(CARD_LEN * cards.len());
-    let mut out = vec![in alloc; b'#'; 5_770]?;
-    if out.len() < len {
-        return Err("too many cards".into());
-    }
-    let used = write_cards(cards, &mut out);
-    out.truncate(used + 1);
-    Ok(out)
+// A card BSCALE.
+fn scale(text: &str) -> Result<Card, Fail> {
+    let number = Decimal::read(text.as_bytes()).ok().ok_or("no number")?;
+    Ok(Card::real(b"BSCALE", &number))
 }
 
 #[test]
 fn writes_cards(rt: HostRuntime) -> Result<(), Fail> {
-    let long = Decimal::read(b"-123456789012345678E-5")
-        .ok()
-        .ok_or("no number")?;
-    let even = Decimal::read(b"1234567890123456E5")
-        .ok()
-        .ok_or("no number")?;
-    let short = Decimal::read(b"-1234567890123456E5")
-        .ok()
-        .ok_or("no number")?;
-    let out = written(
-        rt.alloc(),
-        &[
+    for (card, line) in [
+        (
             Card::logical(b"SIMPLE", true),
-            Card::logical(b"A", false),
+            "SIMPLE  =                    T",
+        ),
+        (Card::logical(b"A", false), "A       =                    F"),
+        (
             Card::integer(b"NAXIS1", 512),
+            "NAXIS1  =                  512",
+        ),
+        (
             Card::integer(b"BLANK", i64::MIN),
-            Card::real(
-                b"BZERO",
-                &Decimal::read(b"3.2768E4").ok().ok_or("no number")?,
-            ),
-            Card::real(b"BSCALE", &even),
-            Card::real(b"BSCALE", &short),
-            Card::real(b"BSCALE", &long),
-            Card::text(b"XTENSION", b"BINTABLE"),
-            Card::text(b"COORDSYS", b"C"),
-            Card::end(),
-        ],
-    )?;
-    let mut expected = Vec::new(rt.alloc());
-    for line in [
-        "SIMPLE  =                    T",
-        "A       =                    F",
-        "NAXIS1  =                  512",
-        "BLANK   = -9223372036854775808",
-        "BZERO   =            32768.0E0",
-        "BSCALE  = 1234567890123456.0E5",
-        "BSCALE  = -1234567890123456.0E5",
-        "BSCALE  = -123456789012345678.0E-5",
-        "XTENSION= 'BINTABLE'",
-        "COORDSYS= 'C       '",
-        "END",
+            "BLANK   = -9223372036854775808",
+        ),
+        (scale("3.2768E4")?, "BSCALE  =            32768.0E0"),
+        (
+            scale("1234567890123456E5")?,
+            "BSCALE  = 1234567890123456.0E5",
+        ),
+        (
+            scale("-1234567890123456E5")?,
+            "BSCALE  = -1234567890123456.0E5",
+        ),
+        (
+            scale("-123456789012345678E-5")?,
+            "BSCALE  = -123456789012345678.0E-5",
+        ),
+        (Card::text(b"XTENSION", b"BINTABLE"), "XTENSION= 'BINTABLE'"),
+        (Card::text(b"COORDSYS", b"C"), "COORDSYS= 'C       '"),
+        (Card::end(), "END"),
     ] {
-        push_card(&mut expected, line)?;
+        let mut out = [b'#'; 2_881];
+        assert_eq!(rt; write_cards(&[card], &mut out), 2_880, "{line}");
+        let mut expected = header(rt.alloc(), 0, line)?;
+        expected.push(b'#')?;
+        assert_eq!(rt; out.as_slice(), expected.as_slice(), "{line}");
     }
-    fill_block(&mut expected)?;
-    expected.push(b'#')?;
-    assert_eq!(rt; out.as_slice(), expected.as_slice());
-    for (count, len) in [(0, 0), (1, 2_880), (36, 2_880), (37, 5_760)] {
-        let cards = [Card::end(); 37];
-        if let Some(front) = cards.get(..count) {
-            assert_eq!(rt; written(rt.alloc(), front)?.len(), len + 1, "{count} cards");
-        }
-    }
+    assert_eq!(rt; whole_blocks(2_880), 2_880);
+    assert_eq!(rt; whole_blocks(2_881), 5_760);
+    let mut out = [b'#'; 5_761];
+    assert_eq!(rt; write_cards(&[], &mut out), 0);
+    assert_eq!(rt; out[0], b'#');
+    assert_eq!(rt; write_cards(&[Card::end(); 36], &mut out), 2_880);
+    assert_eq!(rt; (out[2_879], out[2_880]), (b' ', b'#'));
+    assert_eq!(rt; write_cards(&[Card::end(); 37], &mut out), 5_760);
+    assert_eq!(rt; (out[2_880], out[5_759], out[5_760]), (b'E', b' ', b'#'));
     Ok(())
 }

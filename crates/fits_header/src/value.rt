@@ -2,7 +2,7 @@
 ghost use Rattle.std.specs.Prelude.{◌≡◌, ◌≤◌, not, length};
 ghost use Rattle.std.specs.List.{take_while};
 ghost use Rattle.std.specs.Option.{option_copied};
-ghost use Rattle.fits_header.specs.Values.{is_space, ends_value, without_leading_spaces as spec_without_leading_spaces, value_field as spec_value_field, may_follow_value as spec_may_follow_value, field_text as spec_field_text, value_text as spec_value_text, logical as spec_logical, whole as spec_whole, real as spec_real};
+ghost use Rattle.fits_header.specs.Values.{is_space, ends_value, without_leading_spaces, value_field, may_follow_value, field_text, value_text, logical, real};
 
 use decimal_scale::Decimal;
 
@@ -13,7 +13,7 @@ const VALUE_START: usize = 10;
 #[tactic(auto, unfolding(crate::specs::Values::value_text))]
 pub(crate) fn value_text(card: &[u8]) -> Option<&[u8]>
     requires { 10 ≤ length card.now }
-    ensures { option_copied result ≡ spec_value_text card.now }
+    ensures { option_copied result ≡ value_text card.now }
 {
     let field = value_field(card);
     let text = field_text(field);
@@ -28,7 +28,7 @@ pub(crate) fn value_text(card: &[u8]) -> Option<&[u8]>
 #[tactic(auto, unfolding(crate::specs::Values::value_field))]
 fn value_field(card: &[u8]) -> &[u8]
     requires { 10 ≤ length card.now }
-    ensures { result.now ≡ spec_value_field card.now }
+    ensures { result.now ≡ value_field card.now }
 {
     without_leading_spaces(&card[VALUE_START..])
 }
@@ -36,7 +36,7 @@ fn value_field(card: &[u8]) -> &[u8]
 // The text before the first space or `/`.
 #[tactic(auto, unfolding(crate::specs::Values::field_text))]
 fn field_text(field: &[u8]) -> &[u8]
-    ensures text { result.now ≡ spec_field_text field.now }
+    ensures text { result.now ≡ field_text field.now }
     ensures short { length result.now ≤ length field.now }
 {
     &field[..text_len(field)]
@@ -57,7 +57,7 @@ fn ends_value(byte: u8) -> bool
 
 // Whether the rest is spaces, or spaces and then `/` with any comment.
 fn may_follow_value(rest: &[u8]) -> bool
-    ensures { result ≡ spec_may_follow_value rest.now }
+    ensures { result ≡ may_follow_value rest.now }
 {
     match without_leading_spaces(rest) {
         [] => true,
@@ -66,7 +66,7 @@ fn may_follow_value(rest: &[u8]) -> bool
 }
 
 fn without_leading_spaces(text: &[u8]) -> &[u8]
-    ensures { result.now ≡ spec_without_leading_spaces text.now }
+    ensures { result.now ≡ without_leading_spaces text.now }
 {
     &text[leading_spaces(text)..]
 }
@@ -81,7 +81,7 @@ fn leading_spaces(text: &[u8]) -> usize
 /// The logical value that the text is; `None` exactly where it is neither `T` nor `F`.
 #[tactic(auto, unfolding(crate::specs::Values::logical))]
 pub(crate) fn logical(text: &[u8]) -> Option<bool>
-    ensures { result ≡ spec_logical text.now }
+    ensures { result ≡ logical text.now }
 {
     if text == b"T".as_slice() {
         return Some(true);
@@ -92,20 +92,10 @@ pub(crate) fn logical(text: &[u8]) -> Option<bool>
     None
 }
 
-/// The whole number that the text spells, with or without a sign; `None` exactly where it spells none of 64 bits.
-pub(crate) fn whole(text: &[u8]) -> Option<i64>
-    ensures { result ≡ spec_whole text.now }
-{
-    match std::str::from_utf8(text) {
-        Ok(text) => text.parse().ok(),
-        Err(_) => None,
-    }
-}
-
 /// The real number that the text spells; `None` exactly where `Decimal::read` refuses it.
 #[tactic(auto, unfolding(crate::specs::Values::real))]
 pub(crate) fn real(text: &[u8]) -> Option<Decimal>
-    ensures { result ≡ spec_real text.now }
+    ensures { result ≡ real text.now }
 {
     Decimal::read(text).ok()
 }
