@@ -1,13 +1,10 @@
 -- A number in plain decimals is found in one way alone.
-use Rattle.std.proofs.Common.{◌≡◌, ◌≢◌, ℕ, zero, suc, ◌+◌, ◌-◌, ◌*◌, ◌^◌, ◌<◌, ◌≤◌, inl, inr, List, [], ◌∷◌, ◌++◌, length, get_or, take, drop, decimal, refl, sym, ◌∙◌, ap, subst, arith}
+use Rattle.std.proofs.Common.{◌≡◌, ◌≢◌, ℕ, ◌^◌, ◌<◌, ◌≤◌, inl, inr, List, [], ◌∷◌, ◌++◌, length, get_or, take, drop, decimal, refl, sym, ◌∙◌, ap, subst, arith}
 use Rattle.std.specs.Int.{IsInRange}
 use Rattle.std.specs.Str.Parse.{AllDigits, digits_value}
-use Rattle.std.specs.Char.{digit_value}
-use Rattle.std.proofs.lemmas.List.{take-append-drop, append_cancel_left, drop_more, drop_all, length-take-le, get_or-take, take_all}
-use Rattle.std.proofs.lemmas.Int.Digits.{digits_value_more}
-use Rattle.std.proofs.lemmas.Str.{digit_value_digit}
-use Rattle.std.proofs.lemmas.Str.Parse.{IsNumeralModel, numerals_by_value, tells_digits, tells_by_index, digits_value-take-le, digit_from_value}
-use Rattle.std.proofs.lemmas.Fmt.{decimal_digit, decimal_nonempty, first_decimal, digits_decimal, digits_value-decimal, decimal-digits_value, decimal_injective}
+use Rattle.std.proofs.lemmas.List.{take-append-drop, append_cancel_left, drop_more, drop_all, length-take-le, get_or-take}
+use Rattle.std.proofs.lemmas.Str.Parse.{IsNumeralModel, numerals_by_value, tells_digits, tells_by_index, digit_from_value}
+use Rattle.std.proofs.lemmas.Fmt.{digits_decimal, decimal_injective}
 use Rattle.std.proofs.lemmas.Bool.{cases_order}
 use Rattle.tile_path.specs.Numbers.{EndsNumber, HasNumber}
 
@@ -23,49 +20,6 @@ by_index = numerals_by_value DigitsByIndex tells_by_index
 
 digits_of_decimal : (n : ℕ) → n < 2 ^ 64 → AllDigits 10 (decimal n)
 digits_of_decimal n small = digits_decimal own n small
-
--- ---- where a number starts
-
-pub record StartsPlain (digits : List ℕ) : Type 0 where
-  pub some : 0 < length digits
-  pub alone : get_or digits 0 0 ≡ 48 → length digits ≡ 1
-
-decimal-starts_plain : (n : ℕ) → n < 2 ^ 64 → StartsPlain (decimal n)
-decimal-starts_plain zero small = rw (decimal_digit 0 (omega arith)) record { some = omega arith; alone = λ _. refl }
-decimal-starts_plain (suc m) small =
-    let first : 48 < get_or (decimal (suc m)) 0 0 = first_decimal (suc m) (omega arith) small in
-    let some : 0 < length (decimal (suc m)) = decimal_nonempty (suc m) small in
-    record { some = some; alone = λ e. absurd (omega arith) }
-
-pub starts_plain : (digits : List ℕ) (n : ℕ) → n < 2 ^ 64 → digits ≡ decimal n → StartsPlain digits
-starts_plain digits n small e = subst StartsPlain (sym e) (decimal-starts_plain n small)
-
--- ---- the value of digits
-
--- one more digit
-pub value_of_more : (digits : List ℕ) (i number : ℕ) → i < length digits → IsInRange 48 57 (get_or digits i 0)
-    → number ≡ digits_value 10 (take i digits)
-    → number * 10 + (get_or digits i 0 - 48) ≡ digits_value 10 (take (i + 1) digits)
-value_of_more digits i number below digit is =
-    let more = digits_value_more 10 digits i below in
-    let d : digit_value (get_or digits i 0) + 48 ≡ get_or digits i 0 = digit_value_digit (get_or digits i 0) digit in
-    omega (arith, more)
-
--- digits are no number below 2 ^ 64 where a front of them already has a value beyond it
-pub too_large : (digits : List ℕ) (i : ℕ) → 2 ^ 64 ≤ digits_value 10 (take i digits)
-    → (n : ℕ) → n < 2 ^ 64 → digits ≢ decimal n
-too_large digits i large n small e =
-    let front : digits_value 10 (take i digits) ≤ digits_value 10 digits = digits_value-take-le 10 digits i (omega arith) in
-    let value : digits_value 10 digits ≡ n = ap (digits_value 10) e ∙ digits_value-decimal own n small in
-    absurd (omega arith)
-
--- and digits that start plain are those of their value
-pub plain_digits : (digits : List ℕ) (number : ℕ) → DigitsByIndex digits → 0 < length digits
-    → (get_or digits 0 0 ≡ 48 → length digits ≡ 1) → number < 2 ^ 64
-    → number ≡ digits_value 10 (take (length digits) digits) → digits ≡ decimal number
-plain_digits digits number each some alone small is =
-    let whole : number ≡ digits_value 10 digits = is ∙ ap (digits_value 10) (take_all (length digits) digits (omega arith)) in
-    sym (decimal-digits_value by_index digits each some alone (omega arith)) ∙ ap decimal (sym whole)
 
 -- ---- where a number ends
 

@@ -1,3 +1,4 @@
+//! The files of a survey, and their spellings.
 ghost use Rattle.std.specs.Prelude.{◌≡◌, ◌≢◌, ◌≤◌, ◌++◌, length, take, drop, Some, IfSome, IsNone};
 ghost use Rattle.tile_path.specs.Spelling.{HasTileOrder, IsPath, spelling};
 

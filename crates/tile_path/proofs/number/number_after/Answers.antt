@@ -15,11 +15,11 @@ returns-in_err-number c =
     (no_number c.args.text.now c.args.word.now c.in_ok-numbered.numbered.now c.digits_end.result
     (strip_prefix_is Decides-eqb c.args.text.now c.args.word.now (Some c.in_ok-numbered.numbered) c.in_ok-numbered.ensures.cases)
     c.digits_end.ensures.within c.digits_end.ensures.digits c.digits_end.ensures.ends
-    (rw c.split_at.ensures.front at c.in_err-number.ensures))
+    (rw c.split_at.ensures.front at c.in_err-number.ensures.spelled))
 
 pub returns : goal.returns
 returns c =
     rw c.split_at.ensures.back
     (number_found c.args.text.now c.args.word.now c.in_ok-numbered.numbered.now c.digits_end.result c.in_ok-number.number
     (strip_prefix_is Decides-eqb c.args.text.now c.args.word.now (Some c.in_ok-numbered.numbered) c.in_ok-numbered.ensures.cases)
-    c.digits_end.ensures.within c.digits_end.ensures.ends (omega arith) (sym c.split_at.ensures.front ∙ c.in_ok-number.ensures))
+    c.digits_end.ensures.within c.digits_end.ensures.ends (omega arith) (sym c.split_at.ensures.front ∙ c.in_ok-number.ensures.spelled))
