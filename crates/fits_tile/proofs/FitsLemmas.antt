@@ -3,7 +3,7 @@ use Rattle.std.proofs.Common.{◌≡◌, ℕ, ◌^◌, ◌<◌, ◌≤◌, true,
 use Rattle.std.proofs.Math.Nat.{pow-le-pow_right}
 use Rattle.std.proofs.lemmas.Bool.Decides.{nat_tests}
 use Rattle.std.proofs.lemmas.Int.{ints}
-use Rattle.fits_header.specs.Values.{fits_64_bits}
+use Rattle.decimal_scale.specs.Whole.{fits_64_bits}
 use Rattle.parent_rule.specs.Depth.{is_bitpix, IsNumber}
 use Rattle.tile_pixels.specs.StoredLaws.{by_bitpix}
 

@@ -2,8 +2,9 @@
 use Rattle.std.proofs.Common.{◌≡◌, ℕ, Bool, true, false, not, ◌||◌, List, [], ◌∷◌, Option, Some, None, refl, ap}
 use Rattle.std.specs.Prelude.{codes, is_some}
 use Rattle.std.specs.Option.{option_map_or}
+use Rattle.decimal_scale.specs.Whole.{whole_value}
 use Rattle.fits_header.specs.Cards.{is_end_card}
-use Rattle.fits_header.specs.Values.{value_text, logical, whole, real}
+use Rattle.fits_header.specs.Values.{value_text, logical, real}
 use Rattle.fits_header.specs.Reading.{is_bad, repeats, repeated_card}
 use Rattle.fits_header.specs.WrittenCards.{keyword_columns, value_card}
 
@@ -49,13 +50,13 @@ has_kind kind card = option_map_or (λ text. is_some (kind text)) (value_text ca
 -- a card that has a value of its keyword's kind is not bad
 pub record Goods : Type 0 where
   pub simple : (v : List ℕ) → has_kind logical (value_card (codes "SIMPLE") v) ≡ true → is_bad (value_card (codes "SIMPLE") v) ≡ false
-  pub bitpix : (v : List ℕ) → has_kind whole (value_card (codes "BITPIX") v) ≡ true → is_bad (value_card (codes "BITPIX") v) ≡ false
-  pub naxis : (v : List ℕ) → has_kind whole (value_card (codes "NAXIS") v) ≡ true → is_bad (value_card (codes "NAXIS") v) ≡ false
-  pub naxis1 : (v : List ℕ) → has_kind whole (value_card (codes "NAXIS1") v) ≡ true → is_bad (value_card (codes "NAXIS1") v) ≡ false
-  pub naxis2 : (v : List ℕ) → has_kind whole (value_card (codes "NAXIS2") v) ≡ true → is_bad (value_card (codes "NAXIS2") v) ≡ false
+  pub bitpix : (v : List ℕ) → has_kind whole_value (value_card (codes "BITPIX") v) ≡ true → is_bad (value_card (codes "BITPIX") v) ≡ false
+  pub naxis : (v : List ℕ) → has_kind whole_value (value_card (codes "NAXIS") v) ≡ true → is_bad (value_card (codes "NAXIS") v) ≡ false
+  pub naxis1 : (v : List ℕ) → has_kind whole_value (value_card (codes "NAXIS1") v) ≡ true → is_bad (value_card (codes "NAXIS1") v) ≡ false
+  pub naxis2 : (v : List ℕ) → has_kind whole_value (value_card (codes "NAXIS2") v) ≡ true → is_bad (value_card (codes "NAXIS2") v) ≡ false
   pub bscale : (v : List ℕ) → has_kind real (value_card (codes "BSCALE") v) ≡ true → is_bad (value_card (codes "BSCALE") v) ≡ false
   pub bzero : (v : List ℕ) → has_kind real (value_card (codes "BZERO") v) ≡ true → is_bad (value_card (codes "BZERO") v) ≡ false
-  pub blank : (v : List ℕ) → has_kind whole (value_card (codes "BLANK") v) ≡ true → is_bad (value_card (codes "BLANK") v) ≡ false
+  pub blank : (v : List ℕ) → has_kind whole_value (value_card (codes "BLANK") v) ≡ true → is_bad (value_card (codes "BLANK") v) ≡ false
   pub order : (v : List ℕ) → is_bad (value_card (codes "ORDER") v) ≡ false
   pub npix : (v : List ℕ) → is_bad (value_card (codes "NPIX") v) ≡ false
 

@@ -7,11 +7,12 @@ use Rattle.std.specs.Option.{option_and_then, option_map_or, option_or}
 use Rattle.std.proofs.lemmas.List.{drop_at, take_at, length-replicate}
 use Rattle.healpix_nested.specs.Cells.{IsCell}
 use Rattle.decimal_scale.specs.Real.{real_text}
+use Rattle.decimal_scale.specs.Whole.{whole_value}
 use Rattle.fits_header.specs.Cards.{header_length, whole_blocks}
 use Rattle.fits_header.specs.FitsFile.{header_text, in_blocks}
 use Rattle.fits_header.specs.Laws.{IsCard, IsInnerCard, MadeCardsAreCards, WrittenValuesAreRead, WrittenHeadersAreRead}
 use Rattle.fits_header.specs.Reading.{header_of, values, read_header, is_bad, value_fault, twice_fault}
-use Rattle.fits_header.specs.Values.{logical, whole, real, value_text}
+use Rattle.fits_header.specs.Values.{logical, real, value_text}
 use Rattle.fits_header.specs.WrittenCards.{keyword_columns, set_right, value_card, logical_card, integer_card, real_card, end_card}
 use Rattle.fits_header.specs.declared.fault.HeaderFault.{HeaderFault}
 use Rattle.fits_header.specs.declared.header.Header.{Header}
@@ -98,13 +99,13 @@ cards-inner d k p facts =
 
 record AreRead (d : Description) : Type 0 where
   simple : option_and_then logical (value_text (value_card (codes "SIMPLE") yes)) ≡ Some true
-  bitpix : option_and_then whole (value_text (value_card (codes "BITPIX") (written (pos d.shape.depth.bitpix)))) ≡ Some (pos d.shape.depth.bitpix)
-  naxis : option_and_then whole (value_text (value_card (codes "NAXIS") (written (pos 2)))) ≡ Some (pos 2)
-  naxis1 : option_and_then whole (value_text (value_card (codes "NAXIS1") (written (pos (2 ^ d.shape.n))))) ≡ Some (pos (2 ^ d.shape.n))
-  naxis2 : option_and_then whole (value_text (value_card (codes "NAXIS2") (written (pos (2 ^ d.shape.n))))) ≡ Some (pos (2 ^ d.shape.n))
+  bitpix : option_and_then whole_value (value_text (value_card (codes "BITPIX") (written (pos d.shape.depth.bitpix)))) ≡ Some (pos d.shape.depth.bitpix)
+  naxis : option_and_then whole_value (value_text (value_card (codes "NAXIS") (written (pos 2)))) ≡ Some (pos 2)
+  naxis1 : option_and_then whole_value (value_text (value_card (codes "NAXIS1") (written (pos (2 ^ d.shape.n))))) ≡ Some (pos (2 ^ d.shape.n))
+  naxis2 : option_and_then whole_value (value_text (value_card (codes "NAXIS2") (written (pos (2 ^ d.shape.n))))) ≡ Some (pos (2 ^ d.shape.n))
   bscale : option_and_then real (value_text (value_card (codes "BSCALE") (set_right 20 (real_text d.bscale)))) ≡ Some d.bscale
   bzero : option_and_then real (value_text (value_card (codes "BZERO") (set_right 20 (real_text d.bzero)))) ≡ Some d.bzero
-  blank : option_and_then whole (value_text (value_card (codes "BLANK") (written d.shape.depth.blank))) ≡ Some d.shape.depth.blank
+  blank : option_and_then whole_value (value_text (value_card (codes "BLANK") (written d.shape.depth.blank))) ≡ Some d.shape.depth.blank
 
 are-read : (d : Description) → WrittenValuesAreRead → IsDescription d → AreRead d
 are-read d read known =
@@ -126,19 +127,19 @@ none-bad d k p r =
     let all : AllByRecursion (λ card. is_bad card ≡ false) (cards_by d k p) = (
       goods.simple _ (has-kind logical _ _ r.simple),
       (
-        goods.bitpix _ (has-kind whole _ _ r.bitpix),
+        goods.bitpix _ (has-kind whole_value _ _ r.bitpix),
         (
-          goods.naxis _ (has-kind whole _ _ r.naxis),
+          goods.naxis _ (has-kind whole_value _ _ r.naxis),
           (
-            goods.naxis1 _ (has-kind whole _ _ r.naxis1),
+            goods.naxis1 _ (has-kind whole_value _ _ r.naxis1),
             (
-              goods.naxis2 _ (has-kind whole _ _ r.naxis2),
+              goods.naxis2 _ (has-kind whole_value _ _ r.naxis2),
               (
                 goods.bscale _ (has-kind real _ _ r.bscale),
                 (
                   goods.bzero _ (has-kind real _ _ r.bzero),
                   (
-                    goods.blank _ (has-kind whole _ _ r.blank),
+                    goods.blank _ (has-kind whole_value _ _ r.blank),
                     (
                       goods.order _,
                       (

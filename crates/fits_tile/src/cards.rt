@@ -2,7 +2,7 @@
 ghost use Rattle.std.specs.Prelude.{◌≡◌, ◌∷◌, [], ◌++◌, pos, IsTrue};
 ghost use Rattle.fits_header.specs.WrittenCards.{end_card};
 ghost use Rattle.parent_rule.specs.Depth.{is_bitpix};
-ghost use Rattle.fits_tile.specs.TileFile.{image_cards as spec_image_cards, tile_cards as spec_tile_cards};
+ghost use Rattle.fits_tile.specs.TileFile.{image_cards, tile_cards};
 
 use crate::size::tile_width;
 use fits_header::Card;
@@ -12,7 +12,7 @@ use survey_conf::Conf;
 /// The cards of a tile file.
 #[tactic(auto, unfolding(crate::specs::TileFile::image_cards, crate::specs::TileFile::cell_cards))]
 pub(crate) fn tile_cards(conf: &Conf, cell: Cell) -> [Card; 11]
-    ensures { result ≡ spec_tile_cards conf.now cell.order cell.npix ++ end_card ∷ [] }
+    ensures { result ≡ tile_cards conf.now cell.order cell.npix ++ end_card ∷ [] }
 {
     let width = tile_width(conf.shape());
     let [simple, bitpix, naxis, naxis1, naxis2, bscale, bzero, blank] = value_cards(
@@ -43,7 +43,7 @@ fn number_of(cell: Cell) -> i64
 /// The cards of an image file.
 #[tactic(auto, unfolding(crate::specs::TileFile::image_cards))]
 pub(crate) fn image_cards(conf: &Conf, width: u32, height: u32) -> [Card; 9]
-    ensures cards { result ≡ spec_image_cards conf.now width height ++ end_card ∷ [] }
+    ensures cards { result ≡ image_cards conf.now width height ++ end_card ∷ [] }
     ensures bitpix { IsTrue (is_bitpix conf.now.shape.depth.bitpix) }
 {
     let [simple, bitpix, naxis, naxis1, naxis2, bscale, bzero, blank] = value_cards(
@@ -65,7 +65,7 @@ pub(crate) fn image_cards(conf: &Conf, width: u32, height: u32) -> [Card; 9]
 // The cards of what the numbers are, and of how many columns and lines of them there are.
 #[tactic(auto, unfolding(crate::specs::TileFile::image_cards))]
 fn value_cards(conf: &Conf, width: u32, height: u32) -> [Card; 8]
-    ensures cards { result ≡ spec_image_cards conf.now width height }
+    ensures cards { result ≡ image_cards conf.now width height }
     ensures bitpix { IsTrue (is_bitpix conf.now.shape.depth.bitpix) }
 {
     let depth = conf.shape().depth;

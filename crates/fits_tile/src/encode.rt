@@ -1,5 +1,6 @@
+//! Writing tile files and the files of images.
 ghost use Rattle.std.specs.Prelude.{◌≡◌, ◌+◌, ◌*◌, ◌/◌, ◌≤◌, ◌++◌, IfOk, length, drop};
-ghost use Rattle.fits_header.specs.Cards.{whole_blocks as spec_whole_blocks};
+ghost use Rattle.fits_header.specs.Cards.{whole_blocks};
 ghost use Rattle.fits_header.specs.FitsFile.{in_blocks, fits_file};
 ghost use Rattle.tile_pixels.specs.Stored.{numbers_from};
 ghost use Rattle.fits_tile.specs.TileFile.{data_len, tile_file, image_file};
@@ -15,8 +16,8 @@ use tile_pixels::Tile;
 pub fn encode_into(tile: &Tile, cell: Cell, conf: &Conf, out: &mut [u8]) -> usize
     requires depth { tile.now.depth ≡ conf.now.shape.depth }
     requires n { tile.now.n ≡ conf.now.shape.n }
-    requires room { 2880 + spec_whole_blocks (data_len conf.now.shape) ≤ length out.old }
-    ensures len { result ≡ 2880 + spec_whole_blocks (data_len conf.now.shape) }
+    requires room { 2880 + whole_blocks (data_len conf.now.shape) ≤ length out.old }
+    ensures len { result ≡ 2880 + whole_blocks (data_len conf.now.shape) }
     ensures written { out.new ≡ tile_file conf.now cell.order cell.npix tile.now.numbers ++ drop result out.old }
 {
     write_file(&tile_cards(conf, cell), tile.raw(), out)
@@ -47,8 +48,8 @@ pub fn encode_image(
 fn write_file(cards: &[Card], bytes: &[u8], out: &mut [u8]) -> usize
     requires some { 1 ≤ length cards.now }
     requires one_block { length cards.now ≤ 36 }
-    requires room { 2880 + spec_whole_blocks (length bytes.now) ≤ length out.old }
-    ensures len { result ≡ 2880 + spec_whole_blocks (length bytes.now) }
+    requires room { 2880 + whole_blocks (length bytes.now) ≤ length out.old }
+    ensures len { result ≡ 2880 + whole_blocks (length bytes.now) }
     ensures written { out.new ≡ fits_file cards.now bytes.now ++ drop result out.old }
 {
     let start = write_cards(cards, out);
@@ -57,8 +58,8 @@ fn write_file(cards: &[Card], bytes: &[u8], out: &mut [u8]) -> usize
 
 // Writes data and zero bytes up to the end of their last block, and says how many bytes that took. The rest stays.
 fn write_data(bytes: &[u8], out: &mut [u8]) -> usize
-    requires { spec_whole_blocks (length bytes.now) ≤ length out.old }
-    ensures len { result ≡ spec_whole_blocks (length bytes.now) }
+    requires { whole_blocks (length bytes.now) ≤ length out.old }
+    ensures len { result ≡ whole_blocks (length bytes.now) }
     ensures written { out.new ≡ in_blocks 0 bytes.now ++ drop result out.old }
 {
     let len = whole_blocks(bytes.len());

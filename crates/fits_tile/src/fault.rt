@@ -1,10 +1,10 @@
+//! Why a file is no tile.
 ghost use Rattle.std.specs.Prelude.{Some};
-ghost use Rattle.fits_tile.specs.Faults.{fault_text, found_text};
+ghost use Rattle.fits_tile.specs.Faults.{fault_text, found_text, refusal_text};
 
 use fits_header::HeaderFault;
 use std::error::Error;
 use std::fmt;
-use thiserror::Error as ErrorEnum;
 
 /// Why a file is not a tile of the survey. Where several stand, it is the first of these. It is shown as its number from 1,
 /// a word, and what was found, as in `3 bitpix 8`; `none` was found where the card is absent.
@@ -92,13 +92,24 @@ impl fmt::Display for Found {
     }
 }
 
-/// Why no tile was read.
-#[derive(Clone, Copy, Debug, PartialEq, Eq, ErrorEnum)]
+/// Why no tile was read. It is shown as the text of its fault, or as `out of memory`.
+#[derive(Clone, Copy, Debug, PartialEq, Eq)]
 pub enum TileRefusal {
     /// The file is not a tile of the survey.
-    #[error("{0}")]
     Fault(TileFault),
     /// There was no memory for the numbers.
-    #[error("out of memory")]
     OutOfMemory,
 }
+
+impl fmt::Display for TileRefusal {
+    ghost output = { λ refusal. Some (refusal_text refusal) };
+
+    fn fmt<W: fmt::Write>(&self, f: &mut fmt::Formatter<W>) -> fmt::Result {
+        match self {
+            TileRefusal::Fault(fault) => write!(f, "{fault}"),
+            TileRefusal::OutOfMemory => f.write_str("out of memory"),
+        }
+    }
+}
+
+impl Error for TileRefusal {}

@@ -2,7 +2,7 @@
 ghost use Rattle.std.specs.Prelude.{◌≡◌, ℤ, pos, ◌&&◌, false, unwrap_or};
 ghost use Rattle.decimal_scale.specs.Real.{DecimalNumber};
 ghost use Rattle.parent_rule.specs.Depth.{PixelDepth};
-ghost use Rattle.fits_tile.specs.Reading.{is_other as spec_is_other, is_same as spec_is_same, header_fault as spec_header_fault, blank_fault as spec_blank_fault};
+ghost use Rattle.fits_tile.specs.Reading.{is_other, is_same, header_fault, blank_fault};
 
 use crate::fault::TileFault;
 use crate::size::tile_width;
@@ -17,7 +17,7 @@ const AXES: i64 = 2;
 /// The first fault of a header's values: of SIMPLE, BITPIX, NAXIS, NAXIS1, NAXIS2, BSCALE, BZERO and BLANK, in this order.
 #[tactic(auto, unfolding(crate::specs::Reading::header_fault))]
 pub(crate) fn header_fault(header: &Header, conf: &Conf) -> Option<TileFault>
-    ensures { result ≡ spec_header_fault conf.now header.now }
+    ensures { result ≡ header_fault conf.now header.now }
 {
     let shape = conf.shape();
     let width = i64::from(tile_width(shape));
@@ -64,14 +64,14 @@ fn is_simple(header: &Header) -> bool
 
 // Whether a keyword has another value than the one wanted, or none.
 fn is_other(wanted: i64, found: Option<i64>) -> bool
-    ensures { result ≡ spec_is_other wanted found }
+    ensures { result ≡ is_other wanted found }
 {
     found != Some(wanted)
 }
 
 // Whether a keyword has the number wanted. Where it is absent it has a whole number of one digit.
 fn is_same(found: Option<Decimal>, absent: i64, wanted: &Decimal) -> bool
-    ensures { result ≡ spec_is_same (unwrap_or found (record { mantissa = absent; exp = pos 0 })) wanted.now }
+    ensures { result ≡ is_same (unwrap_or found (record { mantissa = absent; exp = pos 0 })) wanted.now }
 {
     match found {
         Some(found) => found.mantissa() == wanted.mantissa() && found.exp() == wanted.exp(),
@@ -80,7 +80,7 @@ fn is_same(found: Option<Decimal>, absent: i64, wanted: &Decimal) -> bool
 }
 
 fn blank_fault(found: Option<i64>, depth: Depth) -> Option<TileFault>
-    ensures { result ≡ spec_blank_fault depth found }
+    ensures { result ≡ blank_fault depth found }
 {
     match found {
         Some(found) if found != depth.blank() => Some(TileFault::Blank { found }),

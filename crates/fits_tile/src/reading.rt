@@ -1,8 +1,9 @@
+//! Reading a tile file.
 ghost use Rattle.std.specs.Prelude.{◌≡◌, ◌+◌, ◌≤◌, ◌^◌, Ok, Err, IfOk, IfErr, OnOk, length};
 ghost use Rattle.parent_rule.specs.Permit.{one_more};
 ghost use Rattle.tile_pixels.specs.Stored.{numbers_from};
-ghost use Rattle.fits_tile.specs.TileFile.{data_len as spec_data_len};
-ghost use Rattle.fits_tile.specs.Reading.{reads, reads_after, data_fault as spec_data_fault};
+ghost use Rattle.fits_tile.specs.TileFile.{data_len};
+ghost use Rattle.fits_tile.specs.Reading.{reads, reads_after, data_fault};
 ghost use Rattle.fits_tile.specs.Refused.{IsRefusedBy, KeepsSteps};
 
 use crate::fault::{TileFault, TileRefusal};
@@ -51,7 +52,7 @@ pub fn decode(
 // The bytes of the stored numbers, or the first fault of the file.
 fn stored_bytes<'a>(bytes: &'a [u8], conf: &Conf) -> Result<&'a [u8], TileFault>
     ensures numbers { IfOk result (λ raw. reads conf.now bytes.now ≡ Ok (numbers_from conf.now.shape.depth.bitpix (4 ^ conf.now.shape.n) raw.now)) }
-    ensures len { IfOk result (λ raw. length raw.now ≡ spec_data_len conf.now.shape) }
+    ensures len { IfOk result (λ raw. length raw.now ≡ data_len conf.now.shape) }
     ensures fault { IfErr result (λ fault. reads conf.now bytes.now ≡ Err fault) }
 {
     match Header::read(bytes) {
@@ -67,7 +68,7 @@ fn stored_bytes_after<'a>(
     conf: &Conf,
 ) -> Result<&'a [u8], TileFault>
     ensures numbers { IfOk result (λ raw. reads_after conf.now header.now rest.now ≡ Ok (numbers_from conf.now.shape.depth.bitpix (4 ^ conf.now.shape.n) raw.now)) }
-    ensures len { IfOk result (λ raw. length raw.now ≡ spec_data_len conf.now.shape) }
+    ensures len { IfOk result (λ raw. length raw.now ≡ data_len conf.now.shape) }
     ensures fault { IfErr result (λ fault. reads_after conf.now header.now rest.now ≡ Err fault) }
 {
     if let Some(fault) = header_fault(header, conf) {
@@ -83,7 +84,7 @@ fn stored_bytes_after<'a>(
 // The fault of the data, where so many bytes follow the header.
 #[tactic(auto, unfolding(crate::specs::Reading::data_fault))]
 fn data_fault(shape: Shape, count: usize) -> Option<TileFault>
-    ensures { result ≡ spec_data_fault shape count }
+    ensures { result ≡ data_fault shape count }
 {
     let len = data_len(shape);
     let filled = whole_blocks(len);
