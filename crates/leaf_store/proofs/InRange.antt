@@ -8,7 +8,7 @@ use Rattle.std.specs.declared.ops.Bound.TheVariants.{Included, Excluded}
 use Rattle.std.specs.BTreeMap.Range.{range_contains, entries_between}
 use Rattle.std.proofs.lemmas.Bool.Decides.{nat_tests}
 use Rattle.leaf_store.specs.Store.{any_key_in}
-use Rattle.leaf_store.specs.Kept.{pairs_of}
+use Rattle.leaf_store.specs.Entries.{pairs_of}
 
 -- a filter that keeps nothing, and one that keeps something, say what its test finds
 any-from_filter_none : {X : Type 0} (p : X → Bool) (xs : List X) → filter p xs ≡ [] → list_any p xs ≡ false

@@ -12,7 +12,7 @@ use Rattle.std.specs.BTreeMap.{is_at, insert_entry}
 use Rattle.std.proofs.lemmas.Bool.Decides.{nat_tests}
 use Rattle.std.proofs.lemmas.Map.Made.{lookup-map_values, keys_of-map_values}
 use Rattle.leaf_store.specs.Store.{IsAscending, value_at}
-use Rattle.leaf_store.specs.Kept.{pairs_of}
+use Rattle.leaf_store.specs.Entries.{pairs_of}
 
 -- a query for one key isn't at another
 pub apart : (key other : ℕ) → other ≢ key → is_at (nat_cmp key) other ≡ false

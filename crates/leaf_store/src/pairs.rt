@@ -1,8 +1,9 @@
+//! The pairs of a store, one after another.
 ghost use Rattle.std.specs.Prelude.{◌≡◌, length, IfSome, Some};
 ghost use Rattle.std.specs.Iterator.{YieldsFirstBy, item_count, at_most, UpTo};
 ghost use Rattle.std.specs.Iterator.SizeHint.{IsWithinCount};
 ghost use Rattle.std.specs.Arc.{arc_value};
-ghost use Rattle.leaf_store.specs.Kept.{pairs_of};
+ghost use Rattle.leaf_store.specs.Entries.{pairs_of};
 
 use std::collections::{BTreeMap, btree_map};
 use std::marker::Model;
@@ -16,7 +17,7 @@ pub struct Pairs<'a, T> {
 
 impl<'a, T> Model for Pairs<'a, T> {
     ghost use Rattle.std.specs.Prelude.{ℕ, List};
-    ghost use Rattle.leaf_store.specs.Kept.{pairs_of};
+    ghost use Rattle.leaf_store.specs.Entries.{pairs_of};
 
     ghost Value = { List (ℕ × T) };
 

@@ -1,3 +1,4 @@
+//! A map from numbers to shared values, by ascending key.
 ghost use Rattle.std.specs.Prelude.{◌≡◌, ℕ, ◌+◌, ◌≢◌, [], length, slice_get, option_map, is_some, IfNone, IfOk, OnOk, OnErr, Some, None, if◌then◌else◌};
 ghost use Rattle.std.specs.Arc.{arc_value};
 ghost use Rattle.leaf_store.specs.Store.{IsAscending, value_at, any_key_in, with_value, without_key};
@@ -18,7 +19,7 @@ pub struct Store<T> {
 impl<T> Model for Store<T> {
     ghost use Rattle.std.specs.Prelude.{ℕ, List};
     ghost use Rattle.leaf_store.specs.Store.{IsAscending};
-    ghost use Rattle.leaf_store.specs.Kept.{pairs_of};
+    ghost use Rattle.leaf_store.specs.Entries.{pairs_of};
 
     ghost Value = { List (ℕ × T) };
 

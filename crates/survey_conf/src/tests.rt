@@ -20,7 +20,7 @@ const LINES: [&str; 8] = [
 
 // Another line in place of the one of `LINES` at a place from 0, or after them, and the line and the kind of the fault, or
 // `None` where the description is accepted.
-const OUTCOMES: [(usize, &str, Option<(u64, u8)>); 51] = [
+static OUTCOMES: [(usize, &str, Option<(u64, u8)>); 51] = [
     (8, "no sign", Some((9, 1))),
     (8, "survey_odd", Some((9, 1))),
     (8, "Key = 1", Some((9, 1))),
@@ -100,10 +100,10 @@ fn fault(alloc: Global, text: &[u8]) -> Result<Option<(u64, u8)>, ConfRefusal> {
 #[test]
 fn reports_the_first_fault(rt: HostRuntime) -> Result<(), Fail> {
     let alloc = rt.alloc();
-    for (at, other, found) in OUTCOMES {
+    for (at, other, found) in &OUTCOMES {
         assert_eq!(rt;
-            fault(alloc, &with_line(alloc, at, other)?)?,
-            found,
+            fault(alloc, &with_line(alloc, *at, other)?)?,
+            *found,
             "{other}"
         );
     }

@@ -2,7 +2,7 @@ use Rattle.std.proofs.Common.{sym, ◌∙◌, ap}
 use Rattle.std.proofs.Common.{option_map}
 use Rattle.std.specs.Arc.{arc_value}
 use Rattle.leaf_store.specs.Store.{value_at, with_value}
-use Rattle.leaf_store.specs.Kept.{pairs_of}
+use Rattle.leaf_store.specs.Entries.{pairs_of}
 use Rattle.leaf_store.proofs.PairLemmas.{ascending_pairs, value_of_pairs, pairs_of-insert_entry, other_stays}
 use Rattle.leaf_store.proofs.store.Store.put.Goals as goal
 

@@ -4,7 +4,7 @@ use Rattle.std.specs.Arc.{arc_value}
 use Rattle.leaf_store.specs.Store.{value_at, without_key}
 use Rattle.std.specs.Ordering.{nat_cmp}
 use Rattle.std.specs.BTreeMap.{is_at}
-use Rattle.leaf_store.specs.Kept.{pairs_of}
+use Rattle.leaf_store.specs.Entries.{pairs_of}
 use Rattle.leaf_store.proofs.PairLemmas.{ascending_pairs, value_of_pairs, pairs_of-remove_entry, other_stays}
 use Rattle.leaf_store.proofs.store.Store.remove.Goals as goal
 

@@ -1,4 +1,4 @@
--- Pairs as a store keeps them.
+-- The pairs that the entries of a store stand for.
 use Rattle.std.specs.Prelude.{ℕ, List, map}
 use Rattle.std.specs.Arc.{arc_value}
 use Rattle.std.specs.declared.sync.Arc.{Arc}
