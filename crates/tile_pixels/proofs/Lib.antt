@@ -5,3 +5,5 @@ pub mod Quadrants
 pub mod Pyramid
 pub mod TwoRows
 pub mod Halves
+pub mod RowAbove
+pub mod HalvedRow

@@ -11,6 +11,10 @@ number_from bits bytes =
     else (if bits == 16 then cast_signed w16 (big_number 2 bytes)
     else (if bits == 32 then cast_signed w32 (big_number 4 bytes) else cast_signed w64 (big_number 8 bytes)))
 
+-- the number at a place of a row of stored numbers
+abbrev pub stored_at : ℕ → List ℕ → ℕ → ℤ
+stored_at bits row place = number_from bits (drop (place * (bits / 8)) row)
+
 -- the first count numbers in some bytes
 unfoldable pub numbers_from : ℕ → ℕ → List ℕ → List ℤ
 numbers_from bits count bytes = map (λ s. number_from bits (drop (s * (bits / 8)) bytes)) (range_with_len 0 count)

@@ -1,12 +1,14 @@
+//! A tile's square of numbers, which can be halved.
 ghost use Rattle.std.specs.Prelude.{◌≡◌, ℕ, ◌+◌, ◌*◌, ◌^◌, ◌<◌, ◌≤◌, length, drop, slice_index_or, pos, IfOk, All};
 ghost use Rattle.parent_rule.specs.Depth.{IsNumber};
 ghost use Rattle.parent_rule.specs.Combined.{combined, square_at};
 ghost use Rattle.tile_pixels.specs.Tile.{pixel_in};
 ghost use Rattle.tile_pixels.specs.Block.{block_number, block_square};
 
+use crate::halved::combine_rows;
 use crate::row::read_row;
 use crate::tile::Tile;
-use parent_rule::{Depth, mean_rows};
+use parent_rule::Depth;
 use std::alloc::{AllocError, Global};
 use std::marker::Model;
 
@@ -134,7 +136,7 @@ fn halve_line(numbers: &mut [i64], line: usize, depth: Depth, row: &mut [i64])
     let side = row.len();
     let start = 4 * side * line;
     let middle = start + 2 * side;
-    mean_rows(
+    combine_rows(
         &numbers[start..middle],
         &numbers[middle..middle + 2 * side],
         depth,

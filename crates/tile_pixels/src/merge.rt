@@ -1,3 +1,4 @@
+//! The tile above four tiles.
 ghost use Rattle.std.specs.Prelude.{◌≡◌, ℕ, ◌-◌, ◌*◌, ◌/◌, ◌^◌, ◌<◌, ◌≤◌, List, ◌++◌, length, All, IfOk, option_map};
 ghost use Rattle.std.specs.Option.{ForSome};
 ghost use Rattle.parent_rule.specs.Depth.{IsNumber};
@@ -6,10 +7,12 @@ ghost use Rattle.pyramid_model.specs.Tile.{pixels};
 ghost use Rattle.tile_pixels.specs.Lines.{half_row, half_rows};
 ghost use Rattle.tile_pixels.specs.Merge.{merged, ShowsChildren};
 ghost use Rattle.tile_pixels.specs.Stored.{stored_bytes};
+ghost use Rattle.tile_pixels.specs.Tile.{HasShape};
 
-use crate::row::{read_row, write_row};
+use crate::above::store_row_above;
+use crate::row::write_row;
 use crate::tile::Tile;
-use parent_rule::{Depth, Permit, mean_rows};
+use parent_rule::{Depth, Permit};
 use std::alloc::{AllocError, Global};
 
 impl Tile {
@@ -31,10 +34,10 @@ impl Tile {
     ) -> Result<Tile, AllocError>
         requires least_n { 1 ≤ n }
         requires greatest_n { n ≤ 9 }
-        requires c0 { ForSome c0 (λ t. (t.now.depth ≡ depth) × (t.now.n ≡ n)) }
-        requires c1 { ForSome c1 (λ t. (t.now.depth ≡ depth) × (t.now.n ≡ n)) }
-        requires c2 { ForSome c2 (λ t. (t.now.depth ≡ depth) × (t.now.n ≡ n)) }
-        requires c3 { ForSome c3 (λ t. (t.now.depth ≡ depth) × (t.now.n ≡ n)) }
+        requires c0 { ForSome c0 (λ t. HasShape t.now depth n) }
+        requires c1 { ForSome c1 (λ t. HasShape t.now depth n) }
+        requires c2 { ForSome c2 (λ t. HasShape t.now depth n) }
+        requires c3 { ForSome c3 (λ t. HasShape t.now depth n) }
         ensures tile { IfOk result (λ tile. tile ≡ record {
           depth = depth;
           n = n;
@@ -93,8 +96,8 @@ fn append_rows(
 ) -> Result<(), AllocError>
     requires least_n { 1 ≤ n }
     requires greatest_n { n ≤ 9 }
-    requires left { ForSome left (λ t. (t.now.depth ≡ depth) × (t.now.n ≡ n)) }
-    requires right { ForSome right (λ t. (t.now.depth ≡ depth) × (t.now.n ≡ n)) }
+    requires left { ForSome left (λ t. HasShape t.now depth n) }
+    requires right { ForSome right (λ t. HasShape t.now depth n) }
     requires numbers { length numbers.old ≡ 5 * 2 ^ (n - 1) }
     requires bytes { length bytes.old ≡ 2 ^ (n - 1) * (depth.bitpix / 8) }
     ensures bytes { IfOk result (λ _. raw.new.items ≡ raw.old.items ++ stored_bytes depth.bitpix
@@ -122,48 +125,53 @@ fn append_row(
 ) -> Result<(), AllocError>
     requires least_n { 1 ≤ n }
     requires greatest_n { n ≤ 9 }
-    requires child { ForSome child (λ t. (t.now.depth ≡ depth) × (t.now.n ≡ n)) }
+    requires child { ForSome child (λ t. HasShape t.now depth n) }
     requires row { row < 2 ^ (n - 1) }
     requires numbers { length numbers.old ≡ 5 * 2 ^ (n - 1) }
     requires bytes { length bytes.old ≡ 2 ^ (n - 1) * (depth.bitpix / 8) }
     ensures bytes { IfOk result (λ _. raw.new.items ≡ raw.old.items ++ stored_bytes depth.bitpix (half_row depth n (option_map (λ t. t.now.numbers) child.entry) row)) }
     ensures range { All (IsNumber depth.bitpix) (half_row depth n (option_map (λ t. t.now.numbers) child.entry) row) }
 {
-    let half = half_side(n);
-    let (above, below) = numbers.split_at_mut(half);
-    let (top, bottom) = below.split_at_mut(2 * half);
-    combine_row(depth, n, child, row, top, bottom, above);
-    write_row(depth, above, bytes);
+    store_half_row(depth, n, child, row, numbers, bytes);
     raw.extend_from_slice(bytes)
 }
 
-// Combines rows `2 * row` and `2 * row + 1` of a child, which are read into `top` and `bottom`.
-fn combine_row(
+// Stores the row above rows `2 * row` and `2 * row + 1` of a child: blank where it isn't given.
+fn store_half_row(
     depth: Depth,
     n: u8,
     child: Option<&Tile>,
     row: usize,
-    top: &mut [i64],
-    bottom: &mut [i64],
-    above: &mut [i64],
+    numbers: &mut [i64],
+    bytes: &mut [u8],
 )
     requires least_n { 1 ≤ n }
     requires greatest_n { n ≤ 9 }
-    requires child { ForSome child (λ t. (t.now.depth ≡ depth) × (t.now.n ≡ n)) }
+    requires child { ForSome child (λ t. HasShape t.now depth n) }
     requires row { row < 2 ^ (n - 1) }
-    requires top { length top.old ≡ 2 ^ n }
-    requires bottom { length bottom.old ≡ 2 ^ n }
-    requires above { length above.old ≡ 2 ^ (n - 1) }
-    ensures row { above.new ≡ half_row depth n (option_map (λ t. t.now.numbers) child.entry) row }
-    ensures range { All (IsNumber depth.bitpix) above.new }
+    requires numbers { length numbers.old ≡ 5 * 2 ^ (n - 1) }
+    requires bytes { length bytes.old ≡ 2 ^ (n - 1) * (depth.bitpix / 8) }
+    ensures bytes { bytes.new ≡ stored_bytes depth.bitpix (half_row depth n (option_map (λ t. t.now.numbers) child.entry) row) }
+    ensures range { All (IsNumber depth.bitpix) (half_row depth n (option_map (λ t. t.now.numbers) child.entry) row) }
 {
+    let half = half_side(n);
+    let blank = depth.blank();
     match child {
-        None => above.fill(depth.blank()),
+        None => {
+            let above = &mut numbers[..half];
+            above.fill(blank);
+            write_row(depth, above, bytes);
+        }
         Some(tile) => {
             let line = 2 * row as u32;
-            read_row(depth, tile.line(line), top);
-            read_row(depth, tile.line(line + 1), bottom);
-            mean_rows(top, bottom, depth, above);
+            store_row_above(
+                depth,
+                tile.line(line),
+                tile.line(line + 1),
+                half,
+                numbers,
+                bytes,
+            );
         }
     }
 }

@@ -1,3 +1,4 @@
+//! A tile, by the bytes that a FITS file stores.
 ghost use Rattle.std.specs.Prelude.{◌≡◌, ℕ, ◌+◌, ◌*◌, ◌/◌, ◌^◌, ◌<◌, ◌≤◌, length, drop, IfOk};
 ghost use Rattle.parent_rule.specs.Permit.{one_more};
 ghost use Rattle.tile_pixels.specs.Stored.{number_from, numbers_from, stored_bytes};
@@ -126,6 +127,7 @@ impl Tile {
         ensures numbers { (column : ℕ) → column < 2 ^ self.now.n
             → number_from self.now.depth.bitpix (drop (column * (self.now.depth.bitpix / 8)) result.now) ≡ pixel_in self.now column line }
         ensures length { length result.now ≡ 2 ^ self.now.n * (self.now.depth.bitpix / 8) }
+        ensures tile { IsTile self.now.depth self.now.n self.now.numbers }
     {
         let side = self.side();
         let length = side * self.depth.bytes();
