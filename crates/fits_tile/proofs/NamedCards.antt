@@ -1,5 +1,5 @@
 -- What the keywords of a tile's cards decide, whatever the values are: no card is an end card, and none repeats another.
-use Rattle.std.proofs.Common.{◌≡◌, ℕ, Bool, true, false, not, ◌||◌, List, [], ◌∷◌, Option, Some, None, refl, ap}
+use Rattle.std.proofs.Common.{◌≡◌, ℕ, Bool, true, false, not, ◌||◌, List, [], ◌∷◌, Option, None, refl, ap}
 use Rattle.std.specs.Prelude.{codes, is_some}
 use Rattle.std.specs.Option.{option_map_or}
 use Rattle.decimal_scale.specs.Whole.{whole_value}

@@ -1,5 +1,5 @@
 -- A tile file that is written is read again.
-use Rattle.std.proofs.Common.{◌≡◌, ℕ, ◌+◌, ◌-◌, ◌*◌, ◌/◌, ◌^◌, ◌<◌, ◌≤◌, true, false, IsTrue, All, ℤ, pos, List, [], ◌∷◌, ◌++◌, length, take, drop, replicate, Some, None, Result, Ok, Err, refl, sym, ap, ◌∙◌, arith, length-append}
+use Rattle.std.proofs.Common.{◌≡◌, ℕ, ◌+◌, ◌-◌, ◌*◌, ◌/◌, ◌^◌, ◌<◌, ◌≤◌, true, false, All, ℤ, pos, List, [], ◌∷◌, ◌++◌, length, drop, replicate, Some, None, Result, Ok, Err, refl, sym, ap, ◌∙◌, arith, length-append}
 use Rattle.std.specs.Prelude.{codes}
 use Rattle.std.specs.List.{AllByRecursion}
 use Rattle.std.specs.Fmt.{signed_decimal}
@@ -8,15 +8,15 @@ use Rattle.std.proofs.lemmas.List.{drop_at, take_at, length-replicate}
 use Rattle.healpix_nested.specs.Cells.{IsCell}
 use Rattle.decimal_scale.specs.Real.{real_text}
 use Rattle.decimal_scale.specs.Whole.{whole_value}
-use Rattle.fits_header.specs.Cards.{header_length, whole_blocks}
+use Rattle.fits_header.specs.Cards.{whole_blocks}
 use Rattle.fits_header.specs.FitsFile.{header_text, in_blocks}
 use Rattle.fits_header.specs.Laws.{IsCard, IsInnerCard, MadeCardsAreCards, WrittenValuesAreRead, WrittenHeadersAreRead}
 use Rattle.fits_header.specs.Reading.{header_of, values, read_header, is_bad, value_fault, twice_fault}
 use Rattle.fits_header.specs.Values.{logical, real, value_text}
-use Rattle.fits_header.specs.WrittenCards.{keyword_columns, set_right, value_card, logical_card, integer_card, real_card, end_card}
+use Rattle.fits_header.specs.WrittenCards.{keyword_columns, set_right, value_card, end_card}
 use Rattle.fits_header.specs.declared.fault.HeaderFault.{HeaderFault}
 use Rattle.fits_header.specs.declared.header.Header.{Header}
-use Rattle.parent_rule.specs.Depth.{is_bitpix, IsNumber}
+use Rattle.parent_rule.specs.Depth.{IsNumber}
 use Rattle.survey_conf.specs.Description.{Description, IsDescription}
 use Rattle.tile_pixels.specs.Stored.{stored_bytes, numbers_from}
 use Rattle.tile_pixels.specs.StoredLaws.{length-stored_bytes, numbers_from-stored_bytes}
@@ -26,7 +26,7 @@ use Rattle.fits_tile.specs.Laws.{TilesAreReadAgain}
 use Rattle.fits_tile.specs.declared.fault.TileFault.{TileFault}
 use Rattle.fits_tile.proofs.FitsLemmas.{fits-pos, fits-number, fits-bitpix, fits-width}
 use Rattle.fits_tile.proofs.HeaderLemmas.{nowhere, length-header, header-faultless, data-faultless}
-use Rattle.fits_tile.proofs.NamedCards.{cards_of, has_kind, no-ends, goods, never-twice}
+use Rattle.fits_tile.proofs.NamedCards.{cards_of, no-ends, goods, never-twice}
 use Rattle.fits_tile.proofs.SizeLemmas.{cell-small}
 use Rattle.fits_tile.proofs.ValuesRead.{has-kind, simple-of, bitpix-of, naxis-of, naxis1-of, naxis2-of, bscale-of, bzero-of, blank-of}
 

@@ -1,6 +1,6 @@
 -- Reading a tile file: its stored numbers, or the first fault whose condition stands in its bytes (FITS 4.0, sections 4.4.1
 -- and 4.4.2.5). Which files are taken, and the order of the faults, are this project's profile.
-use Rattle.std.specs.Prelude.{ℕ, ◌+◌, ◌-◌, ◌^◌, Bool, false, not, ◌&&◌, nat_lt, if◌then◌else◌, List, length, take, drop, ℤ, pos, Option, Some, None, unwrap_or, Result, Ok, Err}
+use Rattle.std.specs.Prelude.{ℕ, ◌-◌, ◌^◌, Bool, false, not, ◌&&◌, nat_lt, if◌then◌else◌, List, length, take, drop, ℤ, pos, Option, Some, None, unwrap_or, Result, Ok, Err}
 use Rattle.std.specs.Option.{option_eq, option_map_or, option_or}
 use Rattle.std.specs.Ordering.{int_eq}
 use Rattle.decimal_scale.specs.Real.{DecimalNumber}

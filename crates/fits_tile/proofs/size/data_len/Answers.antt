@@ -1,5 +1,4 @@
-use Rattle.std.proofs.Common.{◌<◌, ◌^◌, ◌∙◌, ap, arith}
-use Rattle.pyramid_model.specs.Shape.{PyramidShape}
+use Rattle.std.proofs.Common.{◌<◌, ◌∙◌, ap, arith}
 use Rattle.fits_tile.specs.TileFile.{data_len}
 use Rattle.fits_tile.proofs.SizeLemmas.{shifted-len, len-at_most}
 use Rattle.fits_tile.proofs.size.data_len.Goals as goal
