@@ -35,7 +35,7 @@ found text true e n is =
     ((bytes_eq-Decides text (decimal (digits_value 10 text))).0 parts.1 ∙ ap decimal same, grind (arith, nat_tests, parts, same))
 found text false e n is = let none : plain_value text ≡ None = rw e refl in absurd cc
 
--- and only they are
+-- what is read as a number is that number in plain decimals
 pub plain_read : (text : List ℕ) (n : ℕ) → plain_value text ≡ Some n → (text ≡ decimal n) × (n < 2 ^ 64)
 plain_read text n is = found text (nat_lt (digits_value 10 text) (2 ^ 64) && bytes_eq text (decimal (digits_value 10 text))) refl n is
 
@@ -73,7 +73,7 @@ starts_plain text n small e = subst StartsPlain (sym e) (decimal_starts_plain n 
 
 -- ---- what the standard library reads
 
--- of a text that starts so
+-- what is read of a text that starts as plain decimals do has these as its decimals
 pub plain_parsed : {E : Type 0} (text : List ℕ) (r : Result ℕ E) → ParsesUnsigned 64 10 text r
     → 48 ≤ get_or text 0 0 → (get_or text 0 0 ≡ 48 → length text ≡ 1)
     → MatchOption (result_ok r) ((n : ℕ) → n < 2 ^ 64 → text ≢ decimal n) (λ n. text ≡ decimal n)
@@ -83,7 +83,7 @@ plain_parsed {E = E} text (Ok n) parses least alone =
 plain_parsed {E = E} text (Err e) parses least alone =
     λ n small same. let r : Err e ≡ Ok n = parse-decimal {E = E} 64 n text (Err e) small small same parses in cc
 
--- the same as the number of the text
+-- what is read of a text that starts as plain decimals do is the number of the text
 pub plain_parsed_value : {E : Type 0} (text : List ℕ) (r : Result ℕ E) → ParsesUnsigned 64 10 text r
     → 48 ≤ get_or text 0 0 → (get_or text 0 0 ≡ 48 → length text ≡ 1) → result_ok r ≡ plain_value text
 plain_parsed_value {E = E} text (Ok n) parses least alone =

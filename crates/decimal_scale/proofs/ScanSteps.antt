@@ -109,14 +109,14 @@ pub no_digit : (text : List ℕ) (digits : Digits) → digits.has_digit ≡ fals
 unfolding is_fixed_point
 no_digit text digits none h = and_right _ _ (h.shape.some ∙ none)
 
--- so is one with another byte
+-- a text with another byte is no number with at most one point
 pub other_byte : (text : List ℕ) (i : ℕ) → i < length text → is_digit (get_or text i 0) ≡ false → is_point (get_or text i 0) ≡ false → is_fixed_point text ≡ false
 unfolding is_fixed_point
 other_byte text i within digit point =
     let refused : list_all (λ byte. is_digit byte || is_point byte) text ≡ false = list_all_at (λ byte. is_digit byte || is_point byte) text i 0 within (or_from _ _ digit point) in
     and_left _ _ (and_left _ _ refused)
 
--- and one with another point
+-- nor is a text with another point
 pub second_point : (text : List ℕ) (i : ℕ) → i < length text → get_or text i 0 ≡ 46 → count_by is_point (take i text) ≡ 1 → is_fixed_point text ≡ false
 unfolding is_fixed_point
 second_point text i within point one =

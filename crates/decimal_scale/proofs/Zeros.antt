@@ -15,7 +15,7 @@ led_after_zeros (x ∷ xs) ys h =
       | false ↦ λ e. cc
     ]) h
 
--- and else what follows stays whole
+-- where another digit stands before, what follows stays whole
 pub led_more : (xs ys : List ℕ) → 0 < length (without_leading_zeros xs) → without_leading_zeros (xs ++ ys) ≡ without_leading_zeros xs ++ ys
 led_more [] ys h = absurd (omega arith)
 led_more (x ∷ xs) ys h =
@@ -28,7 +28,7 @@ led_more (x ∷ xs) ys h =
 pub trailing_zero : (xs : List ℕ) → without_trailing_zeros (xs ++ 48 ∷ []) ≡ without_trailing_zeros xs
 trailing_zero xs = ap (λ (ys : List ℕ). reverse (without_leading_zeros ys)) (reverse-append xs (48 ∷ []))
 
--- and nothing is dropped before another last digit
+-- nothing is dropped before a last digit that is no zero
 pub last_digit_stays : (xs : List ℕ) (d : ℕ) → is_zero d ≡ false → without_trailing_zeros (xs ++ d ∷ []) ≡ xs ++ d ∷ []
 last_digit_stays xs d h =
     let turned : reverse (xs ++ d ∷ []) ≡ d ∷ reverse xs = reverse-append xs (d ∷ []) in

@@ -73,7 +73,7 @@ without_trailing_zeros digits = reverse (without_leading_zeros (reverse digits))
 unfoldable pub led_digits : List ℕ → List ℕ
 led_digits number = without_leading_zeros (filter is_digit number)
 
--- and without trailing zeros: the significant part
+-- the significant part: the digits in order, without the point and without leading and trailing zeros
 unfoldable pub significant : List ℕ → List ℕ
 significant number = without_trailing_zeros (led_digits number)
 

@@ -16,7 +16,7 @@ pub record HasShape (text : List ℕ) (has_point has_digit : Bool) (after : ℕ)
   pub after_point : digits_after_point text ≡ after
   pub room : after ≤ length text
 
--- its significant digits: what they write, how many they are, and how many zeros follow them
+-- the significant digits of the front of a number with at most one point: what they write, how many they are, and how many zeros follow them
 pub record HasDigits (text : List ℕ) (value count zeros : ℕ) : Type 0 where
   pub counted : length (significant text) ≡ count
   pub followed : led_digits text ≡ significant text ++ replicate zeros 48
@@ -42,7 +42,7 @@ pub record IsCapped (limit : ℕ) (text : List ℕ) (n : ℕ) : Type 0 where
   pub is : is_whole text ≡ true
   pub value : n ≡ min (digits_value 10 text) limit
 
--- the same with an optional sign
+-- the number of an optional sign and one or more digits, cut off at the limit on both sides of 0
 pub record IsCappedExponent (limit : ℕ) (text : List ℕ) (written : ℤ) : Type 0 where
   pub is : is_whole (without_leading_sign text) ≡ true
   pub value : written ≡ signed (starts_with_minus text) (min (digits_value 10 (without_leading_sign text)) limit)

@@ -40,7 +40,7 @@ value_of-skipped kind keyword cards card skipped =
     ∙ ap (λ b. option_or (value_of kind keyword cards) (cond b (option_and_then kind (value_text card)) None)) skipped
     ∙ or_none (value_of kind keyword cards)
 
--- and a named card says its value, if it has one
+-- a named card says its value, if it has one
 value_of-more : {A : Type 0} (kind : List ℕ → Option A) (keyword : Keyword) (cards : List (List ℕ)) (card text : List ℕ) (own : Bool) → is_named keyword card ≡ own → value_text card ≡ Some text
     → value_of kind keyword (cards ++ card ∷ []) ≡ cond own (option_or (value_of kind keyword cards) (kind text)) (value_of kind keyword cards)
 value_of-more kind keyword cards card text false named e = value_of-skipped kind keyword cards card named

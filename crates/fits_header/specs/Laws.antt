@@ -17,7 +17,7 @@ pub record IsCard (card : List ℕ) : Type 0 where
   pub len : length card ≡ 80
   pub bytes : list_all is_text_byte card ≡ true
 
--- and no end card: it stands before the end of a header
+-- a card that is no end card, as those before the end of a header
 pub record IsInnerCard (card : List ℕ) : Type 0 where
   pub is : IsCard card
   pub inner : is_end_card card ≡ false

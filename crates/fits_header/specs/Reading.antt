@@ -101,7 +101,7 @@ value_fault cards = option_map (λ card. BadValue card) (bad_card cards)
 abbrev pub twice_fault : List (List ℕ) → Option HeaderFault
 twice_fault cards = option_map (λ card. Twice card) (repeated_card cards)
 
--- the first of them
+-- the first of the five refusals whose condition stands
 unfoldable pub fault_of : List ℕ → Option HeaderFault
 fault_of text = option_or (short_fault text) (option_or (ascii_fault text) (option_or (end_fault text)
     (option_or (value_fault (header_cards text)) (twice_fault (header_cards text)))))

@@ -23,7 +23,7 @@ set_right width text = replicate (width - length text) 32 ++ text
 unfoldable pub keyword_columns : List ℕ → List ℕ
 keyword_columns keyword = filled 8 keyword ++ codes "= "
 
--- these columns, the value from column 11 on, and spaces up to column 80
+-- a card: the keyword and the value indicator, the value from column 11 on, and spaces up to column 80
 unfoldable pub value_card : List ℕ → List ℕ → List ℕ
 value_card keyword value = filled 80 (keyword_columns keyword ++ value)
 

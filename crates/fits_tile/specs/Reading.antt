@@ -52,7 +52,7 @@ abbrev pub blank_fault : PixelDepth → Option ℤ → Option TileFault
 blank_fault depth None = None
 blank_fault depth (Some found) = if int_eq found depth.blank then None else Some (Blank found)
 
--- the first of them
+-- the first fault of the header's values
 unfoldable pub header_fault : Description → Header → Option TileFault
 header_fault d header =
     option_or (simple_fault header)

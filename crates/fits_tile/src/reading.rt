@@ -61,7 +61,7 @@ fn stored_bytes<'a>(bytes: &'a [u8], conf: &Conf) -> Result<&'a [u8], TileFault>
     }
 }
 
-// The same of the bytes that follow the header.
+// The bytes of the stored numbers in what follows the header, or the first fault of the file.
 fn stored_bytes_after<'a>(
     header: &Header,
     rest: &'a [u8],

@@ -12,7 +12,7 @@ abbrev pub CatalogueSpellingsDiffer : Type 0
 CatalogueSpellingsDiffer = (order npix order' npix' : ℕ) → IsTile order npix → IsTile order' npix' →
     catalogue_spelling order npix ≡ catalogue_spelling order' npix' → (order ≡ order') × (npix ≡ npix')
 
--- and no path is spelled as a catalogue tile
+-- no path is spelled as a catalogue tile
 abbrev pub CatalogueTilesAreNoPaths : Type 0
 CatalogueTilesAreNoPaths = (path : Path) (order npix : ℕ) → IsPath path → IsTile order npix →
     spelling path ≢ catalogue_spelling order npix

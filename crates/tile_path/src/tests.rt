@@ -27,7 +27,7 @@ fn is_path(path: Path, text: &[u8]) -> bool {
     &out[..len] == text && out[len..] == BLANK[len..] && Path::read(text) == Some(path)
 }
 
-// The same of a catalogue tile.
+// Whether the catalogue tile is written so, at the front of a buffer whose rest stays, and is read again.
 fn is_catalogue_tile(cell: Cell, text: &[u8]) -> bool {
     if cell.order() > 11 {
         return false;
