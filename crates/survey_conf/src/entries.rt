@@ -15,7 +15,7 @@ use indexmap::IndexMap;
 use std::alloc::Global;
 
 /// The value of a key, and the number of its line.
-#[derive(Clone, Copy, Debug)]
+#[derive(Clone, Copy)]
 pub(crate) struct Setting<'a> {
     pub(crate) line: u64,
     pub(crate) value: &'a [u8],

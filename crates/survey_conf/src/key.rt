@@ -7,7 +7,7 @@ use crate::number::{bitpix, combine, lowest_order, order, version, whole, width_
 use crate::real::{real, scale};
 
 /// A key that is known.
-#[derive(Clone, Copy, Debug, PartialEq, Eq)]
+#[derive(Clone, Copy)]
 pub(crate) enum Key {
     CreatorDid,
     ObsTitle,

@@ -88,11 +88,15 @@ fn properties(alloc: Global, text: &[u8], leaves: u64) -> Result<Vec<u8>, ConfRe
 
 #[test]
 fn writes_each_key_in_order(rt: HostRuntime) -> Result<(), Fail> {
-    for (text, leaves, written) in [
-        (PLAIN, 0, PLAIN_WRITTEN),
-        (EACH_KEY, u64::MAX, EACH_KEY_WRITTEN),
+    for (name, text, leaves, written) in [
+        ("the required keys", PLAIN, 0, PLAIN_WRITTEN),
+        ("each key", EACH_KEY, u64::MAX, EACH_KEY_WRITTEN),
     ] {
-        assert_eq!(rt; properties(rt.alloc(), text, leaves)?.as_slice(), written);
+        assert_eq!(rt;
+            properties(rt.alloc(), text, leaves)?.as_slice(),
+            written,
+            "{name}"
+        );
     }
     Ok(())
 }
@@ -100,13 +104,11 @@ fn writes_each_key_in_order(rt: HostRuntime) -> Result<(), Fail> {
 // The lines but the last are a description with the same properties.
 #[test]
 fn reads_what_was_written(rt: HostRuntime) -> Result<(), Fail> {
-    for text in [PLAIN, EACH_KEY] {
+    for (name, text) in [("the required keys", PLAIN), ("each key", EACH_KEY)] {
         let written = properties(rt.alloc(), text, 0)?;
         let described = written.strip_suffix(LEAVES_LINE).unwrap_or(&[]);
-        assert_eq!(rt;
-            properties(rt.alloc(), described, 0)?.as_slice(),
-            written.as_slice()
-        );
+        let again = properties(rt.alloc(), described, 0)?;
+        assert_eq!(rt; again.as_slice(), written.as_slice(), "{name}");
     }
     Ok(())
 }
