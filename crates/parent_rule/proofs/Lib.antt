@@ -4,3 +4,4 @@ mod Cases
 mod Rows
 mod Examples
 pub mod FourNumbers
+pub mod MedianCases

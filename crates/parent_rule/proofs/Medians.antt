@@ -17,6 +17,9 @@ three a x y le = grind (arith, ints)
 int_min-le-int_max : (a b : ℤ) → int_min a b ≤ℤ int_max a b
 int_min-le-int_max a b = omega (arith, ints, clamps)
 
+pub median_of_two : (a b blank : ℤ) → int_min a b ≡ lower_median blank (a ∷ b ∷ [])
+median_of_two a b blank = rw pair refl
+
 pub median_of_three : (a b c blank : ℤ) → int_max (int_min b c) (int_min a (int_max b c)) ≡ lower_median blank (a ∷ b ∷ c ∷ [])
 median_of_three a b c blank =
     rw pair (sym (second a (int_min b c) (int_max b c) blank [] (int_min-le-int_max b c)))

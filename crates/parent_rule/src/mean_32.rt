@@ -1,6 +1,6 @@
 //! Means of four numbers of 32 bits, with sums of 64 bits and no look-up or early return, so that a loop over rows
 //! works on many pixels at a time.
-ghost use Rattle.std.specs.Prelude.{◌≡◌, ◌≢◌, ◌<◌, ◌≤◌, ◌+◌, ◌*◌, ◌/◌, [], ◌∷◌, pos, ◌+ℤ◌};
+ghost use Rattle.std.specs.Prelude.{◌≡◌, ◌≢◌, ◌<◌, ◌≤◌, ◌+◌, ◌*◌, ◌/◌, ◌^◌, [], ◌∷◌, pos, ◌+ℤ◌};
 ghost use Rattle.parent_rule.specs.Combined.{combined};
 ghost use Rattle.parent_rule.specs.Weighed.{Weighed};
 ghost use Rattle.parent_rule.specs.declared.combine.Combine.TheVariants.{Mean};
@@ -72,9 +72,20 @@ fn mean_of_raised_i32(sum: u64, count: u64) -> i32
     // Each divisor is a constant, so that no division is left.
     let mean = match count {
         4 => (sum + 2) / 4,
-        3 => (sum + 1) / 3,
+        3 => third(sum + 1),
         2 => (sum + 1) / 2,
         _ => sum,
     };
     (mean as i64 - 2147483648) as i32
+}
+
+// A third, rounded down, digit by digit of 16 bits: a loop can divide many numbers of 32 bits at a time, and none of 64.
+#[inline(always)]
+fn third(number: u64) -> u64
+    requires { number < 2 ^ 34 }
+    ensures { result ≡ number / 3 }
+{
+    let high = (number / 65536) as u32;
+    let low = high % 3 * 65536 + (number % 65536) as u32;
+    u64::from(high / 3) * 65536 + u64::from(low / 3)
 }

@@ -4,7 +4,8 @@ ghost use Rattle.parent_rule.specs.Depth.{IsNumber};
 
 use crate::{
     Combine, Depth, Permit, Steps, mean_of_full_i16, mean_of_full_i32, mean_of_full_u8,
-    mean_of_i16, mean_of_i32, mean_of_u8, mean_rows, mean4,
+    mean_of_i16, mean_of_i32, mean_of_u8, mean_rows, mean4, median_of_i16, median_of_i32,
+    median_of_u8,
 };
 use std::process::Abort;
 use std::test::Fail;
@@ -218,5 +219,43 @@ fn means_of_32_bits(rt: HostRuntime) {
         if a != blank && b != blank && c != blank && d != blank {
             assert_eq!(rt; mean_of_full_i32(a, b, c, d, blank), wanted, "{row:?}");
         }
+    }
+}
+
+#[test]
+fn medians_of_each_width(rt: HostRuntime) {
+    let of_8 = [
+        (255, [1, 2, 3, 5], 2),
+        (255, [255, 5, 1, 5], 5),
+        (0, [255, 0, 0, 255], 255),
+        (7, [7, 7, 7, 7], 7),
+        (7, [9, 8, 200, 7], 9),
+    ];
+    for (blank, [a, b, c, d], wanted) in of_8 {
+        let row = [blank, a, b, c, d];
+        assert_eq!(rt; median_of_u8(a, b, c, d, blank), wanted, "{row:?}");
+    }
+    const B: i16 = -32768;
+    let of_16 = [
+        (B, [5, 3, 2, 1], 2),
+        (B, [-1, -2, B, B], -2),
+        (0, [B, 32767, 32767, 0], 32767),
+        (B, [32767, B, B, B], 32767),
+        (B, [9, -4, B, 0], 0),
+    ];
+    for (blank, [a, b, c, d], wanted) in of_16 {
+        let row = [blank, a, b, c, d];
+        assert_eq!(rt; median_of_i16(a, b, c, d, blank), wanted, "{row:?}");
+    }
+    const C: i32 = -2147483648;
+    let of_32 = [
+        (C, [5, 3, 2, 1], 2),
+        (C, [C, C, C, C], C),
+        (1, [C, 1, 2147483647, 1], C),
+        (C, [4, 4, 4, C], 4),
+    ];
+    for (blank, [a, b, c, d], wanted) in of_32 {
+        let row = [blank, a, b, c, d];
+        assert_eq!(rt; median_of_i32(a, b, c, d, blank), wanted, "{row:?}");
     }
 }
