@@ -10,127 +10,110 @@ fn text_of<'a>(number: &Decimal, out: &'a mut [u8; 32]) -> &'a [u8] {
     &out[..len]
 }
 
+// A text, its mantissa, its exponent, and what is written of the number.
+const NUMBERS: &str = "1.0 1 0 1.0E0
+3.2768E4 32768 0 32768.0E0
+-0.0250D-2 -25 -5 -25.0E-5
+1000 1 3 1.0E3
+0.0E999 0 0 0.0E0
+1. 1 0 1.0E0
+.5 5 -1 5.0E-1
++.5 5 -1 5.0E-1
+-.5 -5 -1 -5.0E-1
+1e5 1 5 1.0E5
+1d-5 1 -5 1.0E-5
+2D+07 2 7 2.0E7
+00012300 123 2 123.0E2
+-0 0 0 0.0E0
+-.0e-7 0 0 0.0E0
+10.01 1001 -2 1001.0E-2
+123456789012345678 123456789012345678 0 123456789012345678.0E0
+00.012345678901234567800E1 123456789012345678 -18 123456789012345678.0E-18
+-999999999999999999E400 -999999999999999999 400 -999999999999999999.0E400
+-999999999999999999e-400 -999999999999999999 -400 -999999999999999999.0E-400
+100E398 1 400 1.0E400
+0.01d402 1 400 1.0E400
+0.1D-399 1 -400 1.0E-400
+10E-401 1 -400 1.0E-400
+0E99999999999999999999999999999999999999999999999999 0 0 0.0E0
+0d-99999999999999999999999999999999999999999999999999 0 0 0.0E0";
+
 #[test]
 fn reads_and_writes_the_normal_form(rt: HostRuntime) -> Result<(), Fail> {
-    for (text, mantissa, exp, printed) in [
-        ("1.0", 1, 0, "1.0E0"),
-        ("3.2768E4", 32768, 0, "32768.0E0"),
-        ("-0.0250D-2", -25, -5, "-25.0E-5"),
-        ("1000", 1, 3, "1.0E3"),
-        ("0.0E999", 0, 0, "0.0E0"),
-        ("1.", 1, 0, "1.0E0"),
-        (".5", 5, -1, "5.0E-1"),
-        ("+.5", 5, -1, "5.0E-1"),
-        ("-.5", -5, -1, "-5.0E-1"),
-        ("1e5", 1, 5, "1.0E5"),
-        ("1d-5", 1, -5, "1.0E-5"),
-        ("2D+07", 2, 7, "2.0E7"),
-        ("00012300", 123, 2, "123.0E2"),
-        ("-0", 0, 0, "0.0E0"),
-        ("-.0e-7", 0, 0, "0.0E0"),
-        ("10.01", 1001, -2, "1001.0E-2"),
-        (
-            "123456789012345678",
-            123456789012345678,
-            0,
-            "123456789012345678.0E0",
-        ),
-        (
-            "00.012345678901234567800E1",
-            123456789012345678,
-            -18,
-            "123456789012345678.0E-18",
-        ),
-        (
-            "-999999999999999999E400",
-            -999999999999999999,
-            400,
-            "-999999999999999999.0E400",
-        ),
-        (
-            "-999999999999999999e-400",
-            -999999999999999999,
-            -400,
-            "-999999999999999999.0E-400",
-        ),
-        ("100E398", 1, 400, "1.0E400"),
-        ("0.01d402", 1, 400, "1.0E400"),
-        ("0.1D-399", 1, -400, "1.0E-400"),
-        ("10E-401", 1, -400, "1.0E-400"),
-        (
-            "0E99999999999999999999999999999999999999999999999999",
-            0,
-            0,
-            "0.0E0",
-        ),
-        (
-            "0d-99999999999999999999999999999999999999999999999999",
-            0,
-            0,
-            "0.0E0",
-        ),
-    ] {
-        let number = Decimal::read(text.as_bytes()).ok().ok_or(text)?;
-        assert_eq!(rt; number.mantissa(), mantissa, "the mantissa of {text}");
-        assert_eq!(rt; number.exp(), exp, "the exponent of {text}");
+    for row in NUMBERS.lines() {
+        let mut fields = row.split(' ');
+        let text = fields.next().ok_or("no text")?;
+        let mantissa = fields.next().ok_or("no mantissa")?.parse::<i64>()?;
+        let exp = fields.next().ok_or("no exponent")?.parse::<i32>()?;
+        let written = fields.next().ok_or("nothing written")?;
+        let number = Decimal::read(text.as_bytes()).ok().ok_or("no number")?;
+        assert_eq!(rt; (number.mantissa(), number.exp()), (mantissa, exp), "{row}");
         assert_eq!(rt;
             text_of(&number, &mut [b'#'; 32]),
-            printed.as_bytes(),
-            "the text of {text}"
+            written.as_bytes(),
+            "{row}"
         );
-        assert_eq!(rt;
-            Decimal::read(printed.as_bytes()),
-            Ok(number),
-            "read again: {printed}"
-        );
+        assert_eq!(rt; Decimal::read(written.as_bytes()), Ok(number), "{row}");
     }
     Ok(())
 }
 
+// Texts that are no real numbers.
+const NO_NUMBERS: &str = "
+.
++
+-.
+E5
+1E
+1E+
+1E5.0
+1E5E5
+1.2.3
+1..
++-1
+--1
+1-
+ 1
+1 
+1F5
+NaN
+1234567890123456789x
+1E401x";
+
+// Numbers of more than 18 digits.
+const LONG_NUMBERS: &str = "1234567890123456789
+-0.01234567890123456789000E1000
+1000000000000000001";
+
+// Numbers with an exponent below -400 or above 400.
+const FAR_NUMBERS: &str = "1E401
+1D401
+1e401
+1d401
+1E-401
+1D-401
+1e-401
+1d-401
+10E400
+-0.1E-400
+1E1000000000000000000000000000000
+1E-99999999999999999999999999999999999999999999999999";
+
+// The first of these texts that isn't refused with that fault.
+fn other_answer(texts: &str, fault: BadReal) -> Option<&str> {
+    for text in texts.lines() {
+        if Decimal::read(text.as_bytes()) != Err(fault) {
+            return Some(text);
+        }
+    }
+    None
+}
+
 #[test]
 fn refuses_other_texts(rt: HostRuntime) {
-    for (text, fault) in [
-        (".", BadReal::NotANumber),
-        ("", BadReal::NotANumber),
-        ("+", BadReal::NotANumber),
-        ("-.", BadReal::NotANumber),
-        ("E5", BadReal::NotANumber),
-        ("1E", BadReal::NotANumber),
-        ("1E+", BadReal::NotANumber),
-        ("1E5.0", BadReal::NotANumber),
-        ("1E5E5", BadReal::NotANumber),
-        ("1.2.3", BadReal::NotANumber),
-        ("1..", BadReal::NotANumber),
-        ("+-1", BadReal::NotANumber),
-        ("--1", BadReal::NotANumber),
-        ("1-", BadReal::NotANumber),
-        (" 1", BadReal::NotANumber),
-        ("1 ", BadReal::NotANumber),
-        ("1F5", BadReal::NotANumber),
-        ("NaN", BadReal::NotANumber),
-        ("1234567890123456789x", BadReal::NotANumber),
-        ("1E401x", BadReal::NotANumber),
-        ("1234567890123456789", BadReal::TooLong),
-        ("-0.01234567890123456789000E1000", BadReal::TooLong),
-        ("1000000000000000001", BadReal::TooLong),
-        ("1E401", BadReal::Exponent),
-        ("1D401", BadReal::Exponent),
-        ("1e401", BadReal::Exponent),
-        ("1d401", BadReal::Exponent),
-        ("1E-401", BadReal::Exponent),
-        ("1D-401", BadReal::Exponent),
-        ("1e-401", BadReal::Exponent),
-        ("1d-401", BadReal::Exponent),
-        ("10E400", BadReal::Exponent),
-        ("-0.1E-400", BadReal::Exponent),
-        ("1E1000000000000000000000000000000", BadReal::Exponent),
-        (
-            "1E-99999999999999999999999999999999999999999999999999",
-            BadReal::Exponent,
-        ),
-    ] {
-        assert_eq!(rt; Decimal::read(text.as_bytes()), Err(fault), "at {text}");
-    }
+    assert_eq!(rt; other_answer(NO_NUMBERS, BadReal::NotANumber), None);
+    assert_eq!(rt; other_answer(LONG_NUMBERS, BadReal::TooLong), None);
+    assert_eq!(rt; other_answer(FAR_NUMBERS, BadReal::Exponent), None);
 }
 
 // Zeros, and what stands before and after them.
@@ -211,56 +194,66 @@ fn prints_numbers_and_faults(rt: HostRuntime) -> Result<(), Fail> {
     Ok(())
 }
 
+// A text, its number in plain decimals, and its whole number.
+const WHOLE_NUMBERS: &str = "0|0|0
+7|7|7
+10302|10302|10302
+007|none|7
+00|none|0
+-0|none|0
++0|none|0
++16|none|16
+-32768|none|-32768
+9223372036854775807|9223372036854775807|9223372036854775807
+9223372036854775808|9223372036854775808|none
+-9223372036854775808|none|-9223372036854775808
+-9223372036854775809|none|none
+-00009223372036854775808|none|-9223372036854775808
+18446744073709551615|18446744073709551615|none
+18446744073709551616|none|none
+99999999999999999999999999999999|none|none
+|none|none
++|none|none
+-|none|none
+--1|none|none
++-1|none|none
+ 1|none|none
+1 |none|none
+1.|none|none
+1E0|none|none
+0x10|none|none
+1_000|none|none
+\u{0661}|none|none";
+
+// A number, or `none`.
+fn shown(alloc: Global, number: Option<i128>) -> Result<String, AllocError> {
+    match number {
+        Some(number) => format!(in alloc; "{number}"),
+        None => String::from_str(alloc, "none"),
+    }
+}
+
 #[test]
-fn reads_whole_numbers(rt: HostRuntime) {
-    for (text, plain, whole) in [
-        ("0", Some(0), Some(0)),
-        ("7", Some(7), Some(7)),
-        ("10302", Some(10_302), Some(10_302)),
-        ("007", None, Some(7)),
-        ("00", None, Some(0)),
-        ("-0", None, Some(0)),
-        ("+0", None, Some(0)),
-        ("+16", None, Some(16)),
-        ("-32768", None, Some(-32_768)),
-        (
-            "9223372036854775807",
-            Some(9_223_372_036_854_775_807),
-            Some(i64::MAX),
-        ),
-        ("9223372036854775808", Some(9_223_372_036_854_775_808), None),
-        ("-9223372036854775808", None, Some(i64::MIN)),
-        ("-9223372036854775809", None, None),
-        ("-00009223372036854775808", None, Some(i64::MIN)),
-        ("18446744073709551615", Some(u64::MAX), None),
-        ("18446744073709551616", None, None),
-        ("99999999999999999999999999999999", None, None),
-        ("", None, None),
-        ("+", None, None),
-        ("-", None, None),
-        ("--1", None, None),
-        ("+-1", None, None),
-        (" 1", None, None),
-        ("1 ", None, None),
-        ("1.", None, None),
-        ("1E0", None, None),
-        ("0x10", None, None),
-        ("1_000", None, None),
-        ("\u{0661}", None, None),
-    ] {
+fn reads_whole_numbers(rt: HostRuntime) -> Result<(), Fail> {
+    for row in WHOLE_NUMBERS.lines() {
+        let mut fields = row.split('|');
+        let text = fields.next().ok_or("no text")?;
+        let plain = plain_decimal(text.as_bytes()).map(i128::from);
         assert_eq!(rt;
-            plain_decimal(text.as_bytes()),
-            plain,
-            "plain decimals {text}"
+            Some(shown(rt.alloc(), plain)?.as_str()),
+            fields.next(),
+            "{row}"
         );
+        let whole = whole_number(text.as_bytes()).map(i128::from);
         assert_eq!(rt;
-            whole_number(text.as_bytes()),
-            whole,
-            "the whole number {text}"
+            Some(shown(rt.alloc(), whole)?.as_str()),
+            fields.next(),
+            "{row}"
         );
     }
     assert_eq!(rt; plain_decimal(b"1\xFF"), None);
     assert_eq!(rt; whole_number(b"-\xFF"), None);
+    Ok(())
 }
 
 #[test]
