@@ -1,11 +1,10 @@
 -- What is known of the bytes held after some came behind them, and of a source after it lost them.
-use Rattle.std.proofs.Common.{ℕ, ◌+◌, ◌-◌, ◌<◌, ◌≤◌, inr, List, [], ◌++◌, length, Option, Some, None, refl, sym, ap, ◌∙◌, arith, append_assoc, length-append}
+use Rattle.std.proofs.Common.{ℕ, ◌+◌, ◌-◌, ◌<◌, ◌≤◌, List, [], ◌++◌, length, Option, Some, None, refl, sym, ap, ◌∙◌, arith, append_assoc, length-append}
 use Rattle.std.proofs.lemmas.List.{get_or_append_left, append-nil}
 use Rattle.std.specs.Io.KnownBytes.{Consumes}
 use Rattle.memchr.specs.Find.{OccursAt, Nowhere}
 use Rattle.http_frame.specs.Next.{head_end, most_head, NeedsMore}
 use Rattle.http_frame.specs.Fill.{Takes}
-use Rattle.http_frame.specs.Frame.{ReadsWhileNeeded}
 
 -- a source loses no bytes, or some and then others
 pub consumes_none : (left : Option (List ℕ)) → Consumes left left []
@@ -56,8 +55,3 @@ pub searched_before : (front more : List ℕ) → NeedsMore front → Nowhere (O
 searched_before front more needs k low high there =
     let short : length front < most_head = needs.short in
     needs.none k low (omega (arith, short, high)) (occurs_in_front front more head_end k (omega (arith, high)) there)
-
--- what came before the last reading, and the last
-pub reads_more : (held held' held'' : List ℕ) (l m n : Option (List ℕ)) → Takes held held' l m → Takes held' held'' m n → NeedsMore held' → ReadsWhileNeeded held l n
-reads_more held held' held'' l m n first second needs =
-    inr (first.more, second.more, consumes_both l m n first.more second.more first.consumed second.consumed, rw (sym first.grown) needs)

@@ -6,5 +6,7 @@ mod FirstLine
 mod Held
 mod HeadEnds
 mod Fills
+mod ReadingSteps
 mod Nexts
 mod Unique
+mod Stands

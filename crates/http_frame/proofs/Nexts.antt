@@ -32,8 +32,14 @@ head_length_of_more bytes more n h = record {
       h.first k low high (occurs_in_front bytes more head_end k (omega (arith, fits, least, high)) there);
 }
 
-text_of_more : (bytes more : List ℕ) (n : ℕ) → IsHeadLength bytes n → take n (bytes ++ more) ≡ take n bytes
+pub text_of_more : (bytes more : List ℕ) (n : ℕ) → IsHeadLength bytes n → take n (bytes ++ more) ≡ take n bytes
 text_of_more bytes more n h = take-append-le n bytes more (head_fits bytes n h)
+
+-- a head found in the bytes held is found in those held before and those that came
+pub found_with : (room : ℕ) (bytes front came rest : List ℕ) (request : Request) (path : Option (List ℕ)) (n : ℕ) → bytes ≡ front ++ came → IsHeadLength bytes n
+    → IsTaken room (take n bytes) request path → rest ≡ drop n bytes → IsFound room (front ++ came) request path rest
+found_with room bytes front came rest request path n is h taken rest_is =
+    rw (sym is) (record { head_length = n; ends = h; taken = taken; rest_is = rest_is })
 
 pub found_of_more : (room : ℕ) (bytes more : List ℕ) (request : Request) (path : Option (List ℕ)) (n : ℕ) → IsHeadLength bytes n → IsTaken room (take n bytes) request path
     → IsFound room (bytes ++ more) request path (drop n bytes ++ more)

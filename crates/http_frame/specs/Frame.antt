@@ -1,14 +1,14 @@
 -- A connection that is read request by request, as contracts see it.
-use Rattle.std.specs.Prelude.{◌≡◌, ℕ, ◌<◌, ◌⊎◌, List, [], ◌++◌, length, Option, Some, IfSome, IsSomeAnd, Result, Ok, Err, IfOk, IfErr, OnOk, ⊤}
+use Rattle.std.specs.Prelude.{◌≡◌, ℕ, ◌<◌, List, [], ◌++◌, length, take, Option, Some, IfSome, IsSomeAnd, Result, Ok, Err, IfOk, IfErr, OnOk, ⊤}
 use Rattle.std.specs.Borrow.{Bor}
-use Rattle.std.specs.Io.KnownBytes.{prepend_known, Consumes}
+use Rattle.std.specs.Io.KnownBytes.{prepend_known}
 use Rattle.survey_link.specs.Link.{Rises}
 use Rattle.http_frame.specs.declared.request.Request.{Request}
 use Rattle.http_frame.specs.declared.stop.Stop.{Stop}
 use Rattle.http_frame.specs.declared.stop.Stop.TheVariants.{End, Cut, ReadFault, Refuse}
 use Rattle.http_frame.specs.declared.stop.Turn.{Turn}
 use Rattle.http_frame.specs.declared.stop.Turn.TheVariants.{AtHead, AtBody, Stopped}
-use Rattle.http_frame.specs.Next.{NextHead, ended, cut_off, refused, found, IsNextHead, NeedsMore}
+use Rattle.http_frame.specs.Next.{NextHead, ended, cut_off, refused, found, IsNextHead, IsFound, NeedsMore}
 
 -- the bytes that were read and not yet given, the path of the last head, the body that was given last, what is read next,
 -- and the room for a body
@@ -68,11 +68,18 @@ pub record IsStopped (old new : FrameState) (left left' : Option (List ℕ)) (st
   pub path : new.path ≡ old.path
   pub turn : new.turn ≡ Stopped stop
 
--- the source was read only while the bytes held didn't tell what stands next: nothing came, or what came before the last
--- reading didn't tell it
-abbrev pub ReadsWhileNeeded : List ℕ → Option (List ℕ) → Option (List ℕ) → Type 0
-ReadsWhileNeeded held left left' =
-    Consumes left left' [] ⊎ ((before : List ℕ) × (last : List ℕ) × Consumes left left' (before ++ last) × NeedsMore (held ++ before))
+-- what came of the source is the head that was read, with the bytes held before it, and the bytes held now
+abbrev pub HoldsRest : FrameState → FrameState → List ℕ → Result Request Stop → Type 0
+HoldsRest old new came (Ok request) = IsFound old.room (old.held ++ came) request new.path new.held
+HoldsRest old new came (Err stop) = new.held ≡ old.held ++ came
+
+-- fewer bytes are held than a body has
+abbrev pub IsShort : ℕ → List ℕ → Type 0
+IsShort n held = length held < n
+
+-- the body is the first bytes of those held before and those that came
+abbrev pub GivesFront : ℕ → List ℕ → Result (Bor (List ℕ)) Stop → Type 0
+GivesFront n bytes result = IfOk result (λ body. body.now ≡ take n bytes)
 
 -- where a frame that was at a body of n bytes is after it was asked for it
 pub record LeavesBodyOf (n : ℕ) (old new : FrameState) (left left' : Option (List ℕ)) (faults faults' : ℕ) (result : Result (List ℕ) Stop) : Type 0 where

@@ -5,3 +5,7 @@ use Rattle.http_frame.specs.Next.{Next, IsNext}
 -- one thing stands next in the unread bytes, and no other
 abbrev pub NextIsOne : Type 0
 NextIsOne = (room : ℕ) (unread : List ℕ) (next next' : Next) → IsNext room unread next → IsNext room unread next' → next ≡ next'
+
+-- something stands next in the unread bytes
+abbrev pub SomeStands : ℕ → List ℕ → Type 0
+SomeStands room unread = (next : Next) × IsNext room unread next

@@ -5,7 +5,8 @@ pub mod Refusal
 pub mod Next
 pub mod Reply
 pub mod Held
+pub mod Readings
 pub mod Fill
 pub mod Frame
-pub mod Kept
+pub mod FrameFields
 pub mod Laws

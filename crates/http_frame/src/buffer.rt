@@ -1,7 +1,7 @@
 //! The bytes that were read of a connection and not yet given.
 ghost use Rattle.std.specs.Prelude.{◌≡◌, ◌+◌, ◌<◌, ◌≤◌, ℕ, List, [], ◌++◌, length, take, drop, Ok, IfOk, OnErr};
 ghost use Rattle.std.specs.Io.KnownBytes.{Consumes, IsAtEnd};
-ghost use Rattle.survey_link.specs.Link.{Rises};
+ghost use Rattle.survey_link.specs.Link.{Rises, readings_after};
 
 use std::alloc::{AllocError, Global};
 use survey_link::{Failed, Source};
@@ -31,6 +31,16 @@ impl Buffer {
             start: 0,
             end: 0,
         })
+    }
+
+    /// Holds no bytes any more.
+    pub fn clear(&mut self)
+        ensures empty { held self.new ≡ [] }
+        ensures size { size self.new ≡ size self.old }
+        ensures places { (self.new.start ≡ 0) × (self.new.end ≡ 0) }
+    {
+        self.start = 0;
+        self.end = 0;
     }
 
     /// The bytes that are held.
@@ -90,6 +100,7 @@ impl Buffer {
         requires within { limit ≤ size self.old }
         ensures read { IfOk result (λ count. (more : List ℕ) × (length more ≡ count) × (held self.new ≡ held self.old ++ more)
             × Consumes (S.left src.old) (S.left src.new) more) }
+        ensures counted { S.readings src.new ≡ readings_after 1 (S.readings src.old) }
         ensures end { result ≡ Ok 0 → IsAtEnd (S.left src.new) }
         ensures kept { OnErr result ((held self.new ≡ held self.old) × (S.left src.new ≡ S.left src.old)) }
         ensures failed { OnErr result (Rises (S.faults src.old) (S.faults src.new)) }

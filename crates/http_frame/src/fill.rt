@@ -1,12 +1,13 @@
 //! Reading of a connection until a whole head or a whole body is held.
 ghost use Rattle.std.specs.Prelude.{◌≡◌, ◌⊎◌, ◌<◌, ◌≤◌, ◌+◌, ◌-◌, ◌^◌, ℕ, List, [], ◌++◌, length, IfOk, IfErr, OnErr, OnOk, IfSome, IsNone, true, false};
 ghost use Rattle.std.specs.Io.KnownBytes.{Consumes, IsAtEnd};
-ghost use Rattle.survey_link.specs.Link.{Rises};
+ghost use Rattle.survey_link.specs.Link.{Rises, readings_after};
 ghost use Rattle.memchr.specs.Find.{OccursAt, Nowhere};
 ghost use Rattle.http_frame.specs.Held.{held, size};
 ghost use Rattle.http_frame.specs.Next.{IsHeadLength, HasNoHead, NeedsMore, head_end, most_head};
 ghost use Rattle.http_frame.specs.Fill.{Takes, StopsFill, StopsBodyFill};
-ghost use Rattle.http_frame.specs.Frame.{ReadsWhileNeeded};
+ghost use Rattle.http_frame.specs.Frame.{IsShort};
+ghost use Rattle.http_frame.specs.Readings.{ReadsWhile};
 
 use crate::buffer::Buffer;
 use crate::stop::Stop;
@@ -23,7 +24,7 @@ pub(crate) fn fill_head<S: Source>(buffer: &mut Buffer, src: &mut S) -> Result<u
     ensures found { IfOk result (IsHeadLength (held buffer.new)) }
     ensures taken { Takes (held buffer.old) (held buffer.new) (S.left src.old) (S.left src.new) }
     ensures stop { IfErr result (StopsFill (held buffer.new) (S.left src.new) (S.faults src.old) (S.faults src.new)) }
-    ensures needed { ReadsWhileNeeded (held buffer.old) (S.left src.old) (S.left src.new) }
+    ensures needed { (came : List ℕ) × ReadsWhile S.left S.readings NeedsMore (held buffer.old) src.old src.new came × (held buffer.new ≡ held buffer.old ++ came) }
     ensures untouched { (NeedsMore (held buffer.old) → ⊥) → src.new ≡ src.old }
     ensures never_falls { S.faults src.old ≤ S.faults src.new }
     ensures places { (buffer.new.start ≡ buffer.new.end) ⊎ (buffer.new.end ≤ most_head) }
@@ -49,6 +50,7 @@ fn read_more<S: Source>(buffer: &mut Buffer, src: &mut S) -> Result<(), Stop>
     requires needed { NeedsMore (held buffer.old) }
     ensures taken { Takes (held buffer.old) (held buffer.new) (S.left src.old) (S.left src.new) }
     ensures more { OnOk result (length (held buffer.old) < length (held buffer.new)) }
+    ensures counted { S.readings src.new ≡ readings_after 1 (S.readings src.old) }
     ensures stop { IfErr result (StopsFill (held buffer.new) (S.left src.new) (S.faults src.old) (S.faults src.new)) }
     ensures same { OnErr result (held buffer.new ≡ held buffer.old) }
     ensures never_falls { S.faults src.old ≤ S.faults src.new }
@@ -70,8 +72,8 @@ fn read_more<S: Source>(buffer: &mut Buffer, src: &mut S) -> Result<(), Stop>
     }
 }
 
-// The length of the head that the held bytes begin with, of which the first `searched` have no end of a head.
-fn head_length(held: &[u8], searched: usize) -> Option<usize>
+/// The length of the head that the held bytes begin with, of which the first `searched` have no end of a head.
+pub(crate) fn head_length(held: &[u8], searched: usize) -> Option<usize>
     requires most { length held.now ≤ most_head }
     requires searched { searched ≤ length held.now }
     requires none { Nowhere (OccursAt held.now head_end) 0 (searched - 3) }
@@ -94,6 +96,7 @@ pub(crate) fn fill_body<S: Source>(
     ensures filled { OnOk result (count ≤ length (held buffer.new)) }
     ensures exact { OnOk result ((held buffer.new ≡ held buffer.old) ⊎ (length (held buffer.new) ≡ count)) }
     ensures stop { IfErr result (StopsBodyFill count (held buffer.new) (S.left src.new) (S.faults src.old) (S.faults src.new)) }
+    ensures needed { (came : List ℕ) × ReadsWhile S.left S.readings (IsShort count) (held buffer.old) src.old src.new came × (held buffer.new ≡ held buffer.old ++ came) }
     ensures untouched { count ≤ length (held buffer.old) → src.new ≡ src.old }
     ensures never_falls { S.faults src.old ≤ S.faults src.new }
     ensures start { buffer.new.start ≡ buffer.old.start }

@@ -1,5 +1,5 @@
 //! A connection that is read request by request.
-ghost use Rattle.std.specs.Prelude.{◌≡◌, ◌<◌, ◌≤◌, ◌^◌, ℕ, [], None, Some, Err, length, if◌then◌else◌, option_copied, vec_capacity, IfOk, IfErr, OnOk, OnErr};
+ghost use Rattle.std.specs.Prelude.{◌≡◌, ◌<◌, ◌≤◌, ◌^◌, ◌++◌, ℕ, List, [], None, Some, Err, length, take, if◌then◌else◌, option_copied, vec_capacity, IfOk, IfErr, OnOk, OnErr};
 ghost use Rattle.std.specs.Borrow.{sem};
 ghost use Rattle.std.specs.Io.BufRead.{Rests};
 ghost use Rattle.percent_encoding.specs.Percent.{percent_decode};
@@ -33,7 +33,7 @@ pub struct Frame {
 
 impl Model for Frame {
     ghost use Rattle.http_frame.specs.Frame.{FrameState};
-    ghost use Rattle.http_frame.specs.Kept.{shown, KeepsPlaces};
+    ghost use Rattle.http_frame.specs.FrameFields.{shown, KeepsPlaces};
 
     ghost Value = { FrameState };
 
@@ -43,8 +43,9 @@ impl Model for Frame {
 }
 
 impl Frame {
-    ghost use Rattle.http_frame.specs.Frame.{FrameState, AwaitsHead, AwaitsBody, ReadsHead, StopsHead, IsStopped, KeepsUnread, ReadsWhileNeeded, LeavesBody, LeavesBodyOf, answered};
-    ghost use Rattle.http_frame.specs.Kept.{with_bytes};
+    ghost use Rattle.http_frame.specs.Frame.{FrameState, AwaitsHead, AwaitsBody, ReadsHead, StopsHead, IsStopped, KeepsUnread, HoldsRest, IsShort, GivesFront, LeavesBody, LeavesBodyOf, answered};
+    ghost use Rattle.http_frame.specs.Readings.{ReadsWhile};
+    ghost use Rattle.http_frame.specs.FrameFields.{with_bytes};
     ghost use Rattle.http_frame.specs.declared.stop.Turn.TheVariants.{AtHead, AtBody, Stopped};
     ghost use Rattle.http_frame.specs.contracts.frame.Frame.{the_row};
 
@@ -75,7 +76,24 @@ impl Frame {
         })
     }
 
-    /// The next head. The source is read only while the bytes that are held don't tell what stands next.
+    /// Makes the frame as `new` makes it, with the same room. It takes no memory.
+    pub fn clear(&mut self)
+        ensures { self.new ≡ record {
+          held = [];
+          path = None;
+          body = [];
+          turn = AtHead;
+          room = self.old.room;
+        } }
+    {
+        self.buffer.clear();
+        self.has_path = false;
+        self.given = 0;
+        self.turn = Turn::AtHead;
+    }
+
+    /// The next head. The source is read only while the bytes that are held don't tell what stands next, and not after a
+    /// reading that failed.
     ///
     /// # Errors
     ///
@@ -86,9 +104,10 @@ impl Frame {
         requires { AwaitsHead self.old.turn }
         ensures read { self.old.turn ≡ AtHead → IfOk result (ReadsHead self.old self.new (S.left src.old) (S.left src.new)) }
         ensures stop { self.old.turn ≡ AtHead → IfErr result (StopsHead self.old self.new (S.left src.old) (S.faults src.old) (S.faults src.new)) }
+        ensures turn { IfOk result (λ request. self.new.turn ≡ AtBody request.length) }
         ensures stopped { IfErr result (IsStopped self.old self.new (S.left src.old) (S.left src.new)) }
         ensures again { (stop : Stop) → self.old.turn ≡ Stopped stop → (result ≡ Err stop) × (self.new ≡ self.old) × (src.new ≡ src.old) }
-        ensures needed { ReadsWhileNeeded self.old.held (S.left src.old) (S.left src.new) }
+        ensures needed { (came : List ℕ) × ReadsWhile S.left S.readings NeedsMore self.old.held src.old src.new came × HoldsRest self.old self.new came result }
         ensures untouched { (NeedsMore self.old.held → ⊥) → src.new ≡ src.old }
         ensures never_falls { S.faults src.old ≤ S.faults src.new }
         ensures room { self.new.room ≡ self.old.room }
@@ -117,7 +136,8 @@ impl Frame {
         }
     }
 
-    /// The body of the last head. The source is read only while fewer bytes are held than the body has.
+    /// The body of the last head. The source is read only while fewer bytes are held than the body has,
+    /// and not after a reading that failed.
     ///
     /// # Errors
     ///
@@ -126,6 +146,8 @@ impl Frame {
     pub fn body<S: Source>(&mut self, src: &mut S) -> Result<&[u8], Stop>
         requires { AwaitsBody self.old.turn }
         ensures length { (n : ℕ) → self.old.turn ≡ AtBody n → IfOk result (λ body. length body.now ≡ n) }
+        ensures needed { (n : ℕ) → self.old.turn ≡ AtBody n
+            → (came : List ℕ) × ReadsWhile S.left S.readings (IsShort n) self.old.held src.old src.new came × GivesFront n (self.old.held ++ came) result }
         ensures untouched { (n : ℕ) → self.old.turn ≡ AtBody n → n ≤ length self.old.held → src.new ≡ src.old }
         ensures again { (stop : Stop) → self.old.turn ≡ Stopped stop → (result ≡ Err stop) × (src.new ≡ src.old) }
         ensures never_falls { S.faults src.old ≤ S.faults src.new }
@@ -143,7 +165,7 @@ impl Frame {
         ensures stop { IfErr result (StopsHead self.old self.new (S.left src.old) (S.faults src.old) (S.faults src.new)) }
         ensures kept { OnErr result (KeepsUnread self.old self.new (S.left src.old) (S.left src.new)) }
         ensures path { OnErr result (self.new.path ≡ self.old.path) }
-        ensures needed { ReadsWhileNeeded self.old.held (S.left src.old) (S.left src.new) }
+        ensures needed { (came : List ℕ) × ReadsWhile S.left S.readings NeedsMore self.old.held src.old src.new came × HoldsRest self.old self.new came result }
         ensures untouched { (NeedsMore self.old.held → ⊥) → src.new ≡ src.old }
         ensures never_falls { S.faults src.old ≤ S.faults src.new }
         ensures room { self.new.room ≡ self.old.room }
@@ -170,6 +192,8 @@ impl Frame {
         requires { AwaitsBody self.old.turn }
         ensures leaves { LeavesBody self.old self.new (S.left src.old) (S.left src.new) (S.faults src.old) (S.faults src.new) (with_bytes result self.new.body) }
         ensures length { (n : ℕ) → self.old.turn ≡ AtBody n → OnOk result (length self.new.body ≡ n) }
+        ensures needed { (n : ℕ) → self.old.turn ≡ AtBody n
+            → (came : List ℕ) × ReadsWhile S.left S.readings (IsShort n) self.old.held src.old src.new came × OnOk result (self.new.body ≡ take n (self.old.held ++ came)) }
         ensures untouched { (n : ℕ) → self.old.turn ≡ AtBody n → n ≤ length self.old.held → src.new ≡ src.old }
         ensures again { (stop : Stop) → self.old.turn ≡ Stopped stop → (result ≡ Err stop) × (self.new ≡ self.old) × (src.new ≡ src.old) }
         ensures never_falls { S.faults src.old ≤ S.faults src.new }
@@ -186,6 +210,8 @@ impl Frame {
         requires { self.old.turn ≡ AtBody count }
         ensures leaves { LeavesBodyOf count self.old self.new (S.left src.old) (S.left src.new) (S.faults src.old) (S.faults src.new) (with_bytes result self.new.body) }
         ensures length { OnOk result (length self.new.body ≡ count) }
+        ensures needed { (came : List ℕ) × ReadsWhile S.left S.readings (IsShort count) self.old.held src.old src.new came
+            × OnOk result (self.new.body ≡ take count (self.old.held ++ came)) }
         ensures untouched { count ≤ length self.old.held → src.new ≡ src.old }
         ensures never_falls { S.faults src.old ≤ S.faults src.new }
         ensures room { self.new.room ≡ self.old.room }

@@ -1,7 +1,7 @@
 //! One HTTP/1.1 connection as bytes (RFC 9110, RFC 9112).
 //!
 //! A `Frame` reads the next request from a source, in whatever pieces its bytes come: what its head asks for, its decoded
-//! path, and its body. `write_reply` and `write_continue` write replies to a sink.
+//! path, and its body. `write_reply`, `write_reply_parts` and `write_continue` write replies to a sink.
 #![tactic(auto)]
 
 mod buffer;
@@ -19,7 +19,7 @@ mod text;
 pub use fields::MAX_FIELDS;
 pub use fill::MAX_HEAD;
 pub use frame::Frame;
-pub use reply::{Allow, Kind, Number, Reply, write_continue, write_reply};
+pub use reply::{Allow, Kind, Number, Reply, write_continue, write_reply, write_reply_parts};
 pub use request::{Method, Request, Tags};
 pub use stop::{Stop, Turn};
 

@@ -1,13 +1,13 @@
 //! Replies as bytes.
 ghost use Rattle.std.specs.Prelude.{◌≡◌, ◌+◌, ◌≤◌, ◌++◌, true, length, OnOk, OnErr, decimal};
 ghost use Rattle.std.specs.Io.KnownBytes.{Appends};
-ghost use Rattle.survey_link.specs.Link.{AppendsPrefix, Rises};
+ghost use Rattle.survey_link.specs.Link.{AppendsPrefix, Rises, parts_bytes};
 ghost use Rattle.http_frame.specs.Reply.{is_reply_code, reason_of, reply_bytes, reply_head, FitsReply, continue_bytes, line, status_line, allow_line, type_line, length_line, number_line, close_line};
 ghost use Rattle.arrayvec.specs.ArrayVec.{array_vec_len};
 
 use arrayvec::ArrayVec;
 use itoa::Buffer;
-use survey_link::{Failed, Sink, write_whole};
+use survey_link::{Failed, Sink, write_all_parts, write_whole};
 
 /// The methods that a reply with code 405 allows.
 #[derive(Clone, Copy, Debug, PartialEq, Eq)]
@@ -61,7 +61,12 @@ pub struct Reply {
 // A head has at most 200 bytes, and a body that fits beside it is written with it.
 const ROOM: usize = 1024;
 
-/// Writes the head and the body, and flushes.
+/// Writes the head and the body, and flushes. A body that fits beside the head goes out with it by one call of `write`,
+/// a longer one by one call of `write_parts`, where the sink takes all.
+///
+/// Beyond the conditions the caller owes its clients a reply that isn't misread: with code 204 no body and no kind, since
+/// such a reply states no length (RFC 9110, section 15.3.5), and a length with an empty body only in answer to HEAD
+/// (section 9.3.2).
 ///
 /// # Errors
 ///
@@ -70,6 +75,7 @@ pub fn write_reply<K: Sink>(sink: &mut K, reply: &Reply, body: &[u8]) -> Result<
     requires code { is_reply_code reply.now.code ≡ true }
     requires body { FitsReply reply.now body.now }
     ensures whole { OnOk result (Appends (K.held sink.old) (K.held sink.new) (reply_bytes reply.now body.now)) }
+    ensures handed { OnOk result (K.handed_on sink.new ≡ K.held sink.new) }
     ensures part { OnErr result (AppendsPrefix (K.held sink.old) (K.held sink.new) (reply_bytes reply.now body.now)) }
     ensures failed { OnErr result (Rises (K.faults sink.old) (K.faults sink.new)) }
     ensures never_falls { K.faults sink.old ≤ K.faults sink.new }
@@ -79,9 +85,34 @@ pub fn write_reply<K: Sink>(sink: &mut K, reply: &Reply, body: &[u8]) -> Result<
     if text.try_extend_from_slice(body).is_ok() {
         write_whole(sink, text.as_slice())?;
     } else {
-        write_whole(sink, text.as_slice())?;
-        write_whole(sink, body)?;
+        write_all_parts(sink, [text.as_slice(), body, &[], &[]])?;
     }
+    sink.flush()
+}
+
+/// As `write_reply` of the parts of the body one after another: the head and the parts go out by one call of `write_parts`
+/// where the sink takes all. The caller owes what it owes `write_reply`.
+///
+/// # Errors
+///
+/// `Failed` only where the sink's count of faults rose; some first bytes may have been written.
+pub fn write_reply_parts<K: Sink>(
+    sink: &mut K,
+    reply: &Reply,
+    body: [&[u8]; 3],
+) -> Result<(), Failed>
+    requires code { is_reply_code reply.now.code ≡ true }
+    requires body { FitsReply reply.now (parts_bytes body) }
+    ensures whole { OnOk result (Appends (K.held sink.old) (K.held sink.new) (reply_bytes reply.now (parts_bytes body.entry))) }
+    ensures handed { OnOk result (K.handed_on sink.new ≡ K.held sink.new) }
+    ensures part { OnErr result (AppendsPrefix (K.held sink.old) (K.held sink.new) (reply_bytes reply.now (parts_bytes body.entry))) }
+    ensures failed { OnErr result (Rises (K.faults sink.old) (K.faults sink.new)) }
+    ensures never_falls { K.faults sink.old ≤ K.faults sink.new }
+{
+    let mut text = ArrayVec::new();
+    push_head(&mut text, reply);
+    let [first, second, third] = body;
+    write_all_parts(sink, [text.as_slice(), first, second, third])?;
     sink.flush()
 }
 
@@ -92,6 +123,7 @@ pub fn write_reply<K: Sink>(sink: &mut K, reply: &Reply, body: &[u8]) -> Result<
 /// `Failed` only where the sink's count of faults rose; some first bytes may have been written.
 pub fn write_continue<K: Sink>(sink: &mut K) -> Result<(), Failed>
     ensures whole { OnOk result (Appends (K.held sink.old) (K.held sink.new) continue_bytes) }
+    ensures handed { OnOk result (K.handed_on sink.new ≡ K.held sink.new) }
     ensures part { OnErr result (AppendsPrefix (K.held sink.old) (K.held sink.new) continue_bytes) }
     ensures failed { OnErr result (Rises (K.faults sink.old) (K.faults sink.new)) }
     ensures never_falls { K.faults sink.old ≤ K.faults sink.new }

@@ -1,7 +1,8 @@
 use Rattle.std.proofs.Common.{rules, refl, sym, ◌∙◌, inr}
 use Rattle.http_frame.specs.Held.{held}
 use Rattle.http_frame.specs.Next.{NeedsMore}
-use Rattle.http_frame.proofs.Fills.{takes_both, needs_before, searched_before, reads_more}
+use Rattle.http_frame.proofs.Fills.{takes_both, needs_before, searched_before}
+use Rattle.http_frame.proofs.ReadingSteps.{gave_some, filling_more, filling_last, filling_done}
 use Rattle.http_frame.proofs.fill.fill_head.Goals as goal
 
 pub head_length-requires-clause-none : goal.head_length-requires-clause-none
@@ -29,7 +30,9 @@ loop-length-preserved g c =
       searched = search rules;
       none = rw (c.held-held.ensures, taken.grown) (searched_before (held c.loop-length.buffer) taken.more needs);
       taken = takes_both (held c.args.buffer.now) (held c.loop-length.buffer) (held c.read_more.new.buffer) _ _ _ before taken;
-      needed = reads_more (held c.args.buffer.now) (held c.loop-length.buffer) (held c.read_more.new.buffer) _ _ _ before taken needs;
+      filling = filling_more _ _ _ (held c.args.buffer.now) (held c.loop-length.buffer) (held c.read_more.new.buffer) _ _ _ taken.more c.loop-length.invariant.filling needs
+          (record { given = taken.consumed; counted = c.in_ok-read_more.ensures.counted }) taken.grown
+          (gave_some (held c.loop-length.buffer) taken.more (held c.read_more.new.buffer) taken.grown c.in_ok-read_more.ensures.more);
       untouched = λ no. absurd (no (needs_before (held c.args.buffer.now) before.more (rw (sym before.grown) needs)));
       faults = search rules;
       places = inr c.in_ok-read_more.ensures.places;
@@ -46,7 +49,9 @@ returns-in_err-read_more-clause-needed g c =
       short = rw c.held-held.ensures at c.if-held-ge-MAX_HEAD.false;
       none = rw c.held-held.ensures at (c.in_default.ensures.none refl);
     } in
-    reads_more (held c.args.buffer.now) (held c.loop-length.buffer) (held c.read_more.new.buffer) _ _ _ c.loop-length.invariant.taken c.in_err-read_more.ensures.taken needs
+    let taken = c.in_err-read_more.ensures.taken in
+    filling_last _ _ _ (held c.args.buffer.now) (held c.loop-length.buffer) (held c.read_more.new.buffer) _ _ _ taken.more c.loop-length.invariant.filling needs
+    (record { given = taken.consumed; counted = c.in_err-read_more.ensures.counted }) taken.grown
 
 pub returns-in_err-read_more-clause-untouched : goal.returns-in_err-read_more-clause-untouched
 returns-in_err-read_more-clause-untouched g c = λ no.
@@ -56,3 +61,9 @@ returns-in_err-read_more-clause-untouched g c = λ no.
       none = rw c.held-held.ensures at (c.in_default.ensures.none refl);
     } in
     absurd (no (needs_before (held c.args.buffer.now) before.more (rw (sym before.grown) needs)))
+
+pub returns-in-Some-clause-needed : goal.returns-in-Some-clause-needed
+returns-in-Some-clause-needed g c = filling_done _ _ _ _ _ _ _ c.loop-length.invariant.filling
+
+pub returns-then-held-ge-MAX_HEAD-clause-needed : goal.returns-then-held-ge-MAX_HEAD-clause-needed
+returns-then-held-ge-MAX_HEAD-clause-needed g c = filling_done _ _ _ _ _ _ _ c.loop-length.invariant.filling

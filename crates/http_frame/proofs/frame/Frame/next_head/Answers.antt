@@ -1,7 +1,7 @@
 use Rattle.std.proofs.Common.{refl}
 use Rattle.http_frame.specs.Held.{held}
-use Rattle.http_frame.specs.Kept.{shown}
-use Rattle.http_frame.proofs.Nexts.{reads_head, refuses_head, keeps_unread, stops_head}
+use Rattle.http_frame.specs.FrameFields.{shown}
+use Rattle.http_frame.proofs.Nexts.{found_with, reads_head, refuses_head, keeps_unread, stops_head}
 use Rattle.http_frame.proofs.frame.Frame.next_head.Goals as goal
 
 pub returns-in-Err-clause-stop : goal.returns-in-Err-clause-stop
@@ -16,7 +16,14 @@ returns-in-Ok-take_head-clause-read g c = record {
 }
 
 pub returns-in-Ok-take_head-clause-needed : goal.returns-in-Ok-take_head-clause-needed
-returns-in-Ok-take_head-clause-needed g c = rw (← c.self.view_is) c.in-Ok.ensures.needed
+returns-in-Ok-take_head-clause-needed g c =
+    let read = c.in-Ok.ensures.needed in
+    rw (← c.self.view_is) (
+      read.0,
+      read.1,
+      found_with c.self.inside.room (held c.fill_head.new.buffer) (held c.self.inside.buffer) read.0 (held c.give.new.self) c.in-Ok-take_head.request _ c.in-Ok.length read.2
+          c.in-Ok.ensures.found (rw c.held.ensures at c.in-Ok-take_head.ensures.taken) c.give.ensures.rest,
+    )
 
 pub returns-in-Err-take_head-clause-stop : goal.returns-in-Err-take_head-clause-stop
 returns-in-Err-take_head-clause-stop g c =

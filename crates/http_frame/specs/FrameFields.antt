@@ -1,4 +1,4 @@
--- What a frame keeps of its parts, and how contracts see it.
+-- What the fields of a frame mean, and what is kept of them.
 use Rattle.std.specs.Prelude.{◌≡◌, ℕ, ◌+◌, ◌^◌, ◌≤◌, ◌⊎◌, if◌then◌else◌, List, Some, None, Result, Ok, Err, vec_capacity, ⊤}
 use Rattle.http_frame.specs.declared.stop.Turn.{Turn}
 use Rattle.http_frame.specs.declared.stop.Turn.TheVariants.{AtHead, AtBody, Stopped}
