@@ -1,7 +1,7 @@
 -- The row above two rows of stored numbers, number by number.
-use Rattle.std.proofs.Common.{◌≡◌, ℕ, ◌+◌, ◌*◌, ◌/◌, ◌<◌, ◌≤◌, List, [], ◌∷◌, ◌++◌, length, take, get_or, refl, sym, ap, ◌∙◌, arith, ℤ, pos, length-append}
+use Rattle.std.proofs.Common.{◌≡◌, ℕ, ◌+◌, ◌-◌, ◌*◌, ◌/◌, ◌%◌, ◌<◌, ◌≤◌, List, [], ◌∷◌, ◌++◌, length, take, drop, get_or, refl, sym, ap, ◌∙◌, arith, ℤ, pos, length-append}
 use Rattle.std.proofs.Math.Nat.{add-mul, mul_comm}
-use Rattle.std.proofs.lemmas.List.{append_assoc, take_all, take_at, length-take-le}
+use Rattle.std.proofs.lemmas.List.{append_assoc, take_all, take_at, take_rest, length-take-le, get_or-drop}
 use Rattle.std.proofs.lemmas.Nat.{row_fits}
 use Rattle.std.proofs.lemmas.List.FromFn.{length-map-range_with_len, get_or-map-range_with_len}
 use Rattle.parent_rule.specs.Combined.{combined}
@@ -9,7 +9,8 @@ use Rattle.parent_rule.specs.declared.combine.Combine.{Combine}
 use Rattle.tile_pixels.specs.Stored.{number_bytes, stored_at, stored_bytes}
 use Rattle.tile_pixels.specs.Lines.{row_above}
 use Rattle.tile_pixels.proofs.Quadrants.{same_four}
-use Rattle.tile_pixels.specs.StoredLaws.{stored_bytes-nil}
+use Rattle.tile_pixels.specs.StoredLaws.{AreBytes, stored_bytes-nil}
+use Rattle.byteorder.specs.Endian.{little_number}
 use Rattle.tile_pixels.proofs.Rows.{stored_more}
 
 pub length-row_above : (way : Combine) (bits : ℕ) (blank : ℤ) (count : ℕ) (top bottom : List ℕ) → length (row_above way bits blank count top bottom) ≡ count
@@ -28,6 +29,44 @@ place_fits place total w long below is =
     let fits : place * w + w ≤ total * w = row_fits place w total w below (omega arith) in
     let e : (place + 1) * w ≡ place * w + 1 * w = add-mul place 1 w in
     omega arith
+
+pub pair_fits : (i count w long : ℕ) → i < count → long ≡ 2 * count * w → (2 * i + 2) * w ≤ long
+pair_fits i count w long below is =
+    let fits : (2 * i + 1 + 1) * w ≤ long = place_fits (2 * i + 1) (2 * count) w long (omega arith) is in
+    let e : 2 * i + 1 + 1 ≡ 2 * i + 2 = omega arith in
+    rw (← e) fits
+
+-- two bytes side by side, read as one number
+number_of_pair : (row : List ℕ) (i pair : ℕ) → pair ≡ little_number 2 (take (length row - 2 * i) (drop (2 * i) row)) → pair ≡ get_or row (2 * i) 0 + 256 * get_or row (2 * i + 1) 0
+number_of_pair row i pair is =
+    let here : get_or (drop (2 * i) row) 0 0 ≡ get_or row (2 * i + 0) 0 = get_or-drop (2 * i) row 0 0 in
+    let next : get_or (drop (2 * i) row) 1 0 ≡ get_or row (2 * i + 1) 0 = get_or-drop (2 * i) row 1 0 in
+    let same : get_or row (2 * i + 0) 0 ≡ get_or row (2 * i) 0 = ap (λ (k : ℕ). get_or row k 0) (let e : 2 * i + 0 ≡ 2 * i = omega arith in e) in
+    is ∙ ap (little_number 2) (take_rest row (2 * i)) ∙ omega arith
+
+stored_byte : (row : List ℕ) (place : ℕ) → stored_at 8 row place ≡ pos (get_or row place 0)
+stored_byte row place =
+    let here : get_or (drop (place * 1) row) 0 0 ≡ get_or row (place * 1 + 0) 0 = get_or-drop (place * 1) row 0 0 in
+    let same : get_or row (place * 1 + 0) 0 ≡ get_or row place 0 = ap (λ (k : ℕ). get_or row k 0) (let e : place * 1 + 0 ≡ place = omega arith in e) in
+    ap pos (let e : get_or (drop (place * 1) row) 0 0 * 1 + 0 ≡ get_or row place 0 = omega arith in e)
+
+pub first_of_pair : (row : List ℕ) (i pair : ℕ) → AreBytes row → pair ≡ little_number 2 (take (length row - 2 * i) (drop (2 * i) row)) → pos (pair % 256) ≡ stored_at 8 row (2 * i)
+first_of_pair row i pair bytes is =
+    let whole = number_of_pair row i pair is in
+    let low : get_or row (2 * i) 0 < 256 = bytes (2 * i) in
+    ap pos (let e : pair % 256 ≡ get_or row (2 * i) 0 = omega arith in e) ∙ sym (stored_byte row (2 * i))
+
+pub second_of_pair : (row : List ℕ) (i pair : ℕ) → AreBytes row → pair ≡ little_number 2 (take (length row - 2 * i) (drop (2 * i) row)) → pos (pair / 256) ≡ stored_at 8 row (2 * i + 1)
+second_of_pair row i pair bytes is =
+    let whole = number_of_pair row i pair is in
+    let low : get_or row (2 * i) 0 < 256 = bytes (2 * i) in
+    ap pos (let e : pair / 256 ≡ get_or row (2 * i + 1) 0 = omega arith in e) ∙ sym (stored_byte row (2 * i + 1))
+
+pub first_of_word : (row : List ℕ) (i pair : ℕ) → AreBytes row → pair ≡ little_number 2 (drop (2 * i) row) → pos (pair % 256) ≡ stored_at 8 row (2 * i)
+first_of_word row i pair bytes is = first_of_pair row i pair bytes (is ∙ ap (little_number 2) (sym (take_rest row (2 * i))))
+
+pub second_of_word : (row : List ℕ) (i pair : ℕ) → AreBytes row → pair ≡ little_number 2 (drop (2 * i) row) → pos (pair / 256) ≡ stored_at 8 row (2 * i + 1)
+second_of_word row i pair bytes is = second_of_pair row i pair bytes (is ∙ ap (little_number 2) (sym (take_rest row (2 * i))))
 
 -- no number is stored yet
 pub above_none : (bits : ℕ) (out : List ℕ) → take (0 * (bits / 8)) out ≡ stored_bytes bits []

@@ -3,7 +3,9 @@ ghost use Rattle.std.specs.Prelude.{◌≡◌, ◌≤◌, ◌*◌, ◌/◌, leng
 ghost use Rattle.tile_pixels.specs.Stored.{stored_bytes};
 ghost use Rattle.tile_pixels.specs.Lines.{row_above};
 
+use crate::byte_means::store_byte_means;
 use crate::means::store_means;
+use crate::medians::store_medians;
 use crate::row::{read_row, write_row};
 use crate::stored::Stored;
 use parent_rule::{Combine, Depth, mean_rows};
@@ -28,12 +30,17 @@ pub fn store_row_above(
     let blank = depth.blank();
     match depth.combine() {
         Combine::Mean => match depth.bitpix() {
-            8 => store_means(top, bottom, count, <u8 as Stored>::of(blank), out),
+            8 => store_byte_means(top, bottom, count, <u8 as Stored>::of(blank), out),
             16 => store_means(top, bottom, count, <i16 as Stored>::of(blank), out),
             32 => store_means(top, bottom, count, <i32 as Stored>::of(blank), out),
             _ => store_plain(depth, top, bottom, count, numbers, out),
         },
-        Combine::Median => store_plain(depth, top, bottom, count, numbers, out),
+        Combine::Median => match depth.bitpix() {
+            8 => store_medians(top, bottom, count, <u8 as Stored>::of(blank), out),
+            16 => store_medians(top, bottom, count, <i16 as Stored>::of(blank), out),
+            32 => store_medians(top, bottom, count, <i32 as Stored>::of(blank), out),
+            _ => store_plain(depth, top, bottom, count, numbers, out),
+        },
     }
 }
 

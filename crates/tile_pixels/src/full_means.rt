@@ -23,13 +23,8 @@ pub fn store_full_means<N: Stored>(
     ensures { out.new ≡ stored_bytes N.bits (row_above Mean N.bits (N.value blank) count top.now bottom.now) }
 {
     for i in 0..count {
-        let mean = N::mean_of_full(
-            N::read(top, 2 * i),
-            N::read(bottom, 2 * i),
-            N::read(top, 2 * i + 1),
-            N::read(bottom, 2 * i + 1),
-            blank,
-        );
-        mean.write(out, i);
+        let (a, c) = N::read_pair(top, i);
+        let (b, d) = N::read_pair(bottom, i);
+        N::mean_of_full(a, b, c, d, blank).write(out, i);
     }
 }

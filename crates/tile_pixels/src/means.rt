@@ -22,8 +22,8 @@ pub fn store_means<N: Stored>(top: &[u8], bottom: &[u8], count: usize, blank: N,
     }
 }
 
-// Whether the number stands in a row. It looks at each place, so that many are looked at at a time.
-fn holds<N: Stored>(row: &[u8], count: usize, number: N) -> bool
+/// Whether the number stands in a row. It looks at each place, so that many are looked at at a time.
+pub fn holds<N: Stored>(row: &[u8], count: usize, number: N) -> bool
     requires { length row.now ≡ count * (N.bits / 8) }
     ensures { result ≡ false → (place : ℕ) → place < count → stored_at N.bits row.now place ≢ N.value number }
 {
@@ -43,13 +43,8 @@ fn store_some_means<N: Stored>(top: &[u8], bottom: &[u8], count: usize, blank: N
     ensures { out.new ≡ stored_bytes N.bits (row_above Mean N.bits (N.value blank) count top.now bottom.now) }
 {
     for i in 0..count {
-        let mean = N::mean(
-            N::read(top, 2 * i),
-            N::read(bottom, 2 * i),
-            N::read(top, 2 * i + 1),
-            N::read(bottom, 2 * i + 1),
-            blank,
-        );
-        mean.write(out, i);
+        let (a, c) = N::read_pair(top, i);
+        let (b, d) = N::read_pair(bottom, i);
+        N::mean(a, b, c, d, blank).write(out, i);
     }
 }

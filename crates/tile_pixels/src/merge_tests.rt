@@ -1,5 +1,6 @@
 //! Tiles merged, as tables. The numbers are in the order in which they are stored: the bottom line first.
-ghost use Rattle.std.specs.Prelude.{◌≡◌, ◌≤◌, IfOk};
+ghost use Rattle.std.specs.Prelude.{◌≤◌, IfOk};
+ghost use Rattle.tile_pixels.specs.Tile.{HasShape};
 
 use crate::Tile;
 use parent_rule::{Combine, Depth, Permit, Steps};
@@ -12,7 +13,7 @@ const B: i16 = -32768;
 fn tile(alloc: Global, depth: Depth, n: u8, numbers: &[i16]) -> Result<Tile, Fail>
     requires least_n { 1 ≤ n }
     requires greatest_n { n ≤ 9 }
-    ensures { IfOk result (λ tile. (tile.depth ≡ depth) × (tile.n ≡ n)) }
+    ensures { IfOk result (λ tile. HasShape tile depth n) }
 {
     let mut bytes = Vec::new(alloc);
     for number in numbers {
@@ -48,22 +49,26 @@ fn merges_one_child(rt: HostRuntime) -> Result<(), Fail> {
     let top_left = Tile::merge(alloc, permit(), depth, 1, Some(&mixed), None, None, None)?;
     assert_eq!(rt;
         stored(alloc, &top_left)?.as_slice(),
-        [B, B, 3, B].as_slice()
+        [B, B, 3, B].as_slice(),
+        "child 0 alone"
     );
     let bottom_left = Tile::merge(alloc, permit(), depth, 1, None, Some(&seven), None, None)?;
     assert_eq!(rt;
         stored(alloc, &bottom_left)?.as_slice(),
-        [7, B, B, B].as_slice()
+        [7, B, B, B].as_slice(),
+        "child 1 alone"
     );
     let top_right = Tile::merge(alloc, permit(), depth, 1, None, None, Some(&seven), None)?;
     assert_eq!(rt;
         stored(alloc, &top_right)?.as_slice(),
-        [B, B, B, 7].as_slice()
+        [B, B, B, 7].as_slice(),
+        "child 2 alone"
     );
     let bottom_right = Tile::merge(alloc, permit(), depth, 1, None, None, None, Some(&seven))?;
     assert_eq!(rt;
         stored(alloc, &bottom_right)?.as_slice(),
-        [B, 7, B, B].as_slice()
+        [B, 7, B, B].as_slice(),
+        "child 3 alone"
     );
     Ok(())
 }
@@ -127,7 +132,11 @@ fn merges_four_children(rt: HostRuntime) -> Result<(), Fail> {
             Some(&c2),
             Some(&c3),
         )?;
-        assert_eq!(rt; stored(alloc, &above)?.as_slice(), wanted.as_slice());
+        assert_eq!(rt;
+            stored(alloc, &above)?.as_slice(),
+            wanted.as_slice(),
+            "{depth:?}"
+        );
     }
     Ok(())
 }

@@ -1,10 +1,13 @@
-use Rattle.std.proofs.Common.{◌≡◌, ◌+◌, ◌*◌, ◌/◌, ◌∙◌, arith}
+use Rattle.std.proofs.Common.{◌≡◌, ◌/◌, ◌∙◌, arith}
 use Rattle.parent_rule.specs.declared.combine.Combine.TheVariants.{Mean}
-use Rattle.tile_pixels.proofs.RowAbove.{above_none, above_more, above_all, place_fits}
+use Rattle.tile_pixels.proofs.RowAbove.{above_none, above_more, above_all, place_fits, pair_fits}
 use Rattle.tile_pixels.proofs.means.store_some_means.Goals as goal
 
-pub read-requires-in-loop-i-3 : goal.read-requires-in-loop-i-3
-read-requires-in-loop-i-3 g c = place_fits (2 * c.loop-i.i + 1) (2 * c.args.count) (g.N.Stored.bits / 8) _ (omega arith) c.requires.bottom
+pub read_pair-a-requires : goal.read_pair-a-requires
+read_pair-a-requires g c = pair_fits c.loop-i.i c.args.count (g.N.Stored.bits / 8) _ (omega arith) c.requires.top
+
+pub read_pair-b-requires : goal.read_pair-b-requires
+read_pair-b-requires g c = pair_fits c.loop-i.i c.args.count (g.N.Stored.bits / 8) _ (omega arith) c.requires.bottom
 
 pub write-requires : goal.write-requires
 write-requires g c = place_fits c.loop-i.i c.args.count (g.N.Stored.bits / 8) _ (omega arith) (c.loop-i.auto.out ∙ c.requires.out)
@@ -15,7 +18,7 @@ loop-i-init g c = above_none g.N.Stored.bits c.args.out.now
 pub loop-i-preserved : goal.loop-i-preserved
 loop-i-preserved g c =
     above_more Mean g.N.Stored.bits (g.N.Stored.value c.args.blank) c.args.count c.loop-i.i c.args.top.now c.args.bottom.now c.loop-i.out c.write.new.row _ _ _ _ _ c.loop-i-test.true
-    c.mean-mean.ensures c.read.ensures c.read-in-loop-i.ensures c.read-in-loop-i-2.ensures c.read-in-loop-i-3.ensures c.loop-i.invariant c.write.ensures
+    c.mean.ensures c.read_pair-a.ensures.first c.read_pair-b.ensures.first c.read_pair-a.ensures.second c.read_pair-b.ensures.second c.loop-i.invariant c.write.ensures
 
 pub returns : goal.returns
 returns g c =
