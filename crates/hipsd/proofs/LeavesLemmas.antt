@@ -1,42 +1,40 @@
 -- Reading leaf records one by one, and what the whole input says.
-use Rattle.std.proofs.Common.{◌≡◌, ℕ, zero, suc, ◌+◌, ◌-◌, ◌*◌, ◌/◌, ◌%◌, ◌^◌, ◌<◌, ◌≤◌, Bool, true, false, List, [], ◌∷◌, ◌++◌, map, length, take, drop, Option, Some, None, min, sym, ap, ◌∙◌, refl, arith, subst, inl, inr}
-use Rattle.std.specs.Prelude.{fold, ℤ}
+use Rattle.std.proofs.Common.{◌≡◌, ℕ, zero, suc, ◌+◌, ◌-◌, ◌*◌, ◌/◌, ◌%◌, ◌^◌, ◌<◌, ◌≤◌, ◌&&◌, Bool, true, false, cond, List, [], ◌∷◌, ◌++◌, map, length, take, drop, Option, Some, None, min, sym, ap, ap₂, ◌∙◌, refl, arith, subst, inl, inr, add_comm}
+use Rattle.std.specs.Prelude.{fold, ℤ, option_map, count_by, if◌then◌else◌}
 use Rattle.std.specs.List.{list_any, range_with_len}
-use Rattle.std.specs.BTreeMap.{insert_entry}
-use Rattle.std.specs.Ordering.{nat_cmp}
+use Rattle.std.specs.Map.{lookup}
+use Rattle.std.specs.BTreeMap.{insert_entry, is_at}
+use Rattle.std.specs.Ordering.{nat_cmp, match_ordering}
+use Rattle.std.specs.declared.cmp.Ordering.TheVariants.{Less, Equal, Greater}
+use Rattle.std.specs.Int.{cast_signed, w16}
+use Rattle.std.specs.Io.KnownBytes.{Consumes, IsAtEnd}
+use Rattle.std.proofs.Math.Bool.{or-true}
+use Rattle.std.proofs.Math.Nat.{div-lt_iff_lt-mul, mul-le-mul_right}
+use Rattle.std.proofs.lemmas.Bool.{cases_eq, cases_lt}
 use Rattle.std.proofs.lemmas.Bool.Decides.{nat_tests}
 use Rattle.std.proofs.lemmas.List.{drop-drop, length-drop, map-id, length-append, length-take-le}
 use Rattle.std.proofs.lemmas.List.FromFn.{map-range_with_len_more}
-use Rattle.std.proofs.lemmas.List.Sums.{fold-append}
+use Rattle.std.proofs.lemmas.List.Sums.{fold-append, sum_by_push}
 use Rattle.std.proofs.lemmas.Nat.{div-mul-add, mod-mul-add, le-div}
-use Rattle.std.proofs.Math.Nat.{div-lt_iff_lt-mul, mul-le-mul_right}
+use Rattle.byteorder.specs.Endian.{big_number}
+use Rattle.healpix_nested.specs.Cells.{cell_count, lies_under}
+use Rattle.pyramid_model.specs.Shape.{LeafMap, leaf_numbers}
+use Rattle.tile_pixels.specs.Tile.{PixelTile}
+use Rattle.hipsd.specs.declared.command.Probe.{Probe}
 use Rattle.hipsd.specs.declared.fault.ProbeFault.{ProbeFault}
 use Rattle.hipsd.specs.declared.fault.ProbeFault.TheVariants.{Cut, Read, Write, NoLeaf, OutOfMemory, TooMany, OutOfRange}
-use Rattle.std.proofs.Math.Bool.{or-true}
-use Rattle.std.proofs.lemmas.Bool.{cases_eq, cases_lt}
-use Rattle.std.specs.Int.{cast_signed, w16}
-use Rattle.std.specs.Io.KnownBytes.{Consumes, IsAtEnd}
-use Rattle.byteorder.specs.Endian.{big_number}
-use Rattle.healpix_nested.specs.Cells.{cell_count}
-use Rattle.std.specs.Prelude.{All}
-use Rattle.std.specs.Map.{keys_of, values_of}
-use Rattle.std.specs.List.Sorted.{IsStrictlySortedBy}
-use Rattle.std.specs.Ordering.{match_ordering}
-use Rattle.std.specs.declared.cmp.Ordering.TheVariants.{Less, Equal, Greater}
-use Rattle.std.proofs.lemmas.Map.Views.{All-keys-insert_entry, All-values-insert_entry}
-use Rattle.parent_rule.specs.Depth.{PixelDepth, IsNumber}
-use Rattle.pyramid_model.specs.Shape.{PyramidShape, LeafMap, FitsShape}
-use Rattle.tile_pixels.specs.Tile.{PixelTile, IsTile}
-use Rattle.hipsd.specs.Merging.{tile_map}
+use Rattle.hipsd.specs.Merging.{steps_after}
+use Rattle.hipsd.specs.Probe.{probe_depth, records_under}
 use Rattle.hipsd.specs.Records.{record_length, leaf_number, stored_number, stored_numbers, leaves_of, most_records, numbers_read, names_no_leaf, goes_on, ends_within, reading_status}
 use Rattle.hipsd.specs.Reading.{TakesRecord, IsCut, NamesNoLeaf, StopsRecord, StandsFor}
+use Rattle.hipsd.proofs.CountLemmas.{steps_sum}
+use Rattle.hipsd.proofs.MergingLemmas.{KeepsLeaves}
 
--- after i records: the rest is left, their numbers are leaves', and the leaves are theirs
-pub record ReadSoFar (top n : ℕ) (input : List ℕ) (i : ℕ) (left : Option (List ℕ)) (leaves : LeafMap) : Type 0 where
+-- after i records: the rest is left, and their numbers are leaves'
+pub record ReadSoFar (top n : ℕ) (input : List ℕ) (i : ℕ) (left : Option (List ℕ)) : Type 0 where
   pub rest : left ≡ Some (drop (i * record_length n) input)
   pub within : i * record_length n ≤ length input
   pub in_range : (j : ℕ) → j < i → leaf_number n input j < cell_count top
-  pub so_far : leaves ≡ leaves_of n input i
 
 -- ---- lists of numbers in a row
 
@@ -101,20 +99,17 @@ some_names top n input i there out = in_row_some _ 0 (numbers_read n input) i (o
 
 -- ---- steps
 
-pub start : (top n : ℕ) (input : List ℕ) → ReadSoFar top n input 0 (Some input) []
+pub start : (top n : ℕ) (input : List ℕ) → ReadSoFar top n input 0 (Some input)
 start top n input = record {
   rest = ap (λ k. Some (drop k input)) (let none : 0 ≡ 0 * record_length n = omega arith in none);
   within = omega arith;
   in_range = λ j below. absurd (omega arith);
-  so_far = refl;
 }
 
-pub step : (top n : ℕ) (input : List ℕ) (i leaf : ℕ) (numbers : List ℤ) (left left' : Option (List ℕ)) (leaves leaves' : LeafMap)
-    → ReadSoFar top n input i left leaves → TakesRecord top n (drop (i * record_length n) input) left' leaf numbers → leaf < cell_count top
-    → leaves' ≡ insert_entry nat_cmp leaves leaf numbers → ReadSoFar top n input (i + 1) left' leaves'
-step top n input i leaf numbers left left' leaves leaves' before taken known put =
+pub step : (top n : ℕ) (input : List ℕ) (i leaf : ℕ) (numbers : List ℤ) (left left' : Option (List ℕ))
+    → ReadSoFar top n input i left → TakesRecord top n (drop (i * record_length n) input) left' leaf numbers → leaf < cell_count top → ReadSoFar top n input (i + 1) left'
+step top n input i leaf numbers left left' before taken known =
     let leaf_is : leaf ≡ leaf_number n input i = taken.leaf_is ∙ leaf_of_rest n input i in
-    let numbers_are : numbers ≡ stored_numbers n input i = taken.numbers_are ∙ numbers_of_rest n input i in
     let long : record_length n ≤ length input - i * record_length n = rw length-drop at taken.whole in
     let within_here : i * record_length n ≤ length input = before.within in
     record {
@@ -124,7 +119,6 @@ step top n input i leaf numbers left left' leaves leaves' before taken known put
         | inl earlier ↦ before.in_range j earlier
         | inr here ↦ let same : j ≡ i = omega arith in let P : ℕ → Type 0 = λ k. k < cell_count top in subst P (leaf_is ∙ ap (leaf_number n input) (sym same)) known
       ];
-      so_far = put ∙ rw (before.so_far, leaf_is, numbers_are) (sym (leaves_more n input i));
     }
 
 -- ---- ends
@@ -152,9 +146,9 @@ ends_within_some n input i k e some short =
     let part : length input % record_length n ≡ k = ap (λ m. m % record_length n) e ∙ mod-mul-add i (record_length n) k short in
     grind (arith, nat_tests)
 
-pub at_end : (top n : ℕ) (input : List ℕ) (i : ℕ) (left : Option (List ℕ)) (leaves : LeafMap) → ReadSoFar top n input i left leaves → i ≤ most_records → left ≡ Some []
-    → (reading_status top n input ≡ 0) × (leaves ≡ leaves_of n input (length input / record_length n))
-at_end top n input i left leaves so most end =
+pub at_end : (top n : ℕ) (input : List ℕ) (i : ℕ) (left : Option (List ℕ)) → ReadSoFar top n input i left → i ≤ most_records → left ≡ Some []
+    → (reading_status top n input ≡ 0) × (i ≡ length input / record_length n)
+at_end top n input i left so most end =
     let none : drop (i * record_length n) input ≡ [] = same_some _ _ (sym so.rest ∙ end) in
     let exact : length input ≡ i * record_length n = length_by_rest n input i so.within ∙ ap (λ rest. i * record_length n + length rest) none ∙ omega arith in
     let read : numbers_read n input ≡ i = numbers_before n input i 0 (omega arith) (omega arith) most in
@@ -163,11 +157,11 @@ at_end top n input i left leaves so most end =
     let on : goes_on n input ≡ false = goes_on_not n input (omega arith) in
     let within : ends_within n input ≡ false = ends_within_not n input i exact in
     let count : length input / record_length n ≡ i = ap (λ m. m / record_length n) (let sum : length input ≡ i * record_length n + 0 = omega arith in sum) ∙ div-mul-add i (record_length n) 0 (omega arith) in
-    (rw (names, on, within) refl, so.so_far ∙ ap (leaves_of n input) (sym count))
+    (rw (names, on, within) refl, sym count)
 
-at_cut : (top n : ℕ) (input : List ℕ) (i : ℕ) (left : Option (List ℕ)) (leaves : LeafMap) → ReadSoFar top n input i left leaves → i < most_records
+at_cut : (top n : ℕ) (input : List ℕ) (i : ℕ) (left : Option (List ℕ)) → ReadSoFar top n input i left → i < most_records
     → IsCut top n (drop (i * record_length n) input) → reading_status top n input ≡ 4
-at_cut top n input i left leaves so most cut =
+at_cut top n input i left so most cut =
     let k = length (drop (i * record_length n) input) in
     let e : length input ≡ i * record_length n + k = length_by_rest n input i so.within in
     let few : numbers_read n input ≤ i + 1 = numbers_at_most n input i k e cut.short in
@@ -185,33 +179,33 @@ at_cut top n input i left leaves so most cut =
     let within : ends_within n input ≡ true = ends_within_some n input i k e cut.some cut.short in
     rw (names, on, within) refl
 
-at_no_leaf : (top n : ℕ) (input : List ℕ) (i : ℕ) (left : Option (List ℕ)) (leaves : LeafMap) → ReadSoFar top n input i left leaves → i < most_records
+at_no_leaf : (top n : ℕ) (input : List ℕ) (i : ℕ) (left : Option (List ℕ)) → ReadSoFar top n input i left → i < most_records
     → NamesNoLeaf top n (drop (i * record_length n) input) → reading_status top n input ≡ 13
-at_no_leaf top n input i left leaves so most named =
+at_no_leaf top n input i left so most named =
     let e : length input ≡ i * record_length n + length (drop (i * record_length n) input) = length_by_rest n input i so.within in
     let there : 8 ≤ length (drop (i * record_length n) input) = named.there in
     let out : cell_count top ≤ leaf_number n input i = let P : ℕ → Type 0 = λ x. cell_count top ≤ x in subst P (leaf_of_rest n input i) named.number in
     let names : names_no_leaf top n input ≡ true = some_names top n input i (numbers_with n input i (omega arith) most) out in
     rw names refl
 
-pub at_more : (top n : ℕ) (input : List ℕ) (left : Option (List ℕ)) (leaves : LeafMap) → ReadSoFar top n input most_records left leaves
+pub at_more : (top n : ℕ) (input : List ℕ) (left : Option (List ℕ)) → ReadSoFar top n input most_records left
     → 0 < length (drop (most_records * record_length n) input) → reading_status top n input ≡ 12
-at_more top n input left leaves so more =
+at_more top n input left so more =
     let e : length input ≡ most_records * record_length n + length (drop (most_records * record_length n) input) = length_by_rest n input most_records so.within in
     let names : names_no_leaf top n input ≡ false = none_names top n input (λ j below. so.in_range j (omega arith)) in
     let on : goes_on n input ≡ true = goes_on_past n input (omega arith) in
     rw (names, on) refl
 
 -- why a record wasn't taken is how reading all ends
-pub at_stop : (top n : ℕ) (input : List ℕ) (i : ℕ) (left : Option (List ℕ)) (leaves : LeafMap) (fault : ProbeFault) → ReadSoFar top n input i left leaves → i < most_records
+pub at_stop : (top n : ℕ) (input : List ℕ) (i : ℕ) (left : Option (List ℕ)) (fault : ProbeFault) → ReadSoFar top n input i left → i < most_records
     → StopsRecord top n (drop (i * record_length n) input) fault → StandsFor fault (reading_status top n input)
-at_stop top n input i left leaves Cut so most stop = at_cut top n input i left leaves so most stop
-at_stop top n input i left leaves OutOfRange so most stop = at_no_leaf top n input i left leaves so most stop
-at_stop top n input i left leaves Read so most stop = tt
-at_stop top n input i left leaves OutOfMemory so most stop = tt
-at_stop top n input i left leaves Write so most stop = absurd stop
-at_stop top n input i left leaves NoLeaf so most stop = absurd stop
-at_stop top n input i left leaves TooMany so most stop = absurd stop
+at_stop top n input i left Cut so most stop = at_cut top n input i left so most stop
+at_stop top n input i left OutOfRange so most stop = at_no_leaf top n input i left so most stop
+at_stop top n input i left Read so most stop = tt
+at_stop top n input i left OutOfMemory so most stop = absurd stop
+at_stop top n input i left Write so most stop = absurd stop
+at_stop top n input i left NoLeaf so most stop = absurd stop
+at_stop top n input i left TooMany so most stop = absurd stop
 
 -- ---- what one call says of bytes that are told
 
@@ -241,45 +235,77 @@ none_left old new xs buf m e taken none end =
     let empty : take m buf ≡ [] = ap (λ k. take k buf) none in
     rest.1 ∙ ap (λ ys. take m buf ++ ys) ended ∙ ap (λ ys. ys ++ []) empty
 
--- ---- the map that the code keeps
+-- ---- the leaves that are kept
 
--- a leaf that is put stands in the leaf map
-tile_map-insert_entry : (es : List (ℕ × PixelTile)) (leaf : ℕ) (tile : PixelTile) → tile_map (insert_entry nat_cmp es leaf tile) ≡ insert_entry nat_cmp (tile_map es) leaf tile.numbers
-tile_map-insert_entry [] leaf tile = refl
-tile_map-insert_entry (e ∷ es) leaf tile =
-    elim (nat_cmp leaf e.0) as (λ o. tile_map (match_ordering o ((leaf, tile) ∷ e ∷ es) ((e.0, tile) ∷ es) (e ∷ insert_entry nat_cmp es leaf tile))
-    ≡ match_ordering o ((leaf, tile.numbers) ∷ (e.0, e.1.numbers) ∷ tile_map es) ((e.0, tile.numbers) ∷ tile_map es) ((e.0, e.1.numbers) ∷ insert_entry nat_cmp (tile_map es) leaf tile.numbers)) [
-      | Less ↦ refl
-      | Equal ↦ refl
-      | Greater ↦ ap (λ rest. (e.0, e.1.numbers) ∷ rest) (tile_map-insert_entry es leaf tile)
-    ]
+-- what a leaf map has at a number, once a leaf is put
+lookup-insert_entry : (es : LeafMap) (leaf : ℕ) (numbers : List ℤ) (q : ℕ) → lookup (is_at (nat_cmp q)) (insert_entry nat_cmp es leaf numbers) ≡ cond (is_at (nat_cmp leaf) q) (Some numbers) (lookup (is_at (nat_cmp q)) es)
+lookup-insert_entry [] leaf numbers q = let turned : is_at (nat_cmp q) leaf ≡ is_at (nat_cmp leaf) q = grind (arith, nat_tests) in rw turned refl
+lookup-insert_entry (e ∷ es) leaf numbers q =
+    let turned : is_at (nat_cmp q) leaf ≡ is_at (nat_cmp leaf) q = grind (arith, nat_tests) in
+    elim (nat_cmp leaf e.0) as (λ o. nat_cmp leaf e.0 ≡ o → lookup (is_at (nat_cmp q)) (match_ordering o ((leaf, numbers) ∷ e ∷ es) ((e.0, numbers) ∷ es) (e ∷ insert_entry nat_cmp es leaf numbers))
+    ≡ cond (is_at (nat_cmp leaf) q) (Some numbers) (cond (is_at (nat_cmp q) e.0) (Some e.1) (lookup (is_at (nat_cmp q)) es))) [
+      | Less ↦ λ is. rw turned refl
+      | Equal ↦ λ is. let same : is_at (nat_cmp q) e.0 ≡ is_at (nat_cmp leaf) q = grind (arith, nat_tests) in
+          rw same (once (is_at (nat_cmp leaf) q) (Some numbers) (Some e.1) (lookup (is_at (nat_cmp q)) es))
+      | Greater ↦ λ is. rw (lookup-insert_entry es leaf numbers q)
+          (either (is_at (nat_cmp q) e.0) (is_at (nat_cmp leaf) q) (Some e.1) (Some numbers) (lookup (is_at (nat_cmp q)) es) (λ here there. grind (arith, nat_tests)))
+    ] refl
+  where
+    once : (b : Bool) (x y z : Option (List ℤ)) → cond b x z ≡ cond b x (cond b y z)
+    once true x y z = refl
+    once false x y z = refl
 
--- the leaf map with a leaf that is put
-pub tiles_put : (es es' : List (ℕ × PixelTile)) (leaf : ℕ) (tile : PixelTile) → es' ≡ insert_entry nat_cmp es leaf tile → tile_map es' ≡ insert_entry nat_cmp (tile_map es) leaf tile.numbers
-tiles_put es es' leaf tile put = ap tile_map put ∙ tile_map-insert_entry es leaf tile
+    either : (a b : Bool) (x y z : Option (List ℤ)) → (a ≡ true → b ≡ true → ⊥) → cond a x (cond b y z) ≡ cond b y (cond a x z)
+    either true true x y z apart = absurd (apart refl refl)
+    either true false x y z apart = refl
+    either false true x y z apart = refl
+    either false false x y z apart = refl
 
-keys_of-tile_map : (es : List (ℕ × PixelTile)) → keys_of (tile_map es) ≡ keys_of es
-keys_of-tile_map [] = refl
-keys_of-tile_map (e ∷ es) = ap (λ rest. e.0 ∷ rest) (keys_of-tile_map es)
+-- nothing is kept of no record
+pub keeps_none : (asked : Probe) (input : List ℕ) → KeepsLeaves asked.top asked.order asked.npix (leaves_of asked.n input 0) []
+keeps_none asked input q = either (lies_under asked.top q asked.order asked.npix) None
+  where
+    either : (b : Bool) (o : Option (List ℤ)) → o ≡ cond b o o
+    either true o = refl
+    either false o = refl
 
--- the tiles that are kept: a leaf map of the shape, each of its depth and side
-pub record Kept (shape : PyramidShape) (es : List (ℕ × PixelTile)) : Type 0 where
-  pub fits : FitsShape shape (tile_map es)
-  pub tiles : All (λ tile. (tile.depth ≡ shape.depth) × (tile.n ≡ shape.n)) (values_of es)
+-- one more record, whose tile is kept where its leaf lies under the asked cell
+pub keeps_more : (asked : Probe) (input : List ℕ) (i leaf : ℕ) (numbers : List ℤ) (left' : Option (List ℕ)) (tiles tiles' : List (ℕ × PixelTile))
+    → TakesRecord asked.top asked.n (drop (i * record_length asked.n) input) left' leaf numbers
+    → ((q : ℕ) → lookup (is_at (nat_cmp q)) tiles' ≡ cond (lies_under asked.top leaf asked.order asked.npix && is_at (nat_cmp leaf) q)
+    (Some (record { depth = probe_depth; n = asked.n; numbers = numbers })) (lookup (is_at (nat_cmp q)) tiles))
+    → KeepsLeaves asked.top asked.order asked.npix (leaves_of asked.n input i) tiles → KeepsLeaves asked.top asked.order asked.npix (leaves_of asked.n input (i + 1)) tiles'
+keeps_more asked input i leaf numbers left' tiles tiles' taken put keeps q =
+    let leaf_is : leaf_number asked.n input i ≡ leaf = sym (taken.leaf_is ∙ leaf_of_rest asked.n input i) in
+    let numbers_are : stored_numbers asked.n input i ≡ numbers = sym (taken.numbers_are ∙ numbers_of_rest asked.n input i) in
+    let more : leaf_numbers (leaves_of asked.n input (i + 1)) q ≡ cond (is_at (nat_cmp leaf) q) (Some numbers) (leaf_numbers (leaves_of asked.n input i) q) =
+    ap (lookup (is_at (nat_cmp q))) (leaves_more asked.n input i ∙ ap₂ (λ l ns. insert_entry nat_cmp (leaves_of asked.n input i) l ns) leaf_is numbers_are)
+    ∙ lookup-insert_entry (leaves_of asked.n input i) leaf numbers q in
+    let same : is_at (nat_cmp leaf) q ≡ true → lies_under asked.top q asked.order asked.npix ≡ lies_under asked.top leaf asked.order asked.npix =
+    λ at. let one : q ≡ leaf = grind (arith, nat_tests) in ap (λ l. lies_under asked.top l asked.order asked.npix) one in
+    rw (put q, more) (at_number (lies_under asked.top leaf asked.order asked.npix) (lies_under asked.top q asked.order asked.npix) (is_at (nat_cmp leaf) q) numbers
+    (lookup (is_at (nat_cmp q)) tiles) (leaf_numbers (leaves_of asked.n input i) q) (record { depth = probe_depth; n = asked.n; numbers = numbers }) same refl (keeps q))
+  where
+    at_number : (u v at : Bool) (numbers : List ℤ) (o : Option PixelTile) (kept : Option (List ℤ)) (tile : PixelTile) → (at ≡ true → v ≡ u) → tile.numbers ≡ numbers
+        → option_map (λ t. t.numbers) o ≡ cond v kept None
+        → option_map (λ t. t.numbers) (cond (u && at) (Some tile) o) ≡ cond v (cond at (Some numbers) kept) None
+    at_number true true true numbers o kept tile same is before = ap Some is
+    at_number true false true numbers o kept tile same is before = let e : false ≡ true = same refl in cc
+    at_number true v false numbers o kept tile same is before = before
+    at_number false true true numbers o kept tile same is before = let e : true ≡ false = same refl in cc
+    at_number false false true numbers o kept tile same is before = before
+    at_number false v false numbers o kept tile same is before = before
 
--- it goes on to fit the shape
-pub kept-put : (shape : PyramidShape) (es es' : List (ℕ × PixelTile)) (leaf : ℕ) (tile : PixelTile) → Kept shape es → es' ≡ insert_entry nat_cmp es leaf tile
-    → IsStrictlySortedBy nat_cmp (keys_of es') → leaf < cell_count shape.top → (tile.depth ≡ shape.depth) × (tile.n ≡ shape.n) → IsTile tile.depth tile.n tile.numbers → Kept shape es'
-kept-put shape es es' leaf tile kept put ordered cell is of =
-    let map_is : tile_map es' ≡ insert_entry nat_cmp (tile_map es) leaf tile.numbers = tiles_put es es' leaf tile put in
-    let size : length tile.numbers ≡ 4 ^ shape.n = of.count ∙ ap (λ n. 4 ^ n) is.1 in
-    let all : All (IsNumber shape.depth.bitpix) tile.numbers = subst (λ (d : PixelDepth). All (IsNumber d.bitpix) tile.numbers) is.0 of.range in
-    record {
-      fits = record {
-        ordered = rw keys_of-tile_map ordered;
-        cells = rw map_is (All-keys-insert_entry nat_cmp leaf tile.numbers (λ k. k < cell_count shape.top) (tile_map es) kept.fits.cells cell);
-        lengths = rw map_is (All-values-insert_entry nat_cmp leaf tile.numbers (λ ns. length ns ≡ 4 ^ shape.n) (tile_map es) kept.fits.lengths size);
-        numbers = rw map_is (All-values-insert_entry nat_cmp leaf tile.numbers (All (IsNumber shape.depth.bitpix)) (tile_map es) kept.fits.numbers all);
-      };
-      tiles = rw put (All-values-insert_entry nat_cmp leaf tile (λ t. (t.depth ≡ shape.depth) × (t.n ≡ shape.n)) es kept.tiles is);
-    }
+-- and one more step where it is
+pub counts_more : (asked : Probe) (input : List ℕ) (i leaf : ℕ) (numbers : List ℤ) (left' : Option (List ℕ)) (first before after : ℕ)
+    → TakesRecord asked.top asked.n (drop (i * record_length asked.n) input) left' leaf numbers
+    → after ≡ steps_after (if lies_under asked.top leaf asked.order asked.npix then 1 else 0) before → before ≡ steps_after (records_under asked input i) first
+    → after ≡ steps_after (records_under asked input (i + 1)) first
+counts_more asked input i leaf numbers left' first before after taken counted so =
+    let leaf_is : leaf ≡ leaf_number asked.n input i = taken.leaf_is ∙ leaf_of_rest asked.n input i in
+    let here : ℕ = if lies_under asked.top leaf asked.order asked.npix then 1 else 0 in
+    let more : records_under asked input (i + 1) ≡ here + records_under asked input i =
+    ap (count_by (λ k. lies_under asked.top (leaf_number asked.n input k) asked.order asked.npix)) (row_more i)
+    ∙ sum_by_push (λ k. cond (lies_under asked.top (leaf_number asked.n input k) asked.order asked.npix) 1 0) (range_with_len 0 i) i
+    ∙ ap (λ l. records_under asked input i + cond (lies_under asked.top l asked.order asked.npix) 1 0) (sym leaf_is) ∙ add_comm _ _ in
+    counted ∙ ap (steps_after here) so ∙ sym (steps_sum here (records_under asked input i) first) ∙ ap (λ m. steps_after m first) (sym more)

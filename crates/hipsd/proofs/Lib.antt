@@ -1,4 +1,6 @@
 pub mod CommandLemmas
+pub mod CountLemmas
 pub mod LeavesLemmas
 pub mod MergingLemmas
+pub mod PieceLemmas
 pub mod ReadLemmas

@@ -11,15 +11,9 @@ use Rattle.hipsd.specs.Records.{record_length, leaf_number, stored_numbers}
 use Rattle.tile_pixels.specs.Stored.{numbers_from}
 use Rattle.hipsd.specs.Reading.{TakesRecord}
 use Rattle.std.specs.Io.KnownBytes.{Consumes}
+use Rattle.hipsd.proofs.PieceLemmas.{Consumes-both}
 use borrow.Rule.Slice.PartMut.{put_mid, post_of}
 use lib.Seq.{take-add, take-append-le}
-
--- what two reads in turn took
-Consumes-both : (old mid new : Option (List ℕ)) (first second : List ℕ) → Consumes old mid first → Consumes mid new second → Consumes old new (first ++ second)
-Consumes-both None mid new first second p q = tt
-Consumes-both (Some xs) None new first second p q = absurd p
-Consumes-both (Some xs) (Some ys) None first second p q = absurd q
-Consumes-both (Some xs) (Some ys) (Some zs) first second p q = p ∙ ap (λ l. first ++ l) q ∙ sym (append_assoc first second zs)
 
 -- a second read filled the part behind the front that was filled before it
 pub filled_more : (initial mid new : Option (List ℕ)) (xs ys : List ℕ) (filled room count : ℕ) → filled ≤ length xs → count ≤ length ys

@@ -1,13 +1,15 @@
 -- What `probe` answers.
-use Rattle.std.specs.Prelude.{ℕ, ◌/◌, List, [], length, negsuc, nat_le, ◌==◌, if◌then◌else◌}
-use Rattle.healpix_nested.specs.Cells.{cell_count}
+use Rattle.std.specs.Prelude.{ℕ, ◌+◌, ◌/◌, List, [], length, count_by, negsuc, nat_le, ◌==◌, if◌then◌else◌}
+use Rattle.std.specs.List.{range_with_len}
+use Rattle.healpix_nested.specs.Cells.{cell_count, lies_under}
 use Rattle.parent_rule.specs.declared.combine.Combine.TheVariants.{Mean}
 use Rattle.parent_rule.specs.Depth.{PixelDepth}
 use Rattle.pyramid_model.specs.Shape.{PyramidShape, LeafMap}
 use Rattle.pyramid_model.specs.Tile.{exists, pixels}
 use Rattle.tile_pixels.specs.Stored.{stored_bytes}
 use Rattle.hipsd.specs.declared.command.Probe.{Probe}
-use Rattle.hipsd.specs.Records.{leaves_of, reading_status, record_length}
+use Rattle.hipsd.specs.Records.{leaf_number, leaves_of, reading_status, record_length}
+use Rattle.hipsd.specs.Merging.{tiles_made}
 
 -- the numbers of a probe: 16 bits, the blank number -32768, combined by the mean
 abbrev pub probe_depth : PixelDepth
@@ -43,3 +45,13 @@ probe_answer asked input =
     if nat_le (cell_count asked.order) asked.npix then only_status 13
     else (if reading_status asked.top asked.n input == 0 then tile_answer asked (leaves_read asked input)
     else only_status (reading_status asked.top asked.n input))
+
+-- how many of the first records are of leaves at or under the asked tile
+abbrev pub records_under : Probe → List ℕ → ℕ → ℕ
+records_under asked input count =
+    count_by (λ i. lies_under asked.top (leaf_number asked.n input i) asked.order asked.npix) (range_with_len 0 count)
+
+-- the steps of a probe that is answered: one for each of these tiles, which are read, and one for each tile that is made
+abbrev pub probe_steps : Probe → List ℕ → ℕ
+probe_steps asked input = records_under asked input (length input / record_length asked.n)
+    + tiles_made (shape_of asked) (leaves_read asked input) asked.order asked.npix

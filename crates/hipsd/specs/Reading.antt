@@ -1,9 +1,13 @@
 -- One step of reading leaf records, from the bytes that are left.
-use Rattle.std.specs.Prelude.{◌≡◌, ℕ, ◌<◌, ◌≤◌, List, drop, length, ℤ, Option, Some, ⊤}
+use Rattle.std.specs.Prelude.{◌≡◌, ℕ, zero, suc, ◌+◌, ◌<◌, ◌≤◌, List, [], ◌∷◌, drop, length, flat_map, All, IsTrue, ◌==◌, ℤ, Option, Some, ⊤}
+use Rattle.std.specs.List.{list_any}
+use Rattle.std.specs.Io.KnownBytes.{Consumes}
 use Rattle.healpix_nested.specs.Cells.{cell_count}
+use Rattle.survey_link.specs.Link.{readings_after}
 use Rattle.hipsd.specs.declared.fault.ProbeFault.{ProbeFault}
-use Rattle.hipsd.specs.declared.fault.ProbeFault.TheVariants.{Cut, Read, Write, NoLeaf, OutOfMemory, TooMany, OutOfRange}
+use Rattle.hipsd.specs.declared.fault.ProbeFault.TheVariants.{Cut, Read, Write, OutOfMemory, OutOfRange}
 use Rattle.hipsd.specs.Records.{record_length, leaf_number, stored_numbers}
+use Rattle.hipsd.specs.Run.{status_of}
 
 -- a whole record of a leaf stands first in the input, and was taken from it
 pub record TakesRecord (top n : ℕ) (input : List ℕ) (left : Option (List ℕ)) (leaf : ℕ) (numbers : List ℤ) : Type 0 where
@@ -28,56 +32,50 @@ abbrev pub StopsRecord : ℕ → ℕ → List ℕ → ProbeFault → Type 0
 StopsRecord top n input Cut = IsCut top n input
 StopsRecord top n input OutOfRange = NamesNoLeaf top n input
 StopsRecord top n input Read = ⊤
-StopsRecord top n input OutOfMemory = ⊤
-StopsRecord top n input Write = ⊥
-StopsRecord top n input NoLeaf = ⊥
-StopsRecord top n input TooMany = ⊥
+StopsRecord top n input _ = ⊥
 
--- the faults of one record, and of its tile
-abbrev pub IsOfRecord : ProbeFault → Type 0
-IsOfRecord Cut = ⊤
-IsOfRecord OutOfRange = ⊤
-IsOfRecord Read = ⊤
-IsOfRecord OutOfMemory = ⊤
-IsOfRecord Write = ⊥
-IsOfRecord NoLeaf = ⊥
-IsOfRecord TooMany = ⊥
+-- the fault is one of those with these statuses
+abbrev pub HasStatusIn : List ℕ → ProbeFault → Type 0
+HasStatusIn statuses fault = IsTrue (list_any (λ status. status == status_of fault) statuses)
 
-abbrev pub IsOfTileRead : ProbeFault → Type 0
-IsOfTileRead Cut = ⊤
-IsOfTileRead Read = ⊤
-IsOfTileRead OutOfMemory = ⊤
-IsOfTileRead OutOfRange = ⊥
-IsOfTileRead Write = ⊥
-IsOfTileRead NoLeaf = ⊥
-IsOfTileRead TooMany = ⊥
+-- the faults of reading one record, of reading all, and of making the tile
+abbrev pub record_statuses : List ℕ
+record_statuses = 4 ∷ 5 ∷ 13 ∷ []
 
--- the faults of making the tile
-abbrev pub IsOfTile : ProbeFault → Type 0
-IsOfTile NoLeaf = ⊤
-IsOfTile OutOfMemory = ⊤
-IsOfTile Cut = ⊥
-IsOfTile OutOfRange = ⊥
-IsOfTile Read = ⊥
-IsOfTile Write = ⊥
-IsOfTile TooMany = ⊥
+abbrev pub reading_statuses : List ℕ
+reading_statuses = 4 ∷ 5 ∷ 11 ∷ 12 ∷ 13 ∷ []
 
--- the fault stands for this status of reading; want of memory and a failing source stand for any
+abbrev pub tile_statuses : List ℕ
+tile_statuses = 10 ∷ 11 ∷ []
+
+-- the fault stands for this status of reading; want of memory and a failing source or sink stand for any
 abbrev pub StandsFor : ProbeFault → ℕ → Type 0
-StandsFor Cut status = status ≡ 4
-StandsFor NoLeaf status = status ≡ 10
-StandsFor TooMany status = status ≡ 12
-StandsFor OutOfRange status = status ≡ 13
 StandsFor Read status = ⊤
 StandsFor Write status = ⊤
 StandsFor OutOfMemory status = ⊤
+StandsFor fault status = status ≡ status_of fault
 
--- the faults of reading all records
-abbrev pub IsOfReading : ProbeFault → Type 0
-IsOfReading Cut = ⊤
-IsOfReading OutOfRange = ⊤
-IsOfReading Read = ⊤
-IsOfReading OutOfMemory = ⊤
-IsOfReading TooMany = ⊤
-IsOfReading Write = ⊥
-IsOfReading NoLeaf = ⊥
+-- ---- each reading
+
+-- the number of readings after so many more
+abbrev pub after_readings : ℕ → Option ℕ → Option ℕ
+after_readings zero readings = readings
+after_readings (suc more) readings = readings_after 1 (after_readings more readings)
+
+-- what was read came in pieces, one a reading and none of them empty; besides, so many readings gave nothing, since the
+-- input was at its end or the source refused
+pub record ReadsPieces (empty : ℕ) (left left' : Option (List ℕ)) (readings readings' : Option ℕ) : Type 0 where
+  pub pieces : List (List ℕ)
+  pub none_is_empty : All (λ piece. 0 < length piece) pieces
+  pub taken : Consumes left left' (flat_map (λ piece. piece) pieces)
+  pub counted : readings' ≡ after_readings (length pieces + empty) readings
+
+-- how many of the readings that ended by a fault gave nothing: that at the end of the input, or that which was refused
+abbrev pub empty_readings : ProbeFault → ℕ
+empty_readings Cut = 1
+empty_readings Read = 1
+empty_readings _ = 0
+
+-- at most one reading gave nothing, whatever the source: so none is made after it, since that might give nothing too
+abbrev pub ReadsToTheEnd : Option (List ℕ) → Option (List ℕ) → Option ℕ → Option ℕ → Type 0
+ReadsToTheEnd left left' readings readings' = (empty : ℕ) × (empty ≤ 1) × ReadsPieces empty left left' readings readings'

@@ -1,8 +1,10 @@
 //! What the words of a command line ask for.
-ghost use Rattle.std.specs.Prelude.{◌≡◌, ◌≢◌, ℕ, ◌^◌, ◌<◌, ◌≤◌, true, false, [], ◌∷◌, length, slice_index, IfSome, IfNone, MatchOption, codes, decimal};
+ghost use Rattle.std.specs.Prelude.{◌≡◌, ◌≢◌, ℕ, ◌≤◌, [], ◌∷◌, IfSome, IfNone, MatchOption, codes, decimal};
 ghost use Rattle.hipsd.specs.Command.{texts, Asks, IsCommand};
 ghost use Rattle.hipsd.specs.declared.command.Probe.{Probe as AskedProbe};
 ghost use Rattle.hipsd.specs.declared.command.Command.TheVariants.{Probe as ProbeCommand};
+
+use decimal_scale::plain_decimal;
 
 /// What `probe K N k p` asks for: tile `npix` of order `order`, over leaves of order `top` and tiles of `2^n` columns and
 /// lines.
@@ -45,7 +47,7 @@ fn read_probe(top: &str, n: &str, order: &str, npix: &str) -> Option<Probe>
     let top = small_number(top, 3, 11)?;
     let n = small_number(n, 1, 9)?;
     let order = small_number(order, 0, top)?;
-    let npix = number(npix)?;
+    let npix = plain_decimal(npix.as_bytes())?;
     Some(Probe {
         top,
         n,
@@ -59,34 +61,11 @@ fn small_number(word: &str, least: u8, greatest: u8) -> Option<u8>
     ensures { MatchOption result ((n : ℕ) → least ≤ n → n ≤ greatest → word.now ≢ decimal n)
         (λ n. (word.now ≡ decimal n) × (least ≤ n) × (n ≤ greatest)) }
 {
-    let n = number(word)?;
+    let n = plain_decimal(word.as_bytes())?;
     if u64::from(least) <= n && n <= u64::from(greatest) {
         Some(n as u8)
     } else {
         None
-    }
-}
-
-// A number of 64 bits in plain decimals, without a sign and without leading zeros.
-fn number(word: &str) -> Option<u64>
-    ensures { MatchOption result ((n : ℕ) → n < 2 ^ 64 → word.now ≢ decimal n) (λ n. word.now ≡ decimal n) }
-{
-    if starts_plain(word.as_bytes()) {
-        word.parse::<u64>().ok()
-    } else {
-        None
-    }
-}
-
-// Whether the word starts with a digit, and with `0` only where that is the whole word.
-fn starts_plain(word: &[u8]) -> bool
-    ensures yes { result ≡ true → (48 ≤ slice_index word.now 0) × (slice_index word.now 0 ≡ 48 → length word.now ≡ 1) }
-    ensures no { result ≡ false → (n : ℕ) → n < 2 ^ 64 → word.now ≢ decimal n }
-{
-    match word.first() {
-        Some(b'0') => word.len() == 1,
-        Some(first) => first.is_ascii_digit(),
-        None => false,
     }
 }
 

@@ -3,6 +3,13 @@
 //! `run` is the whole program over the ends that it is given; `main` makes the real ones. The command of today is `probe`.
 #![tactic(auto)]
 
+ghost use Rattle.std.specs.Prelude.{◌≡◌, ◌⊎◌, ◌≤◌, IfOk, MatchResult};
+ghost use Rattle.std.specs.Process.{exit_status};
+ghost use Rattle.healpix_nested.specs.Cells.{cell_count};
+ghost use Rattle.hipsd.specs.declared.command.Probe.{Probe as AskedProbe};
+ghost use Rattle.hipsd.specs.declared.command.Command.TheVariants.{Probe as ProbeCommand};
+ghost use Rattle.hipsd.specs.Command.{texts, Asks, IsCommand};
+
 mod command;
 mod fault;
 mod leaves;
@@ -18,6 +25,7 @@ mod tests;
 
 use parent_rule::Steps;
 use run::run;
+use std::alloc::Global;
 use std::io::{BufReader, BufWriter, ErrorKind};
 use std::process::ExitCode;
 use std::{env, io};
@@ -26,10 +34,10 @@ use survey_link::{MemDoor, MemShelf, OpenGate, StreamSink, StreamSource};
 /// The status where there is no memory for the words or the ends.
 const NO_MEMORY: u8 = 11;
 
-// The words of the command line; none where one is not UTF-8, since no command has such a word.
-fn words(rt: &HostRuntime) -> io::Result<Vec<String>> {
-    let mut words = Vec::new(rt.alloc());
-    match env::args(rt) {
+// The words of a command line, without the program's name; none where one is not UTF-8, since no command has such a word.
+fn words(alloc: Global, args: io::Result<env::Args>) -> io::Result<Vec<String>> {
+    let mut words = Vec::new(alloc);
+    match args {
         Ok(args) => {
             for word in args.skip(1) {
                 words.push(word)?;
@@ -41,10 +49,14 @@ fn words(rt: &HostRuntime) -> io::Result<Vec<String>> {
     Ok(words)
 }
 
-// Runs the words of the command line over standard input and output.
-fn run_here(rt: &HostRuntime) -> io::Result<u8> {
+// Runs the words over standard input and output, and passes the status on.
+fn run_words(rt: &HostRuntime, words: &[String]) -> io::Result<u8>
+    ensures usage { ¬ IsCommand (texts words.now) → IfOk result (λ status. (status ≡ 1) ⊎ (status ≡ 6)) }
+    ensures usage_only { IfOk result (λ status. status ≡ 1 → ¬ IsCommand (texts words.now)) }
+    ensures probe_range { (asked : AskedProbe) → Asks (texts words.now) (ProbeCommand asked)
+        → cell_count asked.order ≤ asked.npix → IfOk result (λ status. status ≡ 13) }
+{
     let alloc = rt.alloc();
-    let words = words(rt)?;
     let mut source = StreamSource::new(BufReader::new(alloc, rt.reader())?);
     let mut sink = StreamSink::new(BufWriter::new(alloc, io::writer(rt))?);
     let mut shelf = MemShelf::new(alloc, Vec::new(alloc));
@@ -53,7 +65,7 @@ fn run_here(rt: &HostRuntime) -> io::Result<u8> {
     let mut steps = Steps::new();
     Ok(run(
         rt,
-        &words,
+        words,
         &mut source,
         &mut sink,
         &mut shelf,
@@ -63,9 +75,21 @@ fn run_here(rt: &HostRuntime) -> io::Result<u8> {
     ))
 }
 
-fn main(rt: HostRuntime) -> ExitCode {
-    match run_here(&rt) {
+// Runs the command line.
+fn run_here(rt: &HostRuntime) -> io::Result<u8> {
+    run_words(rt, &words(rt.alloc(), env::args(rt))?)
+}
+
+// The exit status of a run: the run's own, and 11 where there was no memory for the words or the ends.
+fn exit_code(ended: io::Result<u8>) -> ExitCode
+    ensures { MatchResult ended (λ status. exit_status result ≡ status) (λ _. exit_status result ≡ 11) }
+{
+    match ended {
         Ok(status) => ExitCode::from(status),
         Err(_) => ExitCode::from(NO_MEMORY),
     }
+}
+
+fn main(rt: HostRuntime) -> ExitCode {
+    exit_code(run_here(&rt))
 }

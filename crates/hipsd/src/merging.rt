@@ -1,10 +1,14 @@
 //! A tile made by merging tiles from the leaves upward, order by order.
-ghost use Rattle.std.specs.Prelude.{◌≡◌, ◌+◌, ◌*◌, ◌^◌, ◌<◌, ◌≤◌, ℕ, true, All, IfOk, IfSome, is_some};
-ghost use Rattle.std.specs.Map.{values_of};
-ghost use Rattle.healpix_nested.specs.Cells.{cell_count, lies_under};
-ghost use Rattle.pyramid_model.specs.Shape.{FitsShape, LeafMap};
+ghost use Rattle.std.specs.Prelude.{◌≡◌, ◌+◌, ◌^◌, ◌<◌, ◌≤◌, ℕ, true, All, IfOk, IfSome, OnOk, is_some, length};
+ghost use Rattle.std.specs.List.Sorted.{IsStrictlySortedBy};
+ghost use Rattle.std.specs.Map.{keys_of, values_of};
+ghost use Rattle.std.specs.Ordering.{nat_cmp};
+ghost use Rattle.healpix_nested.specs.Cells.{lies_under};
+ghost use Rattle.parent_rule.specs.Permit.{one_more};
+ghost use Rattle.pyramid_model.specs.Shape.{LeafMap};
 ghost use Rattle.pyramid_model.specs.Tile.{exists};
-ghost use Rattle.hipsd.specs.Merging.{tile_map, tile_of, IsLevel};
+ghost use Rattle.tile_pixels.specs.Tile.{HasShape};
+ghost use Rattle.hipsd.specs.Merging.{tile_of, tiles_made, steps_after, IsLevel};
 
 use parent_rule::{Permit, Steps};
 use pyramid_model::Shape;
@@ -14,28 +18,6 @@ use tile_pixels::Tile;
 
 /// Tiles of one order, by number.
 pub type Tiles = BTreeMap<u64, Tile>;
-
-// How many cells lie that many orders below one cell.
-fn cells_below(levels: u8) -> u64
-    requires { levels ≤ 11 }
-    ensures count { result ≡ 4 ^ levels }
-    ensures some { 0 < result }
-{
-    4u64.pow(u32::from(levels))
-}
-
-// The leaves under a cell.
-fn leaves_under(shape: &Shape, mut leaves: Tiles, order: u8, npix: u64) -> Tiles
-    requires order { order ≤ shape.now.top }
-    requires fits { FitsShape shape.now (tile_map leaves.entries) }
-    requires tiles { All (λ tile. (tile.depth ≡ shape.now.depth) × (tile.n ≡ shape.now.n)) (values_of leaves.entries) }
-    ensures level { IsLevel shape.now (tile_map leaves.entries) order npix shape.now.top result.entries }
-    ensures tiles { All (λ tile. (tile.depth ≡ shape.now.depth) × (tile.n ≡ shape.now.n)) (values_of result.entries) }
-{
-    let below = cells_below(shape.top - order);
-    leaves.retain(|leaf, _| *leaf / below == npix);
-    leaves
-}
 
 // The tile of a cell, made of those of the order below it.
 fn merge_cell(
@@ -48,11 +30,12 @@ fn merge_cell(
 ) -> Result<Tile, AllocError>
     requires level { level < shape.now.top }
     requires npix { npix < 2 ^ 62 }
-    requires tiles { All (λ tile. (tile.depth ≡ shape.now.depth) × (tile.n ≡ shape.now.n)) (values_of children.now.entries) }
-    ensures shape { IfOk result (λ tile. (tile.depth ≡ shape.now.depth) × (tile.n ≡ shape.now.n)) }
+    requires tiles { All (λ tile. HasShape tile shape.now.depth shape.now.n) (values_of children.now.entries) }
+    ensures shape { IfOk result (λ tile. HasShape tile shape.now.depth shape.now.n) }
     ensures tile { (leaves : LeafMap) (order above : ℕ) → order ≤ level
         → IsLevel shape.now leaves order above (level + 1) children.now.entries → lies_under level npix order above ≡ true
         → IfOk result (λ tile. tile ≡ tile_of shape.now leaves level npix) }
+    ensures counted { steps.new ≡ one_more steps.old }
     ensures steps_never_fall { steps.old ≤ steps.new }
 {
     let first = 4 * npix;
@@ -73,11 +56,13 @@ fn merge_level(
     steps: &mut Steps,
 ) -> Result<Tiles, AllocError>
     requires level { level < shape.now.top }
-    requires tiles { All (λ tile. (tile.depth ≡ shape.now.depth) × (tile.n ≡ shape.now.n)) (values_of children.now.entries) }
+    requires tiles { All (λ tile. HasShape tile shape.now.depth shape.now.n) (values_of children.now.entries) }
     ensures level { (leaves : LeafMap) (order npix : ℕ) → order ≤ level
         → IsLevel shape.now leaves order npix (level + 1) children.now.entries
         → IfOk result (λ made. IsLevel shape.now leaves order npix level made.entries) }
-    ensures tiles { IfOk result (λ made. All (λ tile. (tile.depth ≡ shape.now.depth) × (tile.n ≡ shape.now.n)) (values_of made.entries)) }
+    ensures ordered { IfOk result (λ made. IsStrictlySortedBy nat_cmp (keys_of made.entries)) }
+    ensures counted { IfOk result (λ made. steps.new ≡ steps_after (length made.entries) steps.old) }
+    ensures tiles { IfOk result (λ made. All (λ tile. HasShape tile shape.now.depth shape.now.n) (values_of made.entries)) }
     ensures steps_never_fall { steps.old ≤ steps.new }
 {
     let mut made = BTreeMap::new(alloc);
@@ -92,8 +77,8 @@ fn merge_level(
     Ok(made)
 }
 
-/// Tile `npix` of an order, made of the leaves; `None` exactly where it doesn't exist. Only tiles under it are made, each
-/// once, and a step is counted for each.
+/// Tile `npix` of an order, made of the leaves under it, which are all that are given; `None` exactly where it doesn't exist.
+/// Each tile between is made once, and a step is counted for each that is made.
 ///
 /// # Errors
 ///
@@ -107,15 +92,17 @@ pub fn merge_up(
     steps: &mut Steps,
 ) -> Result<Option<Tile>, AllocError>
     requires order { order ≤ shape.now.top }
-    requires npix { npix < cell_count order }
-    requires fits { FitsShape shape.now (tile_map leaves.entries) }
-    requires tiles { All (λ tile. (tile.depth ≡ shape.now.depth) × (tile.n ≡ shape.now.n)) (values_of leaves.entries) }
-    ensures exists { IfOk result (λ made. is_some made ≡ exists shape.now (tile_map leaves.entries) order npix) }
-    ensures tile { IfOk result (λ made. IfSome made (λ tile. tile ≡ tile_of shape.now (tile_map leaves.entries) order npix)) }
+    requires tiles { All (λ tile. HasShape tile shape.now.depth shape.now.n) (values_of leaves.entries) }
+    ensures exists { (all : LeafMap) → IsLevel shape.now all order npix shape.now.top leaves.entries
+        → IfOk result (λ made. is_some made ≡ exists shape.now all order npix) }
+    ensures tile { (all : LeafMap) → IsLevel shape.now all order npix shape.now.top leaves.entries
+        → IfOk result (λ made. IfSome made (λ tile. tile ≡ tile_of shape.now all order npix)) }
+    ensures counted { (all : LeafMap) → IsLevel shape.now all order npix shape.now.top leaves.entries
+        → OnOk result (steps.new ≡ steps_after (tiles_made shape.now all order npix) steps.old) }
     ensures steps_never_fall { steps.old ≤ steps.new }
 {
     let mut level = shape.top;
-    let mut tiles = leaves_under(shape, leaves, order, npix);
+    let mut tiles = leaves;
     while level > order {
         level -= 1;
         tiles = merge_level(alloc, shape, level, &tiles, steps)?;

@@ -1,69 +1,36 @@
 //! Tiles merged from leaves, and beside them what the plain program computes.
-ghost use Rattle.std.specs.Prelude.{◌≡◌, ◌^◌, ◌<◌, All, IsTrue, length};
-ghost use Rattle.std.specs.List.Sorted.{IsStrictlySortedBy};
-ghost use Rattle.std.specs.Map.{keys_of, values_of};
-ghost use Rattle.std.specs.Ordering.{nat_cmp};
-ghost use Rattle.healpix_nested.specs.Cells.{cell_count};
-ghost use Rattle.parent_rule.specs.Depth.{IsNumber};
-ghost use Rattle.pyramid_model.specs.Leaves.{leaf_map};
-ghost use Rattle.pyramid_model.specs.Shape.{FitsShape};
-ghost use Rattle.hipsd.specs.Merging.{tile_map};
+ghost use Rattle.std.specs.Prelude.{◌≡◌, ◌≤◌, All, IsTrue};
+ghost use Rattle.std.specs.Map.{values_of};
+ghost use Rattle.tile_pixels.specs.Tile.{HasShape};
 
 use crate::merging::{Tiles, merge_up};
 use byteorder::{BigEndian, ByteOrder};
 use healpix_nested::cells;
 use parent_rule::{Depth, Steps};
 use pyramid_model::Shape;
-use pyramid_model::plain::{Leaves, exists, pixels};
+use pyramid_model::plain::{Leaves, exists, fits, pixels};
 use std::alloc::Global;
 use std::collections::BTreeMap;
 use std::process::Abort;
 use std::test::Fail;
 use tile_pixels::Tile;
 
-// Whether the tiles are leaves of that shape.
+// Whether the tiles are of that shape.
 fn tiles_fit(shape: &Shape, leaves: &Tiles) -> bool
-    ensures fits { IsTrue result → FitsShape shape.now (tile_map leaves.now.entries) }
-    ensures tiles { IsTrue result → All (λ tile. (tile.depth ≡ shape.now.depth) × (tile.n ≡ shape.now.n)) (values_of leaves.now.entries) }
-{
-    let count = cells(shape.top);
-    for (leaf, tile) in leaves {
-        if *leaf >= count || tile.depth() != shape.depth || tile.n() != shape.n {
-            return false;
-        }
-    }
-    true
-}
-
-// Whether a leaf of the plain program is of that shape.
-fn leaf_fits(leaf: u64, numbers: &[i64], shape: &Shape) -> bool
-    ensures { IsTrue result → (leaf < cell_count shape.now.top) × (length numbers.now ≡ 4 ^ shape.now.n)
-        × All (IsNumber shape.now.depth.bitpix) numbers.now }
-{
-    let bitpix = shape.depth.bitpix();
-    leaf < cells(shape.top)
-        && numbers.len() == 4usize.pow(u32::from(shape.n))
-        && numbers
-            .iter()
-            .all(|number| Depth::new(bitpix, *number).is_some())
-}
-
-// Whether each is.
-fn each_fits(leaves: &Leaves, shape: &Shape) -> bool
-    ensures ordered { IsStrictlySortedBy nat_cmp (keys_of leaves.now.entries) }
-    ensures leaves { IsTrue result → All (λ leaf. (leaf.0 < cell_count shape.now.top) × (length leaf.1.items ≡ 4 ^ shape.now.n)
-        × All (IsNumber shape.now.depth.bitpix) leaf.1.items) leaves.now.entries }
+    ensures { IsTrue result → All (λ tile. HasShape tile shape.now.depth shape.now.n) (values_of leaves.now.entries) }
 {
     leaves
-        .iter()
-        .all(|(leaf, numbers)| leaf_fits(*leaf, numbers, shape))
+        .values()
+        .all(|tile| tile.depth() == shape.depth && tile.n() == shape.n)
 }
 
-// Whether the leaves are a map of the shape.
-fn leaves_fit(leaves: &Leaves, shape: &Shape) -> bool
-    ensures { IsTrue result → FitsShape shape.now (leaf_map leaves.now.entries) }
+// The leaves at or under a cell.
+fn leaves_under(shape: &Shape, mut leaves: Tiles, order: u8, npix: u64) -> Tiles
+    requires { order ≤ shape.now.top }
 {
-    each_fits(leaves, shape)
+    let levels = shape.top - order;
+    leaves.retain(|leaf, _| *leaf >> (2 * levels) == npix);
+    leaves
 }
 
 // A tile of 16 bits, 2 by 2 or 4 by 4.
@@ -125,9 +92,9 @@ fn tiles_are_merged_from_the_leaves_under_them(rt: HostRuntime) -> Result<(), Fa
         depth,
     };
     for (order, npix, wanted, merges) in cases {
-        let leaves = five_leaves(rt.alloc(), depth)?;
-        assert!(rt; tiles_fit(&shape, &leaves) && order <= 5);
-        assert!(rt; npix < cells(order));
+        assert!(rt; order <= 5);
+        let leaves = leaves_under(&shape, five_leaves(rt.alloc(), depth)?, order, npix);
+        assert!(rt; tiles_fit(&shape, &leaves));
         let mut steps = Steps::new();
         let made = merge_up(rt.alloc(), &shape, leaves, order, npix, &mut steps)?;
         let raw = match &made {
@@ -155,17 +122,59 @@ fn made_leaf(alloc: Global, count: usize, blank: i16, state: &mut u64) -> Result
     Ok(raw)
 }
 
+// Some leaves of a shape: their tiles, and their numbers.
+fn made_leaves(alloc: Global, shape: &Shape, blank: i16) -> Result<(Tiles, Leaves), Fail>
+    requires { shape.now.depth.bitpix ≡ 16 }
+{
+    let mut state = 7;
+    let mut tiles = BTreeMap::new(alloc);
+    let mut leaves = BTreeMap::new(alloc);
+    for leaf in [0, 1, 3, 6, 17, 64, 66, 700] {
+        let count = if shape.n == 1 { 4 } else { 16 };
+        let raw = made_leaf(alloc, count, blank, &mut state)?;
+        tiles.insert(leaf, tile(alloc, shape.depth, shape.n, &raw)?)?;
+        leaves.insert(leaf, numbers(alloc, &raw)?)?;
+    }
+    Ok((tiles, leaves))
+}
+
+// Merges the leaves up to a cell, and says whether there is a tile, which is then the plain program's.
+fn merged_as_plain(
+    rt: &impl Abort,
+    alloc: Global,
+    shape: &Shape,
+    blank: i16,
+    order: u8,
+    npix: u64,
+) -> Result<bool, Fail>
+    requires depth { shape.now.depth.bitpix ≡ 16 }
+    requires order { order ≤ shape.now.top }
+{
+    let (tiles, leaves) = made_leaves(alloc, shape, blank)?;
+    let tiles = leaves_under(shape, tiles, order, npix);
+    assert!(rt;
+        tiles_fit(shape, &tiles) && fits(&leaves, shape) && order <= 20 && npix < cells(order)
+    );
+    let mut steps = Steps::new();
+    let made = merge_up(alloc, shape, tiles, order, npix, &mut steps)?;
+    assert_eq!(rt; made.is_some(), exists(&leaves, shape, order, npix));
+    match made {
+        None => Ok(false),
+        Some(tile) => {
+            assert_eq!(rt;
+                numbers(alloc, tile.raw())?.as_slice(),
+                pixels(alloc, &leaves, shape, order, npix)?.as_slice(),
+                "tile {npix} of order {order}"
+            );
+            Ok(true)
+        }
+    }
+}
+
 #[test]
 fn merging_makes_what_the_plain_program_computes(rt: HostRuntime) -> Result<(), Fail> {
-    let alloc = rt.alloc();
     let mut tiles_made: u32 = 0;
-    for (top, n, blank) in [
-        (3, 1, -32_768),
-        (3, 2, 32_767),
-        (4, 1, 32_767),
-        (5, 1, 0),
-        (5, 2, -32_768),
-    ] {
+    for (top, n, blank) in [(3, 1, -32_768), (3, 2, 32_767), (5, 1, 0), (5, 2, -32_768)] {
         assert!(rt; 3 <= top && top <= 11 && 1 <= n && n <= 2);
         let depth = Depth::new(16, i64::from(blank)).ok_or("no depth")?;
         let shape = Shape {
@@ -174,35 +183,21 @@ fn merging_makes_what_the_plain_program_computes(rt: HostRuntime) -> Result<(), 
             n,
             depth,
         };
-        for order in 0..=5 {
-            for npix in [0, 1, 4, 11] {
-                let mut state = 7;
-                let mut leaves = BTreeMap::new(alloc);
-                let mut tiles = BTreeMap::new(alloc);
-                for leaf in [0, 1, 3, 6, 17, 64, 66, 700] {
-                    let raw = made_leaf(alloc, 4usize.pow(u32::from(n)), blank, &mut state)?;
-                    tiles.insert(leaf, tile(alloc, depth, n, &raw)?)?;
-                    leaves.insert(leaf, numbers(alloc, &raw)?)?;
-                }
-                assert!(rt; tiles_fit(&shape, &tiles));
-                assert!(rt; leaves_fit(&leaves, &shape));
-                if order > top || npix >= cells(order) {
-                    continue;
-                }
-                let mut steps = Steps::new();
-                let made = merge_up(alloc, &shape, tiles, order, npix, &mut steps)?;
-                assert_eq!(rt; made.is_some(), exists(&leaves, &shape, order, npix));
-                if let Some(tile) = made {
-                    assert_eq!(rt;
-                        numbers(alloc, tile.raw())?.as_slice(),
-                        pixels(alloc, &leaves, &shape, order, npix)?.as_slice(),
-                        "tile {npix} of order {order} over {top}, {n}, {blank}"
-                    );
-                    tiles_made = tiles_made.saturating_add(1);
-                }
+        for (order, npix) in [
+            (0, 0),
+            (0, 1),
+            (1, 0),
+            (2, 1),
+            (3, 0),
+            (3, 1),
+            (3, 4),
+            (3, 11),
+        ] {
+            if merged_as_plain(&rt, rt.alloc(), &shape, blank, order, npix)? {
+                tiles_made = tiles_made.saturating_add(1);
             }
         }
     }
-    assert!(rt; tiles_made > 20);
+    assert!(rt; tiles_made > 12, "only {tiles_made} tiles");
     Ok(())
 }

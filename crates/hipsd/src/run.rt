@@ -6,7 +6,9 @@ ghost use Rattle.healpix_nested.specs.Cells.{cell_count};
 ghost use Rattle.hipsd.specs.declared.command.Probe.{Probe as AskedProbe};
 ghost use Rattle.hipsd.specs.declared.command.Command.TheVariants.{Probe as ProbeCommand};
 ghost use Rattle.hipsd.specs.Command.{texts, Asks, IsCommand, IsProbe};
-ghost use Rattle.hipsd.specs.Probe.{probe_answer};
+ghost use Rattle.hipsd.specs.Probe.{probe_answer, probe_steps};
+ghost use Rattle.hipsd.specs.Merging.{steps_after};
+ghost use Rattle.hipsd.specs.Reading.{ReadsToTheEnd};
 ghost use Rattle.hipsd.specs.Run.{usage_text, EndsBy};
 
 use crate::command::{Command, Probe, read_command};
@@ -73,6 +75,17 @@ where
     ensures probe_end { (asked : AskedProbe) → Asks (texts words.now) (ProbeCommand asked)
         → result ≡ 0 → IsAtEnd (S.left source.new) }
 
+    // Each reading, what is handed on, and each step.
+    ensures probe_reads { (asked : AskedProbe) → Asks (texts words.now) (ProbeCommand asked)
+        → ReadsToTheEnd (S.left source.old) (S.left source.new) (S.readings source.old) (S.readings source.new) }
+    ensures probe_handed_on { (asked : AskedProbe) → Asks (texts words.now) (ProbeCommand asked)
+        → result ≡ 0 → K.handed_on sink.new ≡ K.held sink.new }
+    ensures probe_kept { (asked : AskedProbe) → Asks (texts words.now) (ProbeCommand asked)
+        → result ≢ 0 → result ≢ 6 → K.handed_on sink.new ≡ K.handed_on sink.old }
+    ensures usage_handed_on { result ≡ 1 → K.handed_on sink.new ≡ K.held sink.new }
+    ensures probe_counted { (asked : AskedProbe) (input : List ℕ) → Asks (texts words.now) (ProbeCommand asked)
+        → S.left source.old ≡ Some input → result ≡ 0 → steps.new ≡ steps_after (probe_steps asked input) steps.old }
+
     ensures read_fault { result ≡ 5 → Rises (S.faults source.old) (S.faults source.new) }
     ensures write_fault { result ≡ 6 → Rises (K.faults sink.old) (K.faults sink.new) }
     ensures shelf { shelf.new ≡ shelf.old }
@@ -92,6 +105,7 @@ fn usage<K: Sink>(sink: &mut K) -> u8
     ensures status { (result ≡ 1) ⊎ (result ≡ 6) }
     ensures written { result ≡ 1 → Appends (K.held sink.old) (K.held sink.new) usage_text }
     ensures part { AppendsPrefix (K.held sink.old) (K.held sink.new) usage_text }
+    ensures handed_on { result ≡ 1 → K.handed_on sink.new ≡ K.held sink.new }
     ensures fault { result ≡ 6 → Rises (K.faults sink.old) (K.faults sink.new) }
 {
     match write_out(sink, b"usage: hipsd COMMAND\n") {
@@ -116,6 +130,11 @@ fn run_probe<S: Source, K: Sink>(
         → AppendsPrefix (K.held sink.old) (K.held sink.new) (probe_answer asked.now input).output }
     ensures range { cell_count asked.now.order ≤ asked.now.npix → (result ≡ 13) × (source.new ≡ source.old) }
     ensures untouched { result ≢ 0 → result ≢ 6 → K.held sink.new ≡ K.held sink.old }
+    ensures handed_on { result ≡ 0 → K.handed_on sink.new ≡ K.held sink.new }
+    ensures kept { result ≢ 0 → result ≢ 6 → K.handed_on sink.new ≡ K.handed_on sink.old }
+    ensures reads { ReadsToTheEnd (S.left source.old) (S.left source.new) (S.readings source.old) (S.readings source.new) }
+    ensures counted { (input : List ℕ) → S.left source.old ≡ Some input → result ≡ 0
+        → steps.new ≡ steps_after (probe_steps asked.now input) steps.old }
     ensures end { result ≡ 0 → IsAtEnd (S.left source.new) }
     ensures not_usage { result ≢ 1 }
     ensures read_fault { result ≡ 5 → Rises (S.faults source.old) (S.faults source.new) }

@@ -1,7 +1,10 @@
 //! Runs of the whole program over ends in memory.
 use crate::run::run;
+use crate::words;
 use parent_rule::Steps;
 use std::alloc::Global;
+use std::env;
+use std::io::{self, ErrorKind};
 use std::test::Fail;
 use survey_link::{MemDoor, MemShelf, MemSink, MemSource, OpenGate};
 
@@ -80,6 +83,19 @@ fn answers_probe(rt: HostRuntime) -> Result<(), Fail> {
             0,
             "8000 8000 0009 8000",
         ),
+        (
+            "probe 4 1 3 0",
+            "0000000000000004 0007 0007 0007 0007 0000000000000000 0001 0002 0003 0005",
+            0,
+            TILE_0,
+        ),
+        (
+            "probe 4 1 3 0",
+            "0000000000000004 0007 0007 0007 0007",
+            10,
+            "",
+        ),
+        ("probe 4 1 3 0", "0000000000000004 0007 0007 0007 00", 4, ""),
         (
             "probe 4 1 3 0",
             "0000000000000000 FFFF FFFE 8000 8000",
@@ -188,5 +204,15 @@ fn reads_65_536_records_at_most(rt: HostRuntime) -> Result<(), Fail> {
             "with {more} more"
         );
     }
+    Ok(())
+}
+
+// A word that is not UTF-8 makes the list of words empty; any other failure to get the words is passed on.
+#[test]
+fn words_that_are_not_text_are_none(rt: HostRuntime) -> Result<(), Fail> {
+    let not_text: io::Result<env::Args> = Err(ErrorKind::InvalidData.into());
+    assert!(rt; words(rt.alloc(), not_text)?.is_empty());
+    let no_words: io::Result<env::Args> = Err(ErrorKind::OutOfMemory.into());
+    assert!(rt; words(rt.alloc(), no_words).is_err());
     Ok(())
 }

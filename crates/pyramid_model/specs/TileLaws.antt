@@ -86,10 +86,10 @@ exists_leaf shape (e ∷ es) p = rw (under_itself shape.top e.0 p) (
     ])
 
 -- an element that passes a test, so that any test which it passes finds something
-record Found {X : Type 0} (p : X → Bool) (xs : List X) : Type 0 where
-  element : X
-  passes : p element ≡ true
-  among : (t : X → Bool) → t element ≡ true → list_any t xs ≡ true
+pub record Found {X : Type 0} (p : X → Bool) (xs : List X) : Type 0 where
+  pub element : X
+  pub passes : p element ≡ true
+  pub among : (t : X → Bool) → t element ≡ true → list_any t xs ≡ true
 
 or_left : (a b : Bool) → a ≡ true → (a || b) ≡ true
 or_left a b e = rw e refl
@@ -98,7 +98,7 @@ or_right : (a b : Bool) → b ≡ true → (a || b) ≡ true
 or_right true b e = refl
 or_right false b e = e
 
-found : {X : Type 0} (p : X → Bool) (xs : List X) → list_any p xs ≡ true → Found p xs
+pub found : {X : Type 0} (p : X → Bool) (xs : List X) → list_any p xs ≡ true → Found p xs
 found p [] e = cc
 found {X} p (x ∷ xs) e = elim (p x) as (λ b. p x ≡ b → (b || list_any p xs) ≡ true → Found p (x ∷ xs)) [
   | true ↦ λ here k. record { element = x; passes = here; among = λ t is. or_left (t x) (list_any t xs) is }

@@ -14,7 +14,7 @@ ghost use Rattle.pyramid_model.specs.Tile.{exists, pixels};
 
 use crate::shape::Shape;
 use healpix_nested::{cells, interleave, split};
-use parent_rule::{Depth, mean4};
+use parent_rule::mean4;
 use std::alloc::{AllocError, Global};
 use std::collections::BTreeMap;
 
@@ -25,12 +25,9 @@ pub type Leaves = BTreeMap<u64, Vec<i64>>;
 fn is_leaf(leaf: u64, numbers: &[i64], shape: &Shape) -> bool
     ensures { IsTrue result ↔ IsLeaf shape.now leaf numbers.now }
 {
-    let bitpix = shape.depth.bitpix();
     leaf < cells(shape.top)
         && numbers.len() == 4usize.pow(u32::from(shape.n))
-        && numbers
-            .iter()
-            .all(|number| Depth::new(bitpix, *number).is_some())
+        && numbers.iter().all(|number| shape.depth.holds(*number))
 }
 
 // Whether each leaf of a map, which is ordered, is.

@@ -6,7 +6,7 @@ use Rattle.hipsd.proofs.command.small_number.Goals.{else-from-n-via-then-from-n+
 pub returns-else-from-n : goal.returns-else-from-n
 returns-else-from-n c n low high e =
     let same : n ≡ c.in_ok-n.n =
-    decimal_injective n c.in_ok-n.n (omega arith) (omega arith) (sym e ∙ c.in_ok-n.ensures) in
+    decimal_injective n c.in_ok-n.n (omega arith) (omega arith) (sym e ∙ (rw c.as_bytes.ensures.value at c.in_ok-n.ensures.spelled)) in
     elim c.else-from-n.branch [
       | else-from-n-via-then-from-n+else-n-from w ↦ omega arith
       | else-from-n-via-else-from-n w ↦ omega arith

@@ -22,3 +22,8 @@ pub returns-in-Some-clause-probe_range : goal.returns-in-Some-clause-probe_range
 returns-in-Some-clause-probe_range g c = λ asked asks out.
     let one : c.in-Some.command ≡ ProbeCommand asked = same_command _ _ _ c.in-Some.ensures.asked asks in
     (rw one at c.run_probe.ensures.range) out
+
+pub returns-in-Some-clause-probe_counted : goal.returns-in-Some-clause-probe_counted
+returns-in-Some-clause-probe_counted g c = λ asked input asks e done.
+    let one : c.in-Some.command ≡ ProbeCommand asked = same_command _ _ _ c.in-Some.ensures.asked asks in
+    (rw one at c.run_probe.ensures.counted) input e done
