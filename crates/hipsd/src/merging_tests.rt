@@ -152,9 +152,10 @@ fn merged_as_plain(
 {
     let (tiles, leaves) = made_leaves(alloc, shape, blank)?;
     let tiles = leaves_under(shape, tiles, order, npix);
-    assert!(rt;
-        tiles_fit(shape, &tiles) && fits(&leaves, shape) && order <= 20 && npix < cells(order)
-    );
+    assert!(rt; order <= 20);
+    assert!(rt; npix < cells(order));
+    assert!(rt; tiles_fit(shape, &tiles));
+    assert!(rt; fits(&leaves, shape));
     let mut steps = Steps::new();
     let made = merge_up(alloc, shape, tiles, order, npix, &mut steps)?;
     assert_eq!(rt; made.is_some(), exists(&leaves, shape, order, npix));
