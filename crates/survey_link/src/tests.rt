@@ -1,46 +1,11 @@
 //! Each form once, through the trait it meets.
-ghost use Rattle.std.specs.Prelude.{◌≡◌, ◌<◌, ◌++◌, ◌⊎◌, length, take, IfOk, OnOk, OnErr};
-ghost use Rattle.std.specs.Io.KnownBytes.{Appends, Consumes};
-ghost use Rattle.survey_link.specs.Link.{AppendsPrefix, Rises, readings_after};
+ghost use Rattle.std.specs.Prelude.{◌<◌, length};
 
 use super::*;
 use std::alloc::{AllocError, Global};
 use std::io;
 use std::io::{ErrorKind, Read, Write};
 use std::test::Fail;
-
-// What a caller can conclude from the traits alone, with no proof file: two reads and two writes in a row.
-fn move_two<S: Source, K: Sink>(
-    source: &mut S,
-    sink: &mut K,
-    first: &mut [u8],
-    second: &mut [u8],
-) -> Result<(usize, usize), Failed>
-    requires first { 0 < length first.old }
-    requires second { 0 < length second.old }
-    ensures readings { OnOk result (S.readings source.new ≡ readings_after 1 (readings_after 1 (S.readings source.old))) }
-    ensures handed { OnOk result (K.handed_on sink.new ≡ K.held sink.new) }
-    ensures consumed { IfOk result (λ m. Consumes (S.left source.old) (S.left source.new) (take m.0 first.new ++ take m.1 second.new)) }
-    ensures appended { IfOk result (λ m. Appends (K.held sink.old) (K.held sink.new) (take m.0 first.new ++ take m.1 second.new)) }
-    ensures failed { OnErr result (Rises (S.faults source.old) (S.faults source.new) ⊎ Rises (K.faults sink.old) (K.faults sink.new)) }
-{
-    let a = source.read(first)?;
-    let b = source.read(second)?;
-    write_whole(sink, &first[..a])?;
-    write_whole(sink, &second[..b])?;
-    sink.flush()?;
-    Ok((a, b))
-}
-
-// The same of what was written where the second write fails.
-fn write_both<K: Sink>(sink: &mut K, first: &[u8], second: &[u8]) -> Result<(), Failed>
-    ensures whole { OnOk result (Appends (K.held sink.old) (K.held sink.new) (first.now ++ second.now)) }
-    ensures part { OnErr result (AppendsPrefix (K.held sink.old) (K.held sink.new) (first.now ++ second.now)) }
-    ensures failed { OnErr result (Rises (K.faults sink.old) (K.faults sink.new)) }
-{
-    write_whole(sink, first)?;
-    write_whole(sink, second)
-}
 
 // What comes until the end, and how many reads failed on the way.
 fn drain<S: Source>(
@@ -62,14 +27,107 @@ fn drain<S: Source>(
     Ok((all, failed))
 }
 
-fn put_then_get<H: Shelf>(
+// Each row: how many bytes a read gives at most, the reads that fail, and how many fail before the end.
+const PIECES: [(usize, &[u64], u32); 5] = [
+    (1, &[], 0),
+    (2, &[0, 1], 2),
+    (3, &[2], 1),
+    (7, &[0, 9], 1),
+    (10, &[1], 1),
+];
+
+#[test]
+fn a_source_gives_all_in_pieces(rt: HostRuntime) -> Result<(), Fail> {
+    let alloc = rt.alloc();
+    let text = b"0123456789";
+    for (piece, fails, failed) in PIECES {
+        assert!(rt; piece > 0);
+        let bytes = Vec::from_slice(alloc, text)?;
+        let mut source = MemSource::new(bytes, piece, Vec::from_slice(alloc, fails)?);
+        let found = drain(alloc, &mut source, &mut [0; 8])?;
+        assert_eq!(rt; found.0.as_slice(), text.as_slice(), "{piece}");
+        assert_eq!(rt; found.1, failed, "{piece}");
+    }
+    let mut sure = SureSource::new(Vec::from_slice(alloc, text)?);
+    let found = drain(alloc, &mut sure, &mut [0; 4])?;
+    assert_eq!(rt; found.0.as_slice(), text.as_slice());
+    Ok(())
+}
+
+// Whether all the bytes are written, and what the flush after them answers.
+fn write_and_flush<K: Sink>(
+    sink: &mut K,
+    bytes: &[u8],
+) -> (Result<(), Failed>, Result<(), Failed>) {
+    let whole = write_whole(sink, bytes);
+    (whole, sink.flush())
+}
+
+// Each row: the room of the sink, the call that fails, what writing `abcdef` answers, what the flush after it, and what the
+// sink holds.
+const WRITES: [(usize, u64, (Result<(), Failed>, Result<(), Failed>), &[u8]); 4] = [
+    (8, 9, (Ok(()), Ok(())), b"abcdef"),
+    (8, 1, (Ok(()), Err(Failed)), b"abcdef"),
+    (8, 0, (Err(Failed), Ok(())), b""),
+    (4, 9, (Err(Failed), Ok(())), b"abcd"),
+];
+
+#[test]
+fn a_sink_takes_what_it_has_room_for(rt: HostRuntime) -> Result<(), Fail> {
+    let alloc = rt.alloc();
+    for (room, fails, answers, held) in WRITES {
+        let mut sink = MemSink::new(alloc, room, vec![in alloc; fails]?)?;
+        assert_eq!(rt;
+            write_and_flush(&mut sink, b"abcdef"),
+            answers,
+            "{room} {fails}"
+        );
+        assert_eq!(rt; sink.bytes(), held, "{room} {fails}");
+    }
+    let answers = write_and_flush(&mut NullSink::new(), b"abcdef");
+    assert_eq!(rt; answers, (Ok(()), Ok(())));
+    Ok(())
+}
+
+// Puts, reads and removes files: how many there are at most, what stands at `b`, and how many are left.
+fn keep_files<H: Shelf>(
     alloc: Global,
     shelf: &mut H,
-    path: &str,
-    bytes: &[u8],
-) -> Result<Option<Vec<u8>>, LinkFault> {
-    shelf.put(path, bytes)?;
-    shelf.get(alloc, path)
+) -> Result<(usize, Option<Vec<u8>>, usize), LinkFault> {
+    shelf.put("b", b"1")?;
+    shelf.put("a/c", b"22")?;
+    shelf.put("b", b"333")?;
+    let most = shelf.list(alloc)?.len();
+    let found = shelf.get(alloc, "b")?;
+    shelf.remove("b")?;
+    shelf.remove("b")?;
+    let left = shelf.list(alloc)?.len();
+    Ok((most, found, left))
+}
+
+#[test]
+fn files_lie_on_a_shelf(rt: HostRuntime) -> Result<(), Fail> {
+    let alloc = rt.alloc();
+    for call in 0..8 {
+        let mut shelf = MemShelf::new(alloc, vec![in alloc; call]?);
+        let kept = keep_files(alloc, &mut shelf);
+        assert!(rt;
+            kept.is_err_and(|fault| fault == LinkFault::Failed),
+            "{call}"
+        );
+    }
+    let mut shelf = MemShelf::new(alloc, Vec::new(alloc));
+    let (most, found, left) = keep_files(alloc, &mut shelf)?;
+    assert_eq!(rt; (most, left), (2, 1));
+    assert!(rt; found.is_some_and(|bytes| bytes.as_slice() == b"333".as_slice()));
+    assert!(rt; shelf.get(alloc, "b")?.is_none());
+    Ok(())
+}
+
+fn ends(alloc: Global, bytes: &[u8]) -> Result<(MemSource, MemSink), AllocError> {
+    let source = MemSource::new(Vec::from_slice(alloc, bytes)?, 8, Vec::new(alloc));
+    let sink = MemSink::new(alloc, 8, Vec::new(alloc))?;
+    Ok((source, sink))
 }
 
 // Writes a greeting to the next connection and gives it back; whether one came.
@@ -84,8 +142,35 @@ fn greet<D: Door>(door: &mut D) -> Result<bool, DoorFault> {
     }
 }
 
+#[test]
+fn connections_come_through_a_door(rt: HostRuntime) -> Result<(), Fail> {
+    let alloc = rt.alloc();
+    let mut connections = Vec::new(alloc);
+    connections.push(ends(alloc, b"one")?)?;
+    connections.push(ends(alloc, b"two")?)?;
+    let mut door = MemDoor::new(alloc, connections, vec![in alloc; 1]?)?;
+    for answer in [Ok(true), Err(DoorFault::Failed), Ok(true), Ok(false)] {
+        assert_eq!(rt; greet(&mut door), answer);
+    }
+    assert_eq!(rt; door.faults(), 1);
+    for i in 0..2 {
+        let given = door.given(i).ok_or("not given back")?;
+        assert_eq!(rt; given.1.bytes(), b"hi".as_slice(), "{i}");
+    }
+    assert!(rt; door.given(2).is_none());
+    let (input, output) = ends(alloc, b"three")?;
+    door.done(input, output);
+    assert!(rt; door.given(2).is_none());
+    Ok(())
+}
+
 fn pass_once<G: Gate>(gate: &G) {
     gate.pass(3, 5);
+}
+
+#[test]
+fn a_gate_stands_open() {
+    pass_once(&OpenGate::new());
 }
 
 // A stream that fails, or takes nothing.
@@ -162,120 +247,6 @@ impl Read for Bumpy {
             }
         }
     }
-}
-
-#[test]
-fn a_source_gives_all_in_pieces(rt: HostRuntime) -> Result<(), Fail> {
-    let alloc = rt.alloc();
-    for piece in [1, 2, 3, 7, 10] {
-        let bytes = Vec::from_slice(alloc, b"0123456789")?;
-        let mut source = MemSource::new(bytes, piece, Vec::new(alloc));
-        let (all, failed) = drain(alloc, &mut source, &mut [0; 8])?;
-        assert_eq!(rt; all.as_slice(), b"0123456789".as_slice());
-        assert_eq!(rt; failed, 0);
-        assert_eq!(rt; source.read(&mut [0; 8]), Ok(0));
-    }
-    let mut sure = SureSource::new(Vec::from_slice(alloc, b"0123456789")?);
-    let (all, _) = drain(alloc, &mut sure, &mut [0; 4])?;
-    assert_eq!(rt; all.as_slice(), b"0123456789".as_slice());
-    Ok(())
-}
-
-#[test]
-fn a_read_fails_in_mid_stream(rt: HostRuntime) -> Result<(), Fail> {
-    let alloc = rt.alloc();
-    let bytes = Vec::from_slice(alloc, b"abcdef")?;
-    let mut source = MemSource::new(bytes, 4, vec![in alloc; 1]?);
-    let mut buf = [0; 8];
-    assert_eq!(rt; source.read(&mut buf), Ok(4));
-    assert_eq!(rt; source.read(&mut buf), Err(Failed));
-    let (rest, failed) = drain(alloc, &mut source, &mut buf)?;
-    assert_eq!(rt; rest.as_slice(), b"ef".as_slice());
-    assert_eq!(rt; failed, 0);
-    Ok(())
-}
-
-#[test]
-fn a_write_fails_in_mid_stream(rt: HostRuntime) -> Result<(), Fail> {
-    let alloc = rt.alloc();
-    let mut sink = MemSink::new(alloc, 8, vec![in alloc; 1, 4]?)?;
-    assert_eq!(rt; write_whole(&mut sink, b"ab"), Ok(()));
-    assert_eq!(rt; write_whole(&mut sink, b"cd"), Err(Failed));
-    assert_eq!(rt; write_both(&mut sink, b"cd", b"ef"), Ok(()));
-    assert_eq!(rt; sink.flush(), Err(Failed));
-    assert_eq!(rt; sink.flush(), Ok(()));
-    assert_eq!(rt; sink.bytes(), b"abcdef".as_slice());
-    assert_eq!(rt; write_both(&mut sink, b"g", b"hij"), Err(Failed));
-    assert_eq!(rt; sink.bytes(), b"abcdefgh".as_slice());
-    assert_eq!(rt; sink.write(b"k"), Err(Failed));
-    let mut null = NullSink::new();
-    assert_eq!(rt; write_whole(&mut null, b"ab"), Ok(()));
-    assert_eq!(rt; null.flush(), Ok(()));
-    Ok(())
-}
-
-#[test]
-fn bytes_move_from_source_to_sink(rt: HostRuntime) -> Result<(), Fail> {
-    let alloc = rt.alloc();
-    let mut source = MemSource::new(Vec::from_slice(alloc, b"abcdef")?, 2, Vec::new(alloc));
-    let mut sink = MemSink::new(alloc, 8, Vec::new(alloc))?;
-    let moved = move_two(&mut source, &mut sink, &mut [0; 4], &mut [0; 1]);
-    assert_eq!(rt; moved, Ok((2, 1)));
-    assert_eq!(rt; sink.bytes(), b"abc".as_slice());
-    Ok(())
-}
-
-#[test]
-fn files_lie_on_a_shelf(rt: HostRuntime) -> Result<(), Fail> {
-    let alloc = rt.alloc();
-    let mut shelf = MemShelf::new(alloc, vec![in alloc; 6]?);
-    assert_eq!(rt; shelf.list(alloc)?.len(), 0);
-    shelf.put("b", b"1")?;
-    shelf.put("a/c", b"22")?;
-    let got = put_then_get(alloc, &mut shelf, "b", b"333")?.ok_or("nothing at b")?;
-    assert_eq!(rt; got.as_slice(), b"333".as_slice());
-    let paths = shelf.list(alloc)?;
-    assert_eq!(rt; paths.len(), 2);
-    assert_eq!(rt; paths[0].as_str(), "a/c");
-    assert_eq!(rt; paths[1].as_str(), "b");
-    assert_eq!(rt; shelf.remove("b"), Err(LinkFault::Failed));
-    assert_eq!(rt; shelf.remove("b"), Ok(()));
-    assert_eq!(rt; shelf.remove("b"), Ok(()));
-    assert_eq!(rt; shelf.get(alloc, "b")?.is_none(), true);
-    assert_eq!(rt; shelf.list(alloc)?.len(), 1);
-    Ok(())
-}
-
-fn ends(alloc: Global, bytes: &[u8]) -> Result<(MemSource, MemSink), AllocError> {
-    let source = MemSource::new(Vec::from_slice(alloc, bytes)?, 8, Vec::new(alloc));
-    let sink = MemSink::new(alloc, 8, Vec::new(alloc))?;
-    Ok((source, sink))
-}
-
-#[test]
-fn connections_come_through_a_door(rt: HostRuntime) -> Result<(), Fail> {
-    let alloc = rt.alloc();
-    let mut connections = Vec::new(alloc);
-    connections.push(ends(alloc, b"one")?)?;
-    connections.push(ends(alloc, b"two")?)?;
-    let mut door = MemDoor::new(alloc, connections, vec![in alloc; 0]?)?;
-    assert_eq!(rt; greet(&mut door), Err(DoorFault::Failed));
-    assert_eq!(rt; door.faults(), 1);
-    assert_eq!(rt; greet(&mut door), Ok(true));
-    let (mut input, output) = door.accept()?.ok_or("no second connection")?;
-    let (bytes, _) = drain(alloc, &mut input, &mut [0; 8])?;
-    assert_eq!(rt; bytes.as_slice(), b"two".as_slice());
-    assert_eq!(rt; greet(&mut door), Ok(false));
-    door.done(input, output);
-    let (input, output) = ends(alloc, b"three")?;
-    door.done(input, output);
-    let first = door.given(0).ok_or("none given back")?;
-    assert_eq!(rt; first.1.bytes(), b"hi".as_slice());
-    let second = door.given(1).ok_or("one given back")?;
-    assert_eq!(rt; second.1.bytes(), b"".as_slice());
-    assert_eq!(rt; door.given(2).is_none(), true);
-    pass_once(&OpenGate::new());
-    Ok(())
 }
 
 #[test]
