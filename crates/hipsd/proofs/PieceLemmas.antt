@@ -1,6 +1,6 @@
 -- Readings one after another: the pieces that they gave, and how many they were.
 use Rattle.std.proofs.Common.{◌≡◌, ℕ, zero, suc, ◌+◌, ◌≤◌, ◌<◌, List, [], ◌∷◌, ◌++◌, Option, None, Some, length, take, refl, sym, ap, subst, ◌∙◌, arith, append_assoc, length-append, length-take-le}
-use Rattle.std.specs.Prelude.{flat_map, All, nat_lt, true, false, if◌then◌else◌}
+use Rattle.std.specs.Prelude.{nat_lt, true, false, if◌then◌else◌}
 use Rattle.std.specs.Io.KnownBytes.{Consumes}
 use Rattle.std.proofs.lemmas.Bool.Decides.{nat_tests}
 use Rattle.std.proofs.lemmas.Grind.{flat_map-append}

@@ -1,5 +1,5 @@
 -- How reads in turn fill a buffer, and what the first bytes of an input say.
-use Rattle.std.proofs.Common.{◌≡◌, ℕ, ◌+◌, ◌-◌, ◌*◌, ◌^◌, ◌≤◌, ◌<◌, zero, suc, map, List, ◌∷◌, ◌++◌, ℤ, w16, Option, None, Some, length, take, drop, refl, sym, ap, subst, ◌∙◌, arith, append_assoc, drop_at, length-take-le, le_refl, length-append, take_at}
+use Rattle.std.proofs.Common.{◌≡◌, ℕ, ◌+◌, ◌-◌, ◌*◌, ◌^◌, ◌≤◌, ◌<◌, zero, suc, map, List, ◌∷◌, ◌++◌, ℤ, w16, Option, None, Some, length, take, drop, refl, sym, ap, subst, ◌∙◌, arith, drop_at, length-take-le, le_refl, length-append, take_at}
 use Rattle.std.proofs.lemmas.Slice.{take-put_mid_below}
 use Rattle.std.proofs.Math.Nat.{pow-le-pow_right}
 use Rattle.std.proofs.lemmas.List.{length-drop, take_all, drop-take, drop-drop}

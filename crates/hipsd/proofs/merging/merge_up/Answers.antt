@@ -1,8 +1,8 @@
-use Rattle.std.proofs.Common.{◌≡◌, ℕ, ◌+◌, ◌-◌, ◌∙◌, ap, sym, arith}
+use Rattle.std.proofs.Common.{◌≡◌, ◌+◌, ◌-◌, ◌∙◌, ap, sym, arith}
 use Rattle.std.specs.Prelude.{sum_by}
 use Rattle.std.specs.List.{range_with_len}
 use Rattle.pyramid_model.specs.Shape.{LeafMap}
-use Rattle.hipsd.specs.Merging.{IsLevel, tiles_under, tiles_made, steps_after}
+use Rattle.hipsd.specs.Merging.{IsLevel, tiles_under, steps_after}
 use Rattle.hipsd.proofs.CountLemmas.{steps_sum, level_count, made_more}
 use Rattle.hipsd.proofs.MergingLemmas.{asked_tile_is}
 use Rattle.hipsd.proofs.merging.merge_up.Goals as goal
