@@ -1,6 +1,6 @@
 #!/bin/sh
 # Has tools of others check the FITS files that this repository writes: one tile file of each depth is printed by a test of
-# fits_tile, `prints_files_for_tools_of_others`. The tools are Debian's fitsverify and python3-astropy (install-tools.sh).
+# fits_tile, and two coverage files by a test of coverage_moc, both `prints_files_for_tools_of_others`. The tools are Debian's fitsverify and python3-astropy (install-tools.sh).
 # Where one is missing this fails if CI=true, and else says what was left out.
 cd "$(dirname "$0")/.." || exit 1
 python=/usr/bin/python3
@@ -42,4 +42,45 @@ for depth, digits in printed:
         stored = bytes(range(4 * int(depth) // 8))
         assert numbers.astype(numbers.dtype.newbyteorder(">")).tobytes() == stored
 print("check-fits: fitsverify and astropy accept the tile files of each depth")
+PYTHON
+[ $? -eq 0 ] || exit 1
+
+(cd crates/coverage_moc && rt try --test) >"$folder/printed" 2>&1
+"$python" - "$folder" <<'PYTHON'
+import re
+import subprocess
+import sys
+from pathlib import Path
+
+from astropy.io import fits
+
+
+def cover(top, leaves):
+    """The cover by its definition: a cell is a row where all leaves under it are there, and not all under its parent."""
+    full = {top: set(leaves)}
+    for order in range(top - 1, -1, -1):
+        below = full[order + 1]
+        full[order] = {cell for cell in {leaf // 4 for leaf in below} if all(4 * cell + i in below for i in range(4))}
+    rows = [4 * 4**order + cell for order in full for cell in full[order] if order == 0 or cell // 4 not in full[order - 1]]
+    return sorted(rows)
+
+
+folder = Path(sys.argv[1])
+printed = (folder / "printed").read_text()
+files = re.findall(r"^\s*moc-(\d+) ([0-9a-f]+)$", printed, re.M)
+surveys = dict(re.findall(r"^\s*leaves-(\d+)((?: \d+)*)$", printed, re.M))
+assert [top for top, _ in files] == ["4", "6"], "the test printed no files"
+for top, digits in files:
+    path = folder / f"moc-{top}.fits"
+    path.write_bytes(bytes.fromhex(digits))
+    verified = subprocess.run(["fitsverify", "-q", path], capture_output=True, text=True)
+    assert verified.returncode == 0, verified.stdout
+    with fits.open(path) as file:
+        file.verify("exception")
+        assert len(file) == 2 and file[0].data is None
+        header, rows = file[1].header, [int(row) for row in file[1].data["UNIQ"]]
+        assert (header["PIXTYPE"], header["ORDERING"], header["COORDSYS"]) == ("HEALPIX", "NUNIQ", "C")
+        assert header["MOCORDER"] == int(top)
+        assert rows == cover(int(top), {int(leaf) for leaf in surveys[top].split()})
+print("check-fits: fitsverify and astropy accept the coverage files, and their rows are the covers of the leaves")
 PYTHON

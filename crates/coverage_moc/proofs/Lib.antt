@@ -1,0 +1,9 @@
+pub mod MemberLemmas
+pub mod RowLemmas
+pub mod CoverLemmas
+pub mod TreeLemmas
+pub mod MergeLemmas
+pub mod EditLemmas
+pub mod CanonLemmas
+pub mod FileLemmas
+pub mod CountLemmas

@@ -1,0 +1,4 @@
+pub mod Cover
+pub mod CoverFile
+pub mod Rows
+pub mod Laws

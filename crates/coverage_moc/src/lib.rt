@@ -1,0 +1,22 @@
+//! The cover of a survey's leaves as a multi-order coverage map, and its file (MOC 1.1).
+//!
+//! `Cover::of` makes the cover of all leaves, `add` and `remove` change it by one leaf without going over the leaves, and
+//! `encode` and `decode` write and read the coverage file.
+#![tactic(auto)]
+
+mod cover;
+mod edit;
+mod file;
+pub mod laws;
+mod leaves;
+mod merge;
+#[cfg(test)]
+mod outside_tests;
+mod refusal;
+mod rows;
+#[cfg(test)]
+mod tests;
+mod tree;
+
+pub use cover::Cover;
+pub use refusal::CoverRefusal;
