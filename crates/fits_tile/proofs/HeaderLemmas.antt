@@ -11,7 +11,7 @@ use Rattle.fits_header.specs.Laws.{IsCard}
 use Rattle.fits_header.specs.declared.header.Header.{Header}
 use Rattle.parent_rule.specs.CombinedLaws.{int_eq-self}
 use Rattle.pyramid_model.specs.Shape.{PyramidShape}
-use Rattle.survey_conf.specs.Description.{Description, one, nought}
+use Rattle.survey_conf.specs.Description.{Description, real_one, real_zero}
 use Rattle.fits_tile.specs.TileFile.{data_len}
 use Rattle.fits_tile.specs.Reading.{is_other, is_same, blank_fault, header_fault, data_fault}
 
@@ -70,8 +70,8 @@ header-faultless d h first simple bitpix naxis naxis1 naxis2 bscale bzero blank 
       not-other (pos 2) h.naxis naxis,
       not-other (pos (2 ^ d.shape.n)) h.naxis1 naxis1,
       not-other (pos (2 ^ d.shape.n)) h.naxis2 naxis2,
-      same-found h.bscale one d.bscale bscale,
-      same-found h.bzero nought d.bzero bzero,
+      same-found h.bscale real_one d.bscale bscale,
+      same-found h.bzero real_zero d.bzero bzero,
     ) no_blank
 
 -- whole blocks of data are neither too few nor too many bytes

@@ -10,7 +10,7 @@ use Rattle.fits_header.specs.declared.fault.HeaderFault.{HeaderFault}
 use Rattle.fits_header.specs.declared.header.Header.{Header}
 use Rattle.parent_rule.specs.Depth.{PixelDepth}
 use Rattle.pyramid_model.specs.Shape.{PyramidShape}
-use Rattle.survey_conf.specs.Description.{Description, one, nought}
+use Rattle.survey_conf.specs.Description.{Description, real_one, real_zero}
 use Rattle.tile_pixels.specs.Stored.{numbers_from}
 use Rattle.fits_tile.specs.TileFile.{data_len}
 use Rattle.fits_tile.specs.declared.fault.TileFault.{TileFault}
@@ -42,10 +42,10 @@ width_fault d axis found = if is_other (pos (2 ^ d.shape.n)) found then Some (Wi
 
 -- where there is no BSCALE it is 1, and where there is no BZERO it is 0
 abbrev pub scale_fault : Description → Header → Option TileFault
-scale_fault d header = if is_same (unwrap_or header.bscale one) d.bscale then None else Some Scale
+scale_fault d header = if is_same (unwrap_or header.bscale real_one) d.bscale then None else Some Scale
 
 abbrev pub zero_fault : Description → Header → Option TileFault
-zero_fault d header = if is_same (unwrap_or header.bzero nought) d.bzero then None else Some Zero
+zero_fault d header = if is_same (unwrap_or header.bzero real_zero) d.bzero then None else Some Zero
 
 -- BLANK need not be there
 abbrev pub blank_fault : PixelDepth → Option ℤ → Option TileFault

@@ -21,7 +21,7 @@ use Rattle.survey_conf.specs.Entries.{Entries, Setting, entries, setting, is_the
 use Rattle.survey_conf.specs.Faults.{fault_together, is_blank_of_depth, has_stray_rule, first_fault, fault_of, IsRefusedBy}
 use Rattle.survey_conf.specs.declared.fault.ConfRefusal.{ConfRefusal}
 use Rattle.survey_conf.specs.declared.fault.ConfRefusal.TheVariants.{Fault, OutOfMemory}
-use Rattle.survey_conf.specs.Description.{Description, description, description_of, IsDescription, is_written_value, is_extra, are_distinct, extras_of, one, nought}
+use Rattle.survey_conf.specs.Description.{Description, description, description_of, IsDescription, is_written_value, is_extra, are_distinct, extras_of, real_one, real_zero}
 use Rattle.survey_conf.specs.declared.fault.ConfFault.{ConfFault}
 use Rattle.survey_conf.specs.declared.key.Key.{Key}
 use Rattle.survey_conf.specs.declared.key.Key.TheVariants.{CreatorDid, ObsTitle, HipsReleaseDate, HipsStatus, HipsOrder, HipsOrderMin, HipsTileWidth, SurveyBitpix, SurveyBscale, SurveyBzero, SurveyBlank, SurveyVersion, SurveyRule}
@@ -151,14 +151,14 @@ scale-passes value = by (real value)
     by None = tt
     by (Some d) = at d (not_zero d) refl
 
-scale-read : (es : Entries) → not_zero (read_as scale one es SurveyBscale) ≡ true
+scale-read : (es : Entries) → not_zero (read_as scale real_one es SurveyBscale) ≡ true
 scale-read es = by (value_of es SurveyBscale)
   where
-    at : (o : Option DecimalNumber) → IfSome o (λ d. not_zero d ≡ true) → not_zero (unwrap_or o one) ≡ true
+    at : (o : Option DecimalNumber) → IfSome o (λ d. not_zero d ≡ true) → not_zero (unwrap_or o real_one) ≡ true
     at None h = refl
     at (Some d) h = h
 
-    by : (o : Option (List ℕ)) → not_zero (unwrap_or (option_and_then scale o) one) ≡ true
+    by : (o : Option (List ℕ)) → not_zero (unwrap_or (option_and_then scale o) real_one) ≡ true
     by None = refl
     by (Some value) = at (scale value) (scale-passes value)
 
@@ -188,7 +188,7 @@ extras-written (x ∷ es) e =
     by false extra key value rest = rest
 
 -- what the lines describe is a description
-pub described : (es : Entries) → WellFormed es → fault_together es ≡ None → IsNormal (read_as scale one es SurveyBscale) → IsNormal (read_as real nought es SurveyBzero) → IsDescription (description es)
+pub described : (es : Entries) → WellFormed es → fault_together es ≡ None → IsNormal (read_as scale real_one es SurveyBscale) → IsNormal (read_as real real_zero es SurveyBzero) → IsDescription (description es)
 unfolding description
 described es kept none bscale bzero =
     let t = together es none in
@@ -213,11 +213,11 @@ described es kept none bscale bzero =
 
 -- ---- normal form
 
-one-normal : IsNormal one
-one-normal = record { digits = omega arith; last_digit = λ e. absurd (omega arith); least_exp = grind (arith, ints); greatest_exp = grind (arith, ints) }
+real_one-normal : IsNormal real_one
+real_one-normal = record { digits = omega arith; last_digit = λ e. absurd (omega arith); least_exp = grind (arith, ints); greatest_exp = grind (arith, ints) }
 
-nought-normal : IsNormal nought
-nought-normal = record { digits = omega arith; last_digit = λ e. (refl, refl); least_exp = grind (arith, ints); greatest_exp = grind (arith, ints) }
+real_zero-normal : IsNormal real_zero
+real_zero-normal = record { digits = omega arith; last_digit = λ e. (refl, refl); least_exp = grind (arith, ints); greatest_exp = grind (arith, ints) }
 
 real-normal : ReadIsNormal → (value : List ℕ) → IfSome (real value) IsNormal
 real-normal normal value = by (read_real value) refl
@@ -252,8 +252,8 @@ read_as-normal f default es key reads d = by (value_of es key)
 pub described-lines : ReadIsNormal → (contents : List (List ℕ)) (said : Entries) → said ≡ entries contents → first_fault contents ≡ None → fault_together said ≡ None → IsDescription (description said)
 described-lines normal contents said is none together =
     described said (subst WellFormed (sym is) (kept-lines contents none)) together
-    (read_as-normal scale one said SurveyBscale (scale-normal normal) one-normal)
-    (read_as-normal real nought said SurveyBzero (real-normal normal) nought-normal)
+    (read_as-normal scale real_one said SurveyBscale (scale-normal normal) real_one-normal)
+    (read_as-normal real real_zero said SurveyBzero (real-normal normal) real_zero-normal)
 
 -- ---- what reading answers
 
@@ -286,7 +286,7 @@ shape-described es top low n depth t l e d i = record { top = t i; low = l i; n 
 
 pub same-description : (es : Entries) (d : Description) → d.creator_did ≡ unwrap_or (value_of es CreatorDid) [] → d.obs_title ≡ unwrap_or (value_of es ObsTitle) []
     → d.hips_release_date ≡ unwrap_or (value_of es HipsReleaseDate) [] → d.hips_status ≡ unwrap_or (value_of es HipsStatus) [] → d.shape ≡ (description es).shape
-    → d.bscale ≡ read_as scale one es SurveyBscale → d.bzero ≡ read_as real nought es SurveyBzero → d.version ≡ read_as version 1 es SurveyVersion → d.extras ≡ extras_of es → d ≡ description es
+    → d.bscale ≡ read_as scale real_one es SurveyBscale → d.bzero ≡ read_as real real_zero es SurveyBzero → d.version ≡ read_as version 1 es SurveyVersion → d.extras ≡ extras_of es → d ≡ description es
 unfolding description
 same-description es d a b c e s x y v z i = record {
   creator_did = a i;

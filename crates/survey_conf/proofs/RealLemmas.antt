@@ -2,15 +2,15 @@
 use Rattle.std.proofs.Common.{◌≡◌, [], ◌∷◌, Ok, Err, Result, refl, sym, ◌∙◌, ap}
 use Rattle.decimal_scale.specs.Real.{DecimalNumber, read_real, is_real, is_fixed_point, is_whole, before_letter, after_letter, led_digits, significant, zeros_dropped, digits_after_point, exponent, normal_form}
 use Rattle.decimal_scale.specs.declared.fault.BadReal.{BadReal}
-use Rattle.survey_conf.specs.Description.{one, nought}
+use Rattle.survey_conf.specs.Description.{real_one, real_zero}
 
-pub read-one : read_real (49 ∷ []) ≡ Ok one
+pub read-real_one : read_real (49 ∷ []) ≡ Ok real_one
 unfolding read_real is_real is_fixed_point is_whole before_letter after_letter led_digits significant zeros_dropped digits_after_point exponent normal_form
-read-one = refl
+read-real_one = refl
 
-pub read-nought : read_real (48 ∷ []) ≡ Ok nought
+pub read-real_zero : read_real (48 ∷ []) ≡ Ok real_zero
 unfolding read_real is_real is_fixed_point is_whole before_letter after_letter led_digits significant zeros_dropped digits_after_point exponent normal_form
-read-nought = refl
+read-real_zero = refl
 
 pub same-ok : (r : Result DecimalNumber BadReal) (a b : DecimalNumber) → r ≡ Ok a → r ≡ Ok b → a ≡ b
 same-ok r a b x y = ap (λ s. elim s [ Ok c ↦ c | Err e ↦ a ]) (sym x ∙ y)

@@ -11,7 +11,7 @@ use Rattle.survey_conf.specs.Lines.{contents}
 use Rattle.survey_conf.specs.Numbers.{whole, natural, order, lowest_order, bitpix, version, width_exponent, real, scale, combine}
 use Rattle.survey_conf.specs.Keys.{name, required_keys}
 use Rattle.survey_conf.specs.Entries.{Entries, entries, is_there, value_of, read_as}
-use Rattle.survey_conf.specs.Description.{Description, IsDescription, description, description_of, extras_of, one, nought}
+use Rattle.survey_conf.specs.Description.{Description, IsDescription, description, description_of, extras_of, real_one, real_zero}
 use Rattle.survey_conf.specs.Faults.{fault_of, fault_together, first_fault, is_blank_of_depth}
 use Rattle.survey_conf.specs.Properties.{description_pairs, description_text, rule}
 use Rattle.survey_conf.specs.declared.key.Key.{Key}
@@ -96,8 +96,8 @@ module _ (law : NumbersAreRead) (d : Description) (h : IsDescription d) where
     bitpix_said,
     blank_said,
     rule_said,
-    stands scale one SurveyBscale (real_text d.bscale) d.bscale refl (scale_read law d.bscale h.bscale h.not_zero),
-    stands real nought SurveyBzero (real_text d.bzero) d.bzero refl (real_read law d.bzero h.bzero),
+    stands scale real_one SurveyBscale (real_text d.bscale) d.bscale refl (scale_read law d.bscale h.bscale h.not_zero),
+    stands real real_zero SurveyBzero (real_text d.bzero) d.bzero refl (real_read law d.bzero h.bzero),
     version_said,
     extras_said,
   ) refl

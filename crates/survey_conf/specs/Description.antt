@@ -32,11 +32,11 @@ abbrev pub extras_of : Entries → List (List ℕ × List ℕ)
 extras_of es = map (λ e. (e.0, e.1.value)) (filter (λ e. is_extra_key e.0) es)
 
 -- the reals 1 and 0
-abbrev pub one : DecimalNumber
-one = record { mantissa = pos 1; exp = pos 0 }
+abbrev pub real_one : DecimalNumber
+real_one = record { mantissa = pos 1; exp = pos 0 }
 
-abbrev pub nought : DecimalNumber
-nought = record { mantissa = pos 0; exp = pos 0 }
+abbrev pub real_zero : DecimalNumber
+real_zero = record { mantissa = pos 0; exp = pos 0 }
 
 -- what lines without a fault describe; a key that is not there has its default
 unfoldable pub description : Entries → Description
@@ -55,8 +55,8 @@ description es = record {
       combine = read_as combine Mean es SurveyRule;
     };
   };
-  bscale = read_as scale one es SurveyBscale;
-  bzero = read_as real nought es SurveyBzero;
+  bscale = read_as scale real_one es SurveyBscale;
+  bzero = read_as real real_zero es SurveyBzero;
   version = read_as version 1 es SurveyVersion;
   extras = extras_of es;
 }

@@ -1,7 +1,7 @@
 //! The two real numbers of a description.
 ghost use Rattle.std.specs.Prelude.{◌≡◌};
 ghost use Rattle.survey_conf.specs.Numbers;
-ghost use Rattle.survey_conf.specs.Description.{one, nought};
+ghost use Rattle.survey_conf.specs.Description.{real_one, real_zero};
 
 use decimal_scale::Decimal;
 
@@ -26,7 +26,7 @@ pub(crate) fn scale(value: &[u8]) -> Option<Decimal>
 
 /// The scale of a description that has none.
 pub(crate) fn default_scale() -> Decimal
-    ensures { result ≡ one }
+    ensures { result ≡ real_one }
 {
     match Decimal::read(b"1") {
         Ok(scale) => scale,
@@ -36,7 +36,7 @@ pub(crate) fn default_scale() -> Decimal
 
 /// The zero of a description that has none.
 pub(crate) fn default_zero() -> Decimal
-    ensures { result ≡ nought }
+    ensures { result ≡ real_zero }
 {
     match Decimal::read(b"0") {
         Ok(zero) => zero,

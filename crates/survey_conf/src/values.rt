@@ -3,7 +3,7 @@ ghost use Rattle.std.specs.Prelude.{◌≡◌, pos};
 ghost use Rattle.parent_rule.specs.declared.combine.Combine.TheVariants.{Mean};
 ghost use Rattle.survey_conf.specs.Numbers;
 ghost use Rattle.survey_conf.specs.Entries.{read_as};
-ghost use Rattle.survey_conf.specs.Description.{one, nought};
+ghost use Rattle.survey_conf.specs.Description.{real_one, real_zero};
 ghost use Rattle.survey_conf.specs.EntriesView.{entries_view};
 ghost use Rattle.survey_conf.specs.declared.key.Key.TheVariants.{HipsOrder, HipsOrderMin, HipsTileWidth, SurveyBitpix, SurveyBlank, SurveyBscale, SurveyBzero, SurveyRule, SurveyVersion};
 
@@ -79,7 +79,7 @@ pub(crate) fn version(entries: &Entries<'_>) -> u8
 
 /// What a stored number is multiplied by, 1 where it is not said.
 pub(crate) fn scale(entries: &Entries<'_>) -> Decimal
-    ensures { result ≡ read_as Numbers.scale one (entries_view entries.now.entries) SurveyBscale }
+    ensures { result ≡ read_as Numbers.scale real_one (entries_view entries.now.entries) SurveyBscale }
 {
     value_of(entries, Key::SurveyBscale)
         .and_then(real::scale)
@@ -88,7 +88,7 @@ pub(crate) fn scale(entries: &Entries<'_>) -> Decimal
 
 /// What is added to a stored number, 0 where it is not said.
 pub(crate) fn zero(entries: &Entries<'_>) -> Decimal
-    ensures { result ≡ read_as Numbers.real nought (entries_view entries.now.entries) SurveyBzero }
+    ensures { result ≡ read_as Numbers.real real_zero (entries_view entries.now.entries) SurveyBzero }
 {
     value_of(entries, Key::SurveyBzero)
         .and_then(real::real)
