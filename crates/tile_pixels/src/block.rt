@@ -67,6 +67,18 @@ impl Block {
         self.numbers[row as usize * self.side() as usize + col as usize]
     }
 
+    /// The numbers of a line, counted from 0 at the top.
+    pub fn line(&self, line: u32) -> &[i64]
+        requires { line < 2 ^ self.now.levels }
+        ensures numbers { (column : ℕ) → column < 2 ^ self.now.levels → slice_index_or result.now column (pos 0) ≡ block_number self.now column line }
+        ensures length { length result.now ≡ 2 ^ self.now.levels }
+        ensures range { (bits : ℕ) → All (IsNumber bits) self.now.numbers → All (IsNumber bits) result.now }
+    {
+        let side = self.side() as usize;
+        let start = line as usize * side;
+        &self.numbers[start..start + side]
+    }
+
     /// Halves the side: each number becomes the parent rule of its four.
     pub fn halve(&mut self, depth: Depth)
         requires side { 1 ≤ self.old.levels }

@@ -25,4 +25,5 @@ mod tests;
 mod tile;
 
 pub use block::Block;
+pub use row::write_row;
 pub use tile::Tile;
