@@ -15,7 +15,7 @@ and_true false = refl
 
 -- ---- numbers
 
-eqb-uniq : (k p q : ℕ) → eqb (uniq_number k p) (uniq_number k q) ≡ eqb p q
+pub eqb-uniq : (k p q : ℕ) → eqb (uniq_number k p) (uniq_number k q) ≡ eqb p q
 eqb-uniq k p q = same_bools (eqb (uniq_number k p) (uniq_number k q)) (eqb p q)
     (λ t. let e : uniq_number k p ≡ uniq_number k q = eqb-true (uniq_number k p) (uniq_number k q) t in eq-eqb p q (omega arith))
     (λ t. eq-eqb (uniq_number k p) (uniq_number k q) (ap (uniq_number k) (eqb-true p q t)))
@@ -35,7 +35,7 @@ taken_other own rows0 rows1 same row ne = same row ∙ has-filter (λ y. not (eq
 
 -- ---- children
 
-has-children : (k q p : ℕ) → has (children k q) (uniq_number k p) ≡ eqb (p / 4) q
+pub has-children : (k q p : ℕ) → has (children k q) (uniq_number k p) ≡ eqb (p / 4) q
 has-children k q p = same_bools (has (children k q) (uniq_number k p)) (eqb (p / 4) q)
     (λ h. elim (has-cases (uniq_number k (4 * q)) (uniq_number k (4 * q + 1) ∷ uniq_number k (4 * q + 2) ∷ uniq_number k (4 * q + 3) ∷ []) (uniq_number k p) h) [
       | inl e ↦ eq-eqb (p / 4) q (omega arith)

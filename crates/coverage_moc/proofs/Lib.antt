@@ -7,3 +7,4 @@ pub mod EditLemmas
 pub mod CanonLemmas
 pub mod FileLemmas
 pub mod CountLemmas
+pub mod LeafLemmas

@@ -12,6 +12,10 @@ SameMembers xs ys = (x : ℕ) → has xs x ≡ has ys x
 abbrev pub four : (ℕ → Bool) → ℕ → Bool
 four test q = test (4 * q) && (test (4 * q + 1) && (test (4 * q + 2) && test (4 * q + 3)))
 
+-- the four children of cell q
+abbrev pub four_cells : ℕ → List ℕ
+four_cells q = (4 * q) ∷ (4 * q + 1) ∷ (4 * q + 2) ∷ (4 * q + 3) ∷ []
+
 -- the numbers of the four children, of order k, of cell q of the order above
 abbrev pub children : ℕ → ℕ → List ℕ
 children k q = uniq_number k (4 * q) ∷ uniq_number k (4 * q + 1) ∷ uniq_number k (4 * q + 2) ∷ uniq_number k (4 * q + 3) ∷ []

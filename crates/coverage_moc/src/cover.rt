@@ -6,7 +6,7 @@ ghost use Rattle.coverage_moc.specs.CoverFile.{moc_file};
 
 use crate::edit::{rows_with, rows_without};
 use crate::file::{encode_cover, read_rows};
-use crate::leaves::leaf_count;
+use crate::leaves::{leaf_count, leaves_of};
 use crate::merge::push_cover;
 use crate::refusal::CoverRefusal;
 use crate::tree::is_canonical;
@@ -138,6 +138,19 @@ impl Cover {
         ensures { result ≡ length (leaves_under top self.now.rows) }
     {
         leaf_count(top, &self.rows)
+    }
+
+    /// The numbers of the leaves under the rows, ascending.
+    ///
+    /// # Errors
+    ///
+    /// `AllocError` where there is no memory for them.
+    pub fn leaf_list(&self, alloc: Global, top: u8) -> Result<Vec<u64>, AllocError>
+        requires top { top ≡ self.now.top }
+        requires few { length (leaves_under top self.now.rows) ≤ 65000 }
+        ensures { IfOk result (λ leaves. leaves.items ≡ leaves_under top self.now.rows) }
+    {
+        leaves_of(alloc, top, &self.rows)
     }
 
     // The cover that has these rows.

@@ -233,6 +233,10 @@ fn files_are_written_and_read(rt: HostRuntime) -> Result<(), Fail> {
         let cover = cover_of(alloc, 4, leaves)?;
         let written = cover.encode(alloc, 4)?;
         assert_eq!(rt; written.as_slice(), wanted.as_slice(), "of {leaves:?}");
+        assert_eq!(rt; cover.leaves(4), leaves.len() as u64, "of {leaves:?}");
+        assert!(rt; cover.leaves(4) <= 65_000);
+        let list = cover.leaf_list(alloc, 4)?;
+        assert_eq!(rt; list.as_slice(), leaves);
         let read = Cover::decode(alloc, 4, &wanted)?;
         assert!(rt; has_rows(&read, rows), "of {leaves:?}");
     }
