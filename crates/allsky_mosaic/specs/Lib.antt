@@ -1,0 +1,3 @@
+pub mod Mosaic
+pub mod Tiles
+pub mod Cells

@@ -1,0 +1,12 @@
+//! The all-sky mosaic of a survey: one image of its tiles of order 3, each with at most 64 columns and lines.
+//!
+//! `whole` makes it of all tiles, and answers the stored bytes of the image, bottom line first.
+#![tactic(auto)]
+
+mod bands;
+mod making;
+mod square;
+#[cfg(test)]
+mod tests;
+
+pub use making::whole;

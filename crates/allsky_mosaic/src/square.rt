@@ -1,0 +1,151 @@
+//! The squares of a mosaic: a tile of order 3 each, with at most 64 columns and lines, bottom line first.
+ghost use Rattle.std.specs.Prelude.{◌≡◌, ◌≢◌, ℕ, ◌+◌, ◌-◌, ◌*◌, ◌/◌, ◌^◌, ◌<◌, ◌≤◌, length, IfOk, All};
+ghost use Rattle.parent_rule.specs.Depth.{IsNumber};
+ghost use Rattle.pyramid_model.specs.Shape.{PyramidShape, LeafMap};
+ghost use Rattle.tile_pixels.specs.Tile.{HasShape, pixel_in};
+ghost use Rattle.tile_pixels.specs.Block.{block_number};
+ghost use Rattle.allsky_mosaic.specs.Mosaic.{levels_of, side_of};
+ghost use Rattle.allsky_mosaic.specs.Tiles.{IsSurvey};
+ghost use Rattle.tile_pixels.specs.Stored.{stored_at};
+ghost use Rattle.allsky_mosaic.specs.Cells.{ShowsSquare, square_number, band_number};
+
+use parent_rule::Depth;
+use std::alloc::{AllocError, Global};
+use tile_pixels::{Block, Tile, write_row};
+
+/// The columns and lines of a square, for tiles of `2^n` of them.
+pub fn side(n: u8) -> usize
+    ensures side { result ≡ side_of n }
+    ensures some { 0 < result }
+    ensures at_most { result ≤ 64 }
+{
+    1 << n.min(6)
+}
+
+/// Writes a tile of order 3 into a band, as square `col` of its 27. The others stay.
+///
+/// # Errors
+///
+/// `AllocError` where there is no memory to halve the tile.
+pub fn write_tile(
+    alloc: Global,
+    depth: Depth,
+    n: u8,
+    tile: &Tile,
+    col: usize,
+    band: &mut [u8],
+) -> Result<(), AllocError>
+    requires least_n { 1 ≤ n }
+    requires greatest_n { n ≤ 9 }
+    requires shape { HasShape tile.now depth n }
+    requires col { col < 27 }
+    requires band { length band.old ≡ 27 * side_of n * side_of n * (depth.bitpix / 8) }
+    ensures shown { IfOk result (λ _. (shape : PyramidShape) (leaves : LeafMap) (cell : ℕ) → IsSurvey depth n shape
+        → ShowsSquare shape leaves cell n (pixel_in tile.now)
+        → ShowsSquare shape leaves cell (levels_of n) (λ column line. band_number depth.bitpix (side_of n) band.new col (side_of n - 1 - line) column)) }
+    ensures kept { (t other column : ℕ) → t < side_of n → other < 27 → other ≢ col → column < side_of n
+        → band_number depth.bitpix (side_of n) band.new other t column ≡ band_number depth.bitpix (side_of n) band.old other t column }
+{
+    if n <= 6 {
+        write_square(depth, side(n), col, tile.raw(), band);
+        return Ok(());
+    }
+    let square = halved(alloc, depth, n, tile)?;
+    write_square(depth, 64, col, &square, band);
+    Ok(())
+}
+
+/// Writes a square into a band, as square `col` of its 27: its stored lines in order, each as a part of a line of the
+/// band. The others stay.
+pub fn write_square(depth: Depth, side: usize, col: usize, square: &[u8], band: &mut [u8])
+    requires some { 0 < side }
+    requires at_most { side ≤ 64 }
+    requires col { col < 27 }
+    requires square { length square.now ≡ side * side * (depth.bitpix / 8) }
+    requires band { length band.old ≡ 27 * side * side * (depth.bitpix / 8) }
+    ensures written { (t column : ℕ) → t < side → column < side
+        → band_number depth.bitpix side band.new col t column ≡ stored_at depth.bitpix square.now (t * side + column) }
+    ensures kept { (t other column : ℕ) → t < side → other < 27 → other ≢ col → column < side
+        → band_number depth.bitpix side band.new other t column ≡ band_number depth.bitpix side band.old other t column }
+{
+    let line = side * depth.bytes();
+    for t in 0..side {
+        let at = (t * 27 + col) * line;
+        band[at..at + line].copy_from_slice(&square[t * line..t * line + line]);
+    }
+}
+
+// The square of a larger tile, halved until it has 64 columns and lines.
+fn halved(alloc: Global, depth: Depth, n: u8, tile: &Tile) -> Result<Vec<u8>, AllocError>
+    requires least_n { 7 ≤ n }
+    requires greatest_n { n ≤ 9 }
+    requires shape { HasShape tile.now depth n }
+    ensures length { IfOk result (λ square. length square.items ≡ 64 * 64 * (depth.bitpix / 8)) }
+    ensures shown { IfOk result (λ square. (shape : PyramidShape) (leaves : LeafMap) (cell : ℕ) → IsSurvey depth n shape
+        → ShowsSquare shape leaves cell n (pixel_in tile.now) → ShowsSquare shape leaves cell 6 (square_number depth.bitpix 64 square.items)) }
+{
+    let mut block = tile.block(alloc)?;
+    for _ in 6..n {
+        block.halve(depth);
+    }
+    let square = stored(alloc, depth, &block)?;
+    Ok(square)
+}
+
+// The numbers of a block of 64 columns and lines as a file stores them, bottom line first.
+fn stored(alloc: Global, depth: Depth, block: &Block) -> Result<Vec<u8>, AllocError>
+    requires levels { block.now.levels ≡ 6 }
+    requires range { All (IsNumber depth.bitpix) block.now.numbers }
+    ensures length { IfOk result (λ square. length square.items ≡ 64 * 64 * (depth.bitpix / 8)) }
+    ensures numbers { IfOk result (λ square. (column line : ℕ) → column < 64 → line < 64
+        → square_number depth.bitpix 64 square.items column line ≡ block_number block.now column line) }
+{
+    let mut square = vec![in alloc; 0; 64 * 64 * depth.bytes()]?;
+    store_lines(depth, block, &mut square);
+    Ok(square)
+}
+
+// The same, into bytes that are there.
+fn store_lines(depth: Depth, block: &Block, square: &mut [u8])
+    requires levels { block.now.levels ≡ 6 }
+    requires range { All (IsNumber depth.bitpix) block.now.numbers }
+    requires square { length square.old ≡ 64 * 64 * (depth.bitpix / 8) }
+    ensures { (column line : ℕ) → column < 64 → line < 64 → square_number depth.bitpix 64 square.new column line ≡ block_number block.now column line }
+{
+    let length = 64 * depth.bytes();
+    for t in 0..64 {
+        let start = t * length;
+        write_row(
+            depth,
+            block.line(63 - t as u32),
+            &mut square[start..start + length],
+        );
+    }
+}
+
+/// A number of blank numbers as a file stores them, given by so many lines of a square.
+///
+/// # Errors
+///
+/// `AllocError` where there is no memory for them.
+pub fn blank_lines(
+    alloc: Global,
+    depth: Depth,
+    side: usize,
+    lines: usize,
+) -> Result<Vec<u8>, AllocError>
+    requires some { 0 < side }
+    requires at_most { side ≤ 64 }
+    requires lines { lines ≤ 2 ^ 20 }
+    ensures length { IfOk result (λ raw. length raw.items ≡ lines * side * (depth.bitpix / 8)) }
+    ensures blank { IfOk result (λ raw. (place : ℕ) → place < lines * side → stored_at depth.bitpix raw.items place ≡ depth.blank) }
+{
+    let numbers = vec![in alloc; depth.blank(); side]?;
+    let mut line = vec![in alloc; 0; side * depth.bytes()]?;
+    write_row(depth, &numbers, &mut line);
+    let mut raw = Vec::with_capacity(alloc, lines * line.len())?;
+    for _ in 0..lines {
+        raw.extend_from_slice(&line)?;
+    }
+    Ok(raw)
+}
