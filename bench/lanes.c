@@ -3,141 +3,25 @@
  *   lanes BITS plain|lanes none|some|half
  *
  * prints the least nanoseconds of processor time of 40 merges for each pixel of the tile above, and a sum of its bytes.
- * `plain` has branches; `lanes` has none, so that the compiler works on many pixels at a time. The tiles are big-endian
- * numbers as a FITS file stores them, the bottom line first; BITS is 8, 16 or 32. Four numbers become their mean, rounded
- * half up, blank ones left out; a mean that is the blank number is one more. */
-#include <stdint.h>
-#include <stdio.h>
-#include <stdlib.h>
-#include <string.h>
-#include <time.h>
+ * BITS is 8, 16 or 32. */
+#include "tiles.h"
 
-enum { SIDE = 512, HALF = SIDE / 2, PIXELS = SIDE * SIDE, ROUNDS = 40 };
-
-#define SWAP_8(x) (x)
-#define SWAP_16(x) ((uint16_t)((uint16_t)(x) << 8 | (uint16_t)(x) >> 8))
-#define SWAP_32(x) __builtin_bswap32(x)
-
-/* T is a stored number, U its bits, W holds a sum of four that are raised so that they have no sign, S one that has. */
-#define ROWS(BITS, T, U, W, S, RAISE)                                                                           \
-    static T plain_mean_##BITS(T a, T b, T c, T d, T blank) {                                                   \
-        T v[4] = {a, b, c, d};                                                                                  \
-        S sum = 0, count = 0;                                                                                   \
-        for (int i = 0; i < 4; i++) {                                                                           \
-            if (v[i] != blank) {                                                                                \
-                sum += v[i];                                                                                    \
-                count++;                                                                                        \
-            }                                                                                                   \
-        }                                                                                                       \
-        if (count == 0) return blank;                                                                           \
-        S top = 2 * sum + count, bottom = 2 * count;                                                            \
-        S mean = top / bottom - (top % bottom < 0);                                                             \
-        return (T)(mean == blank ? mean + 1 : mean);                                                            \
-    }                                                                                                           \
-    __attribute__((noinline)) static void plain_##BITS(const void *upper, const void *under, T blank, void *o) { \
-        const U *restrict top = upper, *restrict bottom = under;                                                \
-        U *restrict out = o;                                                                                    \
-        for (int i = 0; i < HALF; i++) {                                                                        \
-            T a = (T)SWAP_##BITS(top[2 * i]), b = (T)SWAP_##BITS(bottom[2 * i]);                                \
-            T c = (T)SWAP_##BITS(top[2 * i + 1]), d = (T)SWAP_##BITS(bottom[2 * i + 1]);                        \
-            out[i] = SWAP_##BITS((U)plain_mean_##BITS(a, b, c, d, blank));                                      \
-        }                                                                                                       \
-    }                                                                                                           \
-    __attribute__((noinline)) static void lanes_##BITS(const void *upper, const void *under, T blank, void *o) { \
-        const U *restrict top = upper, *restrict bottom = under;                                                \
-        U *restrict out = o;                                                                                    \
-        const W least = (W)(blank + (W)RAISE);                                                                  \
-        for (int i = 0; i < HALF; i++) {                                                                        \
-            T a = (T)SWAP_##BITS(top[2 * i]), b = (T)SWAP_##BITS(bottom[2 * i]);                                \
-            T c = (T)SWAP_##BITS(top[2 * i + 1]), d = (T)SWAP_##BITS(bottom[2 * i + 1]);                        \
-            W of_a = a != blank, of_b = b != blank, of_c = c != blank, of_d = d != blank;                       \
-            W count = of_a + of_b + of_c + of_d;                                                                \
-            W sum = ((W)(a + (W)RAISE) & -of_a) + ((W)(b + (W)RAISE) & -of_b) + ((W)(c + (W)RAISE) & -of_c)     \
-                + ((W)(d + (W)RAISE) & -of_d);                                                                  \
-            W of_four = (W)(sum + 2) / 4, of_three = (W)(sum + 1) / 3, of_two = (W)(sum + 1) / 2;               \
-            W mean = sum;                                                                                       \
-            mean = count == 2 ? of_two : mean;                                                                  \
-            mean = count == 3 ? of_three : mean;                                                                \
-            mean = count == 4 ? of_four : mean;                                                                 \
-            mean += mean == least;                                                                              \
-            mean = count == 0 ? least : mean;                                                                   \
-            out[i] = SWAP_##BITS((U)(mean - (W)RAISE));                                                         \
-        }                                                                                                       \
-    }
-ROWS(8, uint8_t, uint8_t, uint16_t, int32_t, 0)
-ROWS(16, int16_t, uint16_t, uint32_t, int32_t, 32768)
-ROWS(32, int32_t, uint32_t, uint64_t, int64_t, 2147483648)
-
-static void *checked(void *memory) {
-    if (memory == NULL) {
-        fprintf(stderr, "lanes: out of memory\n");
-        exit(11);
-    }
-    return memory;
-}
-
-/* A tile of numbers that a linear congruence gives. */
-static uint8_t *child(int width, uint32_t sixteenths, uint32_t state) {
-    uint8_t *raw = checked(malloc((size_t)PIXELS * width));
-    uint8_t blank = width == 1 ? 255 : 128;
-    for (int i = 0; i < PIXELS; i++) {
-        state = state * 1664525u + 1013904223u;
-        int is_blank = state >> 28 < sixteenths;
-        for (int place = 0; place < width; place++) {
-            state = state * 1664525u + 1013904223u;
-            uint8_t byte = (uint8_t)(state >> 24);
-            if (is_blank) byte = place == 0 ? blank : 0;
-            else if (place == 0 && byte == blank) byte--;
-            raw[i * width + place] = byte;
-        }
-    }
-    return raw;
-}
-
-static void row(int width, int lanes, const uint8_t *upper, const uint8_t *under, uint8_t *out) {
-    switch (width) {
-    case 1: (lanes ? lanes_8 : plain_8)(upper, under, 255, out); break;
-    case 2: (lanes ? lanes_16 : plain_16)(upper, under, INT16_MIN, out); break;
-    default: (lanes ? lanes_32 : plain_32)(upper, under, INT32_MIN, out);
-    }
-}
-
-static uint8_t *merge(int width, int lanes, uint8_t *const children[4]) {
-    uint8_t *tile = checked(malloc((size_t)PIXELS * width));
-    for (int line = 0; line < SIDE; line++) {
-        int lower = line < HALF;
-        int above = lower ? HALF - 1 - line : SIDE - 1 - line;
-        for (int half = 0; half < 2; half++) {
-            const uint8_t *from = children[2 * half + lower];
-            row(width, lanes, from + (size_t)(SIDE - 1 - 2 * above) * SIDE * width,
-                from + (size_t)(SIDE - 2 - 2 * above) * SIDE * width, tile + ((size_t)line * SIDE + half * HALF) * width);
-        }
-    }
-    return tile;
-}
-
-static double now(void) {
-    struct timespec t;
-    clock_gettime(CLOCK_PROCESS_CPUTIME_ID, &t);
-    return t.tv_sec * 1e9 + t.tv_nsec;
-}
+enum { ROUNDS = 40 };
 
 int main(int count, char **words) {
     if (count != 4) return 1;
     int width = atoi(words[1]) / 8;
     int lanes = strcmp(words[2], "lanes") == 0;
-    uint32_t sixteenths = strcmp(words[3], "none") == 0 ? 0 : strcmp(words[3], "some") == 0 ? 1 : 8;
     uint8_t *children[4];
-    for (int i = 0; i < 4; i++) children[i] = child(width, sixteenths, (uint32_t)i + 1);
+    for (int i = 0; i < 4; i++) children[i] = child(width, sixteenths_of(words[3]), (uint32_t)i + 1);
     double least = 1e18;
     uint32_t sum = 0;
     for (int round = 0; round < ROUNDS; round++) {
-        double start = now();
+        double start = now(CLOCK_PROCESS_CPUTIME_ID);
         uint8_t *tile = merge(width, lanes, children);
-        double took = now() - start;
+        double took = now(CLOCK_PROCESS_CPUTIME_ID) - start;
         if (took < least) least = took;
-        sum = 0;
-        for (int i = 0; i < PIXELS * width; i++) sum = sum * 31 + tile[i];
+        sum = sum_after(0, tile, PIXELS * width);
         free(tile);
     }
     printf("%.2f %u\n", least / PIXELS, sum);

@@ -1,0 +1,77 @@
+#!/bin/bash
+# Times what a publication is made of, and prints the best of several runs.
+#
+# A level of 192 merges of tiles of 512 by 512 pixels at 16 bits, by `level_serial` and `level_parallel`, beside level.c: plain
+# C with branches, and C without branches, which the compiler turns into lanes; C makes its level with one thread. Then the
+# covers of leaves of order 11. The programs are proved builds, for x86-64-v2 like the C: a build of `rt try` has checks in
+# it, and its times say nothing. Processor time is user and system time of the process; times on the wall mean something only
+# where nothing else runs. How many processors there are is what this script may use (`taskset -c`).
+#
+#   bench/publication.sh [RUNS]
+set -u
+here=$(cd "$(dirname "$0")" && pwd)
+runs=${1:-5}
+work=$(mktemp -d) || exit 1
+trap 'rm -rf "$work"' EXIT
+# Builds the proved program at crates/survey_bench/out/survey_bench.
+(cd "$here/../crates/survey_bench" && rt run >/dev/null 2>&1) || { echo "publication.sh: survey_bench isn't built"; exit 1; }
+bench="$here/../crates/survey_bench/out/survey_bench"
+programs=hipsd
+if command -v gcc >/dev/null 2>&1; then
+    gcc -O3 -march=x86-64-v2 -o "$work/level" "$here/level.c" || exit 1
+    programs="hipsd plain lanes"
+else
+    echo "publication.sh: there is no gcc here, so there is no C beside"
+fi
+
+# ---- one level
+
+run=0
+while [ "$run" -lt "$runs" ]; do
+    for blanks in none some; do
+        for program in $programs; do
+            case $program in
+            hipsd) got=$("$bench" level 16 mean "$blanks") || exit 1 ;;
+            *) got=$("$work/level" 16 "$program" "$blanks") || exit 1 ;;
+            esac
+            echo "$blanks $program $got" >>"$work/level-times"
+        done
+    done
+    run=$((run + 1))
+done
+echo "a level of 192 merges, 16 bits, $(nproc) processors (nanoseconds for each pixel that is made):"
+awk '
+    # PROCESSOR SERIAL PARALLEL SUM of the program, PROCESSOR WALL SUM of C
+    { sum = $NF; if (!($1 in sums)) { sums[$1] = sum; order[++keys] = $1 } else if (sums[$1] != sum) different = $1 }
+    { for (i = 3; i < NF; i++) if (!(($1, $2, i) in least) || $i < least[$1, $2, i]) least[$1, $2, i] = $i }
+    END {
+        if (different) { print "publication.sh: the programs made different tiles, blanks " different; exit 1 }
+        for (k = 1; k <= keys; k++) {
+            b = order[k]
+            printf "  blanks %-5s serial %.2f, parallel %.2f on the wall, ratio %.2f\n", b, least[b, "hipsd", 4], least[b, "hipsd", 5], least[b, "hipsd", 4] / least[b, "hipsd", 5]
+            if ((b, "plain", 3) in least)
+                printf "               processor time: serial %.2f, plain C %.2f, C lanes %.2f; ratios %.2f and %.2f\n", least[b, "hipsd", 3], least[b, "plain", 3], least[b, "lanes", 3], least[b, "hipsd", 3] / least[b, "plain", 3], least[b, "hipsd", 3] / least[b, "lanes", 3]
+        }
+    }' "$work/level-times" || exit 1
+
+# ---- covers
+
+echo "the cover of leaves of order 11 (processor time):"
+for leaves in "768 1" "768 60000" "1000000 1" "1000000 50"; do
+    run=0
+    while [ "$run" -lt "$runs" ]; do
+        # shellcheck disable=SC2086
+        got=$("$bench" cover $leaves) || exit 1
+        echo "$leaves $got" >>"$work/cover-times"
+        run=$((run + 1))
+    done
+done
+awk '
+    { key = $1 " leaves, each " $2 " from the next"; if (!(key in of)) order[++keys] = key }
+    !(key in of) || $3 < of[key] { of[key] = $3 }
+    !(key in add) || $4 < add[key] { add[key] = $4 }
+    { rows[key] = $5 }
+    END {
+        for (k = 1; k <= keys; k++)
+            printf "  %s: of %.2f ns for each leaf, add of one %.1f us, then %d rows\n", order[k], of[order[k]], add[order[k]] / 1000, rows[order[k]]
+    }' "$work/cover-times"

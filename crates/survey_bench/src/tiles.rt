@@ -1,0 +1,83 @@
+//! Tiles of 512 by 512 numbers that a linear congruence gives; bench/tiles.h makes the same.
+ghost use Rattle.std.specs.Prelude.{◌≡◌, ◌*◌, ◌^◌, IfOk};
+ghost use Rattle.tile_pixels.specs.Tile.{HasShape};
+
+use parent_rule::{Combine, Depth, Steps};
+use std::alloc::Global;
+use std::io;
+use std::io::ErrorKind;
+use tile_pixels::Tile;
+
+/// A tile has `2^N` columns and lines.
+pub const N: u8 = 9;
+
+/// The pixels of a tile.
+pub const PIXELS: usize = 262144;
+
+/// How many of 16 pixels are blank.
+pub fn sixteenths(word: &str) -> Option<u32> {
+    match word {
+        "none" => Some(0),
+        "some" => Some(1),
+        "half" => Some(8),
+        _ => None,
+    }
+}
+
+/// What the numbers are, by two words of the command line.
+pub fn depth(bits: &str, way: &str) -> Option<Depth> {
+    let way = match way {
+        "mean" => Combine::Mean,
+        "median" => Combine::Median,
+        _ => return None,
+    };
+    let depth = match bits {
+        "8" => Depth::new(8, 255)?,
+        "16" => Depth::new(16, i64::from(i16::MIN))?,
+        "32" => Depth::new(32, i64::from(i32::MIN))?,
+        "64" => Depth::new(64, i64::MIN)?,
+        _ => return None,
+    };
+    Some(depth.with(way))
+}
+
+/// The tile of a seed.
+///
+/// # Errors
+///
+/// Where there is no memory for it.
+pub fn child(alloc: Global, depth: Depth, blanks: u32, seed: u32) -> io::Result<Tile>
+    ensures { IfOk result (λ tile. HasShape tile depth 9) }
+{
+    let width = depth.bytes();
+    let blank = if width == 1 { 255 } else { 128 };
+    let mut raw = Vec::with_capacity(alloc, PIXELS * 8)?;
+    let mut state = seed;
+    for _ in 0..PIXELS {
+        state = state.wrapping_mul(1664525).wrapping_add(1013904223);
+        let is_blank = state >> 28 < blanks;
+        for place in 0..width {
+            state = state.wrapping_mul(1664525).wrapping_add(1013904223);
+            let byte = (state >> 24) as u8;
+            let byte = match (is_blank, place == 0) {
+                (true, true) => blank,
+                (true, false) => 0,
+                (false, true) if byte == blank => blank - 1,
+                (false, _) => byte,
+            };
+            raw.push(byte)?;
+        }
+    }
+    if raw.len() != 4usize.pow(u32::from(N)) * width {
+        return Err(io::Error::from(ErrorKind::InvalidData));
+    }
+    Ok(Tile::from_bytes(alloc, &raw, depth, N, &mut Steps::new())?)
+}
+
+/// A sum of bytes in which each place counts, carried on from `sum`.
+pub fn sum_after(mut sum: u32, bytes: &[u8]) -> u32 {
+    for byte in bytes {
+        sum = sum.wrapping_mul(31).wrapping_add(u32::from(*byte));
+    }
+    sum
+}
