@@ -1,4 +1,4 @@
-use Rattle.std.proofs.Common.{◌≡◌, ℕ, List, All, ◌<◌, sym, subst}
+use Rattle.std.proofs.Common.{ℕ, List, All, ◌<◌, sym, subst}
 use Rattle.std.specs.Map.{keys_of}
 use Rattle.std.specs.Ordering.{nat_cmp}
 use Rattle.std.proofs.lemmas.Map.Views.{All-keys-insert_entry}
