@@ -1,0 +1,9 @@
+pub mod BatchLemmas
+pub mod EndLemmas
+pub mod ChunkLemmas
+pub mod FirstLemmas
+pub mod FaultLemmas
+pub mod LeafLemmas
+pub mod KeptLemmas
+pub mod CheckLemmas
+pub mod StepLemmas

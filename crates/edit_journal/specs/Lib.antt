@@ -1,0 +1,9 @@
+pub mod Edit
+pub mod Leaves
+pub mod Faults
+pub mod Batches
+pub mod Journal
+pub mod Kept
+pub mod Chunks
+pub mod Refusal
+pub mod Laws

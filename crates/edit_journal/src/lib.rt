@@ -1,0 +1,19 @@
+//! The accepted edits of a survey: which edits are accepted, and the leaf tiles that they leave.
+//!
+//! A `Journal` keeps the opening leaves and every batch of edits since. `check` judges an edit by all edits before it, and
+//! `append` answers a new journal, which shares all it can with the old one.
+#![tactic(auto)]
+
+mod edit;
+mod fault;
+mod journal;
+mod judge;
+pub mod laws;
+mod newest;
+mod notes;
+#[cfg(test)]
+mod tests;
+
+pub use edit::Edit;
+pub use fault::{BatchFault, BatchRefusal, EditFault, EditRefusal, StartRefusal};
+pub use journal::Journal;
