@@ -1,7 +1,8 @@
 #!/bin/sh
 # Has tools of others check the FITS files that this repository writes: one tile file of each depth is printed by a test of
-# fits_tile, and two coverage files by a test of coverage_moc, both `prints_files_for_tools_of_others`. The tools are Debian's fitsverify and python3-astropy (install-tools.sh).
-# Where one is missing this fails if CI=true, and else says what was left out.
+# fits_tile, and two coverage files by a test of coverage_moc, both `prints_files_for_tools_of_others`. The tools are Debian's
+# fitsverify and python3-astropy (install-tools.sh). Where one is missing this fails if CI=true, and else says what was left
+# out.
 cd "$(dirname "$0")/.." || exit 1
 python=/usr/bin/python3
 missing=

@@ -1,9 +1,11 @@
 #!/bin/sh
-# Installs the tools of others that the checks of this repository call (Debian's fitsverify and python3-astropy), where they
-# are missing and this runs as root. Elsewhere it says what is missing; check-fits.sh decides what follows from that.
+# Installs the tools of others that the checks of this repository call (Debian's fitsverify, python3-astropy
+# and python3-healpy), where they are missing and this runs as root. Elsewhere it says what is missing; the checks decide what
+# follows from that.
 missing=
 command -v fitsverify >/dev/null 2>&1 || missing="$missing fitsverify"
 /usr/bin/python3 -c 'import astropy' 2>/dev/null || missing="$missing python3-astropy"
+/usr/bin/python3 -c 'import healpy' 2>/dev/null || missing="$missing python3-healpy"
 [ -z "$missing" ] && exit 0
 if [ "$(id -u)" -ne 0 ] || ! command -v apt-get >/dev/null 2>&1; then
     echo "install-tools: not installed here:$missing"
