@@ -8,11 +8,10 @@ use crate::shelf_path::is_left_over;
 use crate::sink::write_whole;
 use crate::stream::StreamSink;
 use std::alloc::{AllocError, Global};
-use std::fs;
 use std::fs::{File, Metadata, OpenOptions};
-use std::io;
 use std::io::{ErrorKind, Read};
 use std::rt::Files;
+use std::{fs, io};
 
 /// The current folder. It tells nothing of its files.
 #[derive(Drop)]
