@@ -50,28 +50,9 @@ fn has(tile: &Tile, numbers: &[i16]) -> bool {
     at == numbers.len()
 }
 
-// A row: the rule, n, the four children, of which one that isn't there is `-`, and the tile above them.
-#[derive(Drop)]
-struct Row<'a> {
-    is_median: bool,
-    n: u8,
-    children: [&'a str; 4],
-    above: &'a str,
-}
-
-fn read_row(line: &str) -> Row<'_> {
-    let mut fields = line.split('|');
-    Row {
-        is_median: fields.next() == Some("median"),
-        n: if fields.next() == Some("2") { 2 } else { 1 },
-        children: [
-            fields.next().unwrap_or(""),
-            fields.next().unwrap_or(""),
-            fields.next().unwrap_or(""),
-            fields.next().unwrap_or(""),
-        ],
-        above: fields.next().unwrap_or(""),
-    }
+// A row: the rule, n, the four children, of which one that isn't there is `-`, and the tile above them, a `|` between them.
+fn field(row: &str, at: usize) -> &str {
+    row.split('|').nth(at).unwrap_or("")
 }
 
 fn child(alloc: Global, depth: Depth, n: u8, text: &str) -> Result<Option<Tile>, Fail>
@@ -85,18 +66,13 @@ fn child(alloc: Global, depth: Depth, n: u8, text: &str) -> Result<Option<Tile>,
     Ok(Some(tile(alloc, depth, n, &numbers)?))
 }
 
-fn children(
-    alloc: Global,
-    depth: Depth,
-    n: u8,
-    texts: &[&str; 4],
-) -> Result<Vec<Option<Tile>>, Fail>
+fn children(alloc: Global, depth: Depth, n: u8, row: &str) -> Result<Vec<Option<Tile>>, Fail>
     requires least_n { 1 ≤ n }
     requires greatest_n { n ≤ 9 }
 {
     let mut tiles = Vec::new(alloc);
-    for text in texts {
-        tiles.push(child(alloc, depth, n, *text)?)?;
+    for at in 2..6 {
+        tiles.push(child(alloc, depth, n, field(row, at))?)?;
     }
     Ok(tiles)
 }
@@ -143,13 +119,12 @@ fn depth_of(is_median: bool) -> Option<Depth> {
 }
 
 // Whether the children of the row are merged into the tile above them.
-fn merges(alloc: Global, line: &str) -> Result<bool, Fail> {
-    let row = read_row(line);
-    let depth = depth_of(row.is_median).ok_or("no depth")?;
-    let n = if row.n == 2 { 2 } else { 1 };
-    let tiles = children(alloc, depth, n, &row.children)?;
+fn merges(alloc: Global, row: &str) -> Result<bool, Fail> {
+    let depth = depth_of(field(row, 0) == "median").ok_or("no depth")?;
+    let n = if field(row, 1) == "2" { 2 } else { 1 };
+    let tiles = children(alloc, depth, n, row)?;
     let above = merged(alloc, depth, n, &tiles)?;
-    Ok(has(&above, &numbers(alloc, row.above)?))
+    Ok(has(&above, &numbers(alloc, field(row, 6))?))
 }
 
 static ROWS: &str = "\
