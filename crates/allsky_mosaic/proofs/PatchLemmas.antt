@@ -1,25 +1,23 @@
 -- A mosaic square by square: what was there before some cells were touched, and what all squares are together.
-use Rattle.std.proofs.Common.{◌≡◌, ◌≢◌, ℕ, ◌+◌, ◌-◌, ◌*◌, ◌/◌, ◌%◌, ◌^◌, ◌<◌, ◌≤◌, List, ℤ, Option, length, take, drop, get_or, refl, sym, ap, subst, ◌∙◌, inl, inr, arith, pos}
+use Rattle.std.proofs.Common.{◌≡◌, ◌≢◌, ℕ, ◌+◌, ◌-◌, ◌*◌, ◌/◌, ◌%◌, ◌<◌, ◌≤◌, List, ℤ, length, take, drop, get_or, refl, sym, ap, subst, ◌∙◌, inl, inr, arith, pos}
 use Rattle.std.specs.Prelude.{IsTrue, Contains}
 use Rattle.std.proofs.lemmas.Bool.{cases_eq}
 use Rattle.std.proofs.lemmas.Nat.{div-mul-add, mod-mul-add, row_fits}
 use Rattle.std.proofs.lemmas.List.{length-take-le, length-drop}
 use Rattle.std.proofs.lemmas.List.FromFn.{get_or-map-range_with_len}
-use Rattle.healpix_nested.specs.Place.{z_order}
 use Rattle.parent_rule.specs.Depth.{PixelDepth, is_bitpix}
 use Rattle.pyramid_model.specs.Shape.{PyramidShape, LeafMap}
-use Rattle.leaf_store.specs.Store.{value_at}
 use Rattle.tile_pixels.specs.Tile.{PixelTile}
-use Rattle.tile_pixels.specs.Stored.{numbers_from, stored_at}
+use Rattle.tile_pixels.specs.Stored.{stored_at}
 use Rattle.tile_pixels.specs.StoredLaws.{get_or-numbers_from, number_from-part}
 use Rattle.allsky_mosaic.specs.Mosaic.{side_of, place_pixel, mosaic_number, mosaic_count, mosaic}
-use Rattle.allsky_mosaic.specs.Tiles.{AreOfOrder3, IsSurvey, IsMosaic, order_3, leaves_of}
+use Rattle.allsky_mosaic.specs.Tiles.{IsSurvey, IsMosaic, order_3, leaves_of}
 use Rattle.allsky_mosaic.specs.Patch.{WasMosaicOf, WasMosaic}
 use Rattle.allsky_mosaic.specs.Cells.{ShowCells, ShowBands, ShowsPlace, band_number, number_in_place}
 use Rattle.allsky_mosaic.proofs.BandLemmas.{in_band}
 use Rattle.allsky_mosaic.proofs.MosaicLemmas.{number_at, cells_of_tiles, mosaic_of_bands}
 use Rattle.allsky_mosaic.proofs.SameCells.{same_place}
-use Rattle.allsky_mosaic.proofs.Strips.{strip_in, strip_other, times}
+use Rattle.allsky_mosaic.proofs.Strips.{strip_in, strip_other}
 use borrow.Rule.Slice.PartMut.{put_mid}
 
 -- where a number of the square of a place stands

@@ -1,7 +1,6 @@
-use Rattle.std.proofs.Common.{◌≡◌, ◌≢◌, ℕ, ◌+◌, ◌*◌, ◌<◌, ◌∙◌}
+use Rattle.std.proofs.Common.{◌+◌, ◌*◌, ◌∙◌}
 use Rattle.std.proofs.lemmas.Nat.{mul-add-lt}
 use Rattle.allsky_mosaic.specs.Mosaic.{side_of}
-use Rattle.allsky_mosaic.specs.Cells.{band_number}
 use Rattle.allsky_mosaic.proofs.patching.patch_band.Goals as goal
 
 pub returns-clause-shown : goal.returns-clause-shown
