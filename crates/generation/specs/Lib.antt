@@ -1,0 +1,4 @@
+pub mod Generation
+pub mod Files
+pub mod Steps
+pub mod Served
