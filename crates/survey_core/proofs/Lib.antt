@@ -3,3 +3,5 @@ pub mod StateLemmas
 pub mod BatchLemmas
 pub mod FitsLemmas
 pub mod RoomLemmas
+pub mod LineLemmas
+pub mod EntryLemmas

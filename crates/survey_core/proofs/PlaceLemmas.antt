@@ -29,4 +29,3 @@ position-from_search test bytes (Some i) found =
     (λ k below. not_true (test (get_or bytes k 0)) (λ yes. found.0.before k (omega arith) below yes))
     (λ within. found.1))
     found.0.high)
-

@@ -6,4 +6,5 @@ pub mod State
 pub mod Refusal
 pub mod Line
 pub mod BatchBody
+pub mod Written
 pub mod Faults

@@ -1,5 +1,8 @@
 //! What follows from the definitions alone. Each function does nothing: its contract is the law.
 ghost use Rattle.survey_core.specs.Laws.{StatesStay, PrefixesStay, HistoriesGoOn, StatesAreSound};
+ghost use Rattle.survey_core.specs.Written.{BodiesAreEntries};
+
+use decimal_scale::laws::plain_is_read;
 
 /// The law of histories: of one history, and of two of which one is a prefix of the other. The batches of an earlier state
 /// are a prefix of those of each later state, its ends are ends of the later one, and tips never fall.
@@ -21,3 +24,11 @@ pub fn histories_go_on()
 pub fn states_are_sound()
     ensures { StatesAreSound }
 {}
+
+/// A body of 1 to 1,024 entries as they are written is read as the edits of these, and a body that is read as edits is
+/// written so.
+pub fn bodies_are_entries()
+    ensures { BodiesAreEntries }
+{
+    plain_is_read();
+}
