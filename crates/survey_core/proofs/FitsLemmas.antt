@@ -19,6 +19,7 @@ use Rattle.survey_core.specs.declared.line.Line.{Line}
 use Rattle.survey_core.specs.declared.line.Line.TheVariants.{Tiled, Remove}
 use Rattle.survey_core.specs.declared.fault.EntryFault.{EntryFault}
 use Rattle.survey_core.specs.declared.fault.EntryFault.TheVariants.{Short}
+use Rattle.survey_core.specs.Written.{FitsLine}
 use Rattle.survey_core.specs.BatchBody.{ReadEntry, edit_by, tile_by, tile_in, tiled_by, entry_by, entry_with, entry, BatchEntries, then_entries, entries_in, batch_entries}
 
 -- ---- options
@@ -36,11 +37,6 @@ mapped P Q None f here later = tt
 mapped P Q (Some a) f here later = later a here
 
 -- ---- lines
-
--- the numbers of a line are in range
-abbrev pub FitsLine : ℕ → Line → Type 0
-FitsLine top (Tiled verb leaf len) = (leaf < cell_count top) × (len < 2 ^ 32)
-FitsLine top (Remove leaf) = leaf < cell_count top
 
 checked : (limit n : ℕ) (b : Bool) → nat_lt n limit ≡ b → IfSome (cond b (Some n) None) (λ m. m < limit)
 checked limit n true below = grind (arith, nat_tests)

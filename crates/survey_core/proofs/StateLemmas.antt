@@ -1,5 +1,5 @@
 -- What a state keeps.
-use Rattle.std.proofs.Common.{◌≡◌, ℕ, zero, suc, ◌+◌, ◌<◌, ◌≤◌, List, [], ◌∷◌, ◌++◌, length, take, Option, Some, None, refl, sym, ap, ◌∙◌, subst, arith, length-append}
+use Rattle.std.proofs.Common.{◌≡◌, ℕ, zero, suc, ◌+◌, ◌<◌, ◌≤◌, List, [], ◌∷◌, ◌++◌, length, take, Option, Some, None, refl, sym, ap, ◌∙◌, subst, inl, inr, arith, length-append}
 use Rattle.std.specs.Prelude.{All, Contains, find, is_some, option_map, option_and_then}
 use Rattle.std.specs.List.{range_with_len}
 use Rattle.std.proofs.lemmas.List.{take-append-le}
@@ -10,11 +10,17 @@ use Rattle.edit_journal.specs.Faults.{edit_fault, batch_fault, item_fault}
 use Rattle.edit_journal.specs.Batches.{edits_of, ends}
 use Rattle.edit_journal.specs.Journal.{JournalContent, IsJournal, journal_edits}
 use Rattle.generation.specs.Generation.{GenerationContent}
-use Rattle.survey_core.specs.History.{AppendsBatch}
-use Rattle.survey_core.specs.HistoryLaws.{edits_of-append, end_within, end_stays, zero_is_end}
+use Rattle.survey_core.specs.History.{SurveyState, opening_state, AppendsBatch, IsBatchStep, IsPublication, IsReached}
+use Rattle.survey_core.specs.HistoryLaws.{edits_of-append, end_within, end_stays, zero_is_end, reached_first, reached_more}
 use Rattle.survey_core.specs.State.{StateContent, state_edits, survey_state, journal_of, IsState, kept_content, IsKept}
 
 -- the first state
+at_first : (opening : LeafTiles) (batches : List (List LeafEdit)) (tip : ℕ) → batches ≡ [] → tip ≡ 0 →
+    (let state : SurveyState = record { batches = batches; tip = tip } in IsReached opening state)
+at_first opening batches tip none first =
+    let same : (let state : SurveyState = record { batches = batches; tip = tip } in opening_state ≡ state) = cc in
+    subst (IsReached opening) same (reached_first opening)
+
 pub kept_first : (journal : JournalContent) (generation : GenerationContent) → journal.shape ≡ generation.conf.shape → journal.opening ≡ generation.leaves → journal.batches ≡ [] →
     generation.prefix ≡ 0 → IsKept journal generation
 unfolding leaves_of
@@ -22,22 +28,51 @@ kept_first journal generation shape leaves none first = record {
   shape = shape;
   whole = subst (Contains (ends journal.batches)) (sym first) (zero_is_end journal.batches);
   leaves = rw first (sym leaves);
+  reached = at_first journal.opening journal.batches generation.prefix none first;
 }
 
--- more batches
-pub kept_more : (journal next : JournalContent) (generation : GenerationContent) (more : List (List LeafEdit)) → IsKept journal generation →
-    next ≡ record journal { batches = journal.batches ++ more } → IsKept next generation
-kept_more journal next generation more kept is =
-    let longer : JournalContent = record journal { batches = journal.batches ++ more } in
-    let same : take generation.prefix (edits_of (journal.batches ++ more)) ≡ take generation.prefix (edits_of journal.batches) =
-    ap (take generation.prefix) (edits_of-append journal.batches more)
-    ∙ take-append-le generation.prefix (edits_of journal.batches) (edits_of more) (end_within journal.batches generation.prefix kept.whole) in
+-- one batch more
+pub kept_batch : (journal next : JournalContent) (generation : GenerationContent) (batch : List LeafEdit) → IsKept journal generation →
+    next ≡ record journal { batches = journal.batches ++ batch ∷ [] } → 0 < length batch → batch_fault journal.opening (journal_edits journal) batch ≡ None → IsKept next generation
+kept_batch journal next generation batch kept is some none =
+    let longer : JournalContent = record journal { batches = journal.batches ++ batch ∷ [] } in
+    let same : take generation.prefix (edits_of (journal.batches ++ batch ∷ [])) ≡ take generation.prefix (edits_of journal.batches) =
+    ap (take generation.prefix) (edits_of-append journal.batches (batch ∷ []))
+    ∙ take-append-le generation.prefix (edits_of journal.batches) (edits_of (batch ∷ [])) (end_within journal.batches generation.prefix kept.whole) in
+    let step : AppendsBatch journal.opening batch (survey_state (kept_content journal generation)) (survey_state (kept_content longer generation)) = record {
+      some = some;
+      accepted = none;
+      batches = refl;
+      tip = refl;
+    } in
     let grown : IsKept longer generation = record {
       shape = kept.shape;
-      whole = end_stays journal.batches more generation.prefix kept.whole;
+      whole = end_stays journal.batches (batch ∷ []) generation.prefix kept.whole;
       leaves = kept.leaves ∙ ap (leaves_of journal.opening) (sym same);
+      reached = reached_more journal.opening (survey_state (kept_content journal generation)) (survey_state (kept_content longer generation)) kept.reached
+      (inl (record { batch = batch; appended = step }));
     } in
     subst (λ j. IsKept j generation) (sym is) grown
+
+-- another generation
+pub kept_published : (state : StateContent) (journal next : JournalContent) (old generation : GenerationContent) → kept_content journal old ≡ state → IsKept journal old → next ≡ journal →
+    generation.conf ≡ state.conf → Contains (ends state.batches) generation.prefix → generation.leaves ≡ leaves_of state.opening (take generation.prefix (state_edits state)) →
+    state.tip < generation.prefix → IsKept next generation
+kept_published state journal next old generation is kept same conf whole leaves rises =
+    let tip : old.prefix ≡ state.tip = ap (λ s. s.tip) is in
+    let there : Contains (ends journal.batches) generation.prefix = subst (λ s. Contains (ends s.batches) generation.prefix) (sym is) whole in
+    let step : IsPublication (survey_state (kept_content journal old)) (survey_state (kept_content journal generation)) = record {
+      batches = refl;
+      rises = omega arith;
+      whole = there;
+    } in
+    let made : IsKept journal generation = record {
+      shape = kept.shape ∙ ap (λ conf. conf.shape) (ap (λ s. s.conf) is ∙ sym conf);
+      whole = there;
+      leaves = leaves ∙ ap (λ s. leaves_of s.opening (take generation.prefix (state_edits s))) (sym is);
+      reached = reached_more journal.opening (survey_state (kept_content journal old)) (survey_state (kept_content journal generation)) kept.reached (inr step);
+    } in
+    subst (λ j. IsKept j generation) (sym same) made
 
 -- one edit is a batch of its own
 nothing_more : {X : Type 0} (xs : List X) → xs ++ [] ≡ xs
@@ -69,6 +104,7 @@ state_sound state journal generation is kept sound =
     let shape : journal_of (kept_content journal generation) ≡ journal = ap (λ shape. record journal { shape = shape }) (sym kept.shape) in
     let found : IsState (kept_content journal generation) = record {
       journal = subst IsJournal (sym shape) sound;
+      reached = kept.reached;
       sound = record { some = sound.batches; whole = kept.whole; within = end_within journal.batches generation.prefix kept.whole };
     } in
     subst IsState is found

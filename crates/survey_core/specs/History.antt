@@ -54,6 +54,11 @@ abbrev pub IsHistory : LeafTiles → List SurveyState → Type 0
 IsHistory opening [] = ⊥
 IsHistory opening (first ∷ states) = (first ≡ opening_state) × GoesOn opening first states
 
+-- a history leads to the state
+pub record IsReached (opening : LeafTiles) (state : SurveyState) : Type 0 where
+  pub before : List SurveyState
+  pub history : IsHistory opening (before ++ state ∷ [])
+
 -- ys is xs and a rest
 pub record Begins {X : Type 0} (xs ys : List X) : Type 0 where
   pub rest : List X

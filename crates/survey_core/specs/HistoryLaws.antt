@@ -9,7 +9,7 @@ use Rattle.std.proofs.lemmas.List.Elements.{All-head, All-push}
 use Rattle.edit_journal.specs.Edit.{LeafEdit}
 use Rattle.edit_journal.specs.Leaves.{LeafTiles, leaves_of}
 use Rattle.edit_journal.specs.Batches.{edits_of, ends}
-use Rattle.survey_core.specs.History.{SurveyState, edits_at, opening_state, AppendsBatch, IsBatchStep, IsPublication, IsStep, GoesOn, IsHistory, Begins, Precedes, IsSound}
+use Rattle.survey_core.specs.History.{SurveyState, edits_at, opening_state, AppendsBatch, IsBatchStep, IsPublication, IsStep, GoesOn, IsHistory, IsReached, Begins, Precedes, IsSound}
 
 -- ---- a list and a rest
 
@@ -187,6 +187,21 @@ pub history_more : (opening : LeafTiles) (states : List SurveyState) (place : �
     slice_get states place ≡ Some last → place + 1 ≡ length states → IsStep opening last next → IsHistory opening (states ++ next ∷ [])
 history_more opening [] place last next history e len step = absurd history
 history_more opening (first ∷ states) place last next history e len step = (history.0, step_more opening first states place last next history.1 e len step)
+
+last_of : (before : List SurveyState) (state : SurveyState) → slice_get (before ++ state ∷ []) (length before) ≡ Some state
+last_of [] state = refl
+last_of (first ∷ before) state = last_of before state
+
+pub reached_first : (opening : LeafTiles) → IsReached opening opening_state
+reached_first opening = record { before = []; history = (refl, tt) }
+
+pub reached_more : (opening : LeafTiles) (old new : SurveyState) → IsReached opening old → IsStep opening old new → IsReached opening new
+reached_more opening old new reached step =
+    let count : length reached.before + 1 ≡ length (reached.before ++ old ∷ []) = sym (length-append reached.before (old ∷ [])) in
+    record {
+      before = reached.before ++ old ∷ [];
+      history = history_more opening (reached.before ++ old ∷ []) (length reached.before) old new reached.history (last_of reached.before old) count step;
+    }
 
 goes_on_front : (opening : LeafTiles) (state : SurveyState) (states rest : List SurveyState) → GoesOn opening state (states ++ rest) → GoesOn opening state states
 goes_on_front opening state [] rest on = tt

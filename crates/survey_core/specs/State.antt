@@ -6,7 +6,7 @@ use Rattle.edit_journal.specs.Leaves.{LeafTiles, leaves_of}
 use Rattle.edit_journal.specs.Batches.{edits_of, ends}
 use Rattle.edit_journal.specs.Journal.{JournalContent, IsJournal, journal_edits}
 use Rattle.generation.specs.Generation.{GenerationContent}
-use Rattle.survey_core.specs.History.{SurveyState, leaves_at, IsSound}
+use Rattle.survey_core.specs.History.{SurveyState, leaves_at, IsReached, IsSound}
 
 -- the survey's description and its opening leaves, the batches that were accepted, and how many edits are published
 pub record StateContent : Type 0 where
@@ -34,6 +34,7 @@ generation_of state = record { conf = state.conf; prefix = state.tip; leaves = l
 -- what is true of every state
 pub record IsState (state : StateContent) : Type 0 where
   pub journal : IsJournal (journal_of state)
+  pub reached : IsReached state.opening (survey_state state)
   pub sound : IsSound (survey_state state)
 
 -- ---- how it is kept: by its journal and its generation
@@ -41,8 +42,9 @@ pub record IsState (state : StateContent) : Type 0 where
 abbrev pub kept_content : JournalContent → GenerationContent → StateContent
 kept_content journal generation = record { conf = generation.conf; opening = journal.opening; batches = journal.batches; tip = generation.prefix }
 
--- the generation has the leaves after an end of the journal
+-- the generation has the leaves after an end of the journal, and a history leads there
 pub record IsKept (journal : JournalContent) (generation : GenerationContent) : Type 0 where
   pub shape : journal.shape ≡ generation.conf.shape
   pub whole : Contains (ends journal.batches) generation.prefix
   pub leaves : generation.leaves ≡ leaves_of journal.opening (take generation.prefix (journal_edits journal))
+  pub reached : IsReached journal.opening (survey_state (kept_content journal generation))
