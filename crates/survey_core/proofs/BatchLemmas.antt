@@ -1,20 +1,13 @@
 -- The entries of a body, one by one.
-use Rattle.std.proofs.Common.{◌≡◌, ℕ, zero, suc, ◌+◌, ◌-◌, ◌*◌, ◌<◌, ◌≤◌, Bool, true, false, cond, List, [], ◌∷◌, ◌++◌, map, length, Option, Some, None, Result, Ok, Err, refl, sym, ap, ◌∙◌, subst, arith, length-append, append_assoc, ltb}
-use Rattle.std.specs.Prelude.{All, count_by, is_some, ℤ}
-use Rattle.std.proofs.lemmas.Bool.Decides.{nat_tests}
+use Rattle.std.proofs.Common.{◌≡◌, ℕ, suc, ◌+◌, ◌-◌, ◌<◌, ◌≤◌, cond, List, [], ◌∷◌, ◌++◌, map, length, Option, Some, None, Ok, Err, refl, sym, ap, ◌∙◌, subst, arith, length-append, append_assoc}
+use Rattle.std.specs.Prelude.{is_some}
 use Rattle.std.proofs.lemmas.List.Sums.{sum_by-append}
-use Rattle.std.proofs.lemmas.List.Elements.{All-nil, All-cons}
-use Rattle.healpix_nested.specs.Cells.{cell_count}
 use Rattle.survey_conf.specs.Description.{Description}
-use Rattle.tile_pixels.specs.Tile.{PixelTile}
-use Rattle.fits_tile.specs.Reading.{reads}
-use Rattle.fits_tile.specs.declared.fault.TileFault.{TileFault}
 use Rattle.edit_journal.specs.Edit.{LeafEdit, put, add, replace, remove, tile_of, edit_of}
 use Rattle.edit_journal.specs.declared.edit.Edit.{Edit}
-use Rattle.edit_journal.specs.Leaves.{FitsEdit}
 use Rattle.survey_core.specs.declared.fault.EntryFault.{EntryFault}
 use Rattle.survey_core.specs.declared.fault.EntryFault.TheVariants.{Many, Line as NoLine}
-use Rattle.survey_core.specs.BatchBody.{ReadEntry, entry, most_entries, BatchEntries, faulty, with_edit, then_entries, entries_in, batch_entries, entry_tiles, tiles_of, tile_count, behind, read_so_far}
+use Rattle.survey_core.specs.BatchBody.{ReadEntry, entry, BatchEntries, faulty, then_entries, entries_in, batch_entries, entry_tiles, tiles_of, tile_count, behind, read_so_far}
 
 -- ---- edits, and then the entries of what is left
 

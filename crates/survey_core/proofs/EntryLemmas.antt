@@ -1,5 +1,5 @@
 -- An entry that is written is read, and what is read is written so.
-use Rattle.std.proofs.Common.{◌≡◌, ℕ, zero, suc, ◌+◌, ◌-◌, ◌<◌, ◌≤◌, Bool, true, false, cond, List, [], ◌∷◌, ◌++◌, length, take, drop, Option, Some, None, Result, Ok, Err, refl, sym, ap, ◌∙◌, subst, arith, length-append, append_assoc}
+use Rattle.std.proofs.Common.{◌≡◌, ℕ, zero, suc, ◌<◌, ◌≤◌, Bool, true, false, cond, List, [], ◌∷◌, ◌++◌, length, take, drop, Option, Some, None, Result, Ok, Err, refl, sym, ap, ◌∙◌, subst, arith, length-append, append_assoc}
 use Rattle.std.specs.Prelude.{nat_lt}
 use Rattle.std.proofs.lemmas.Bool.Decides.{nat_tests}
 use Rattle.std.proofs.lemmas.List.{take-append-drop, take_at, drop_at, length-take-le}
@@ -8,8 +8,8 @@ use Rattle.survey_conf.specs.Description.{Description, IsDescription}
 use Rattle.tile_pixels.specs.Tile.{PixelTile}
 use Rattle.edit_journal.specs.Edit.{LeafEdit, remove}
 use Rattle.survey_core.specs.Line.{line_feed, line_at}
-use Rattle.survey_core.specs.BatchBody.{ReadEntry, edit_by, tile_in, tiled_by, entry_by, entry_with, entry, BatchEntries, faulty, with_edit, then_entries, entries_in, batch_entries}
-use Rattle.survey_core.specs.Written.{line_text, FitsLine, IsEditOf, IsEntry, AreEntries, BodiesAreEntries}
+use Rattle.survey_core.specs.BatchBody.{ReadEntry, edit_by, tile_in, tiled_by, entry_by, entry_with, entry, BatchEntries, with_edit, then_entries, entries_in, batch_entries}
+use Rattle.survey_core.specs.Written.{line_text, IsEditOf, IsEntry, AreEntries, BodiesAreEntries}
 use Rattle.survey_core.specs.declared.line.Verb.{Verb}
 use Rattle.survey_core.specs.declared.line.Line.{Line}
 use Rattle.survey_core.specs.declared.line.Line.TheVariants.{Tiled, Remove}

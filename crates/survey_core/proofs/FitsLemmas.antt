@@ -1,5 +1,5 @@
 -- What is read fits the survey.
-use Rattle.std.proofs.Common.{◌≡◌, ℕ, zero, suc, ◌+◌, ◌<◌, ◌≤◌, ◌^◌, Bool, true, false, cond, List, [], ◌∷◌, ◌++◌, length, take, drop, Option, Some, None, Result, Ok, Err, refl, sym, ap, ◌∙◌, subst, arith, ltb}
+use Rattle.std.proofs.Common.{◌≡◌, ℕ, zero, suc, ◌<◌, ◌^◌, Bool, true, false, cond, List, [], ◌∷◌, length, take, drop, Option, Some, None, Result, Ok, Err, refl, arith}
 use Rattle.std.specs.Prelude.{All, IfSome, IfOk, ℤ, option_and_then, option_map, nat_lt, codes}
 use Rattle.std.specs.Str.{bytes_eq}
 use Rattle.std.proofs.lemmas.Bool.Decides.{nat_tests}
@@ -10,14 +10,12 @@ use Rattle.survey_conf.specs.Description.{Description}
 use Rattle.tile_pixels.specs.Tile.{PixelTile}
 use Rattle.fits_tile.specs.Reading.{reads}
 use Rattle.fits_tile.specs.declared.fault.TileFault.{TileFault}
-use Rattle.edit_journal.specs.Edit.{LeafEdit}
 use Rattle.edit_journal.specs.Leaves.{FitsEdit, FitsTile}
 use Rattle.survey_core.specs.Line.{number_below, verb_of, tiled_line, line_by, line_of, line_at, cut, space, line_feed}
 use Rattle.survey_core.specs.declared.line.Verb.{Verb}
 use Rattle.survey_core.specs.declared.line.Verb.TheVariants.{Put, Add, Replace}
 use Rattle.survey_core.specs.declared.line.Line.{Line}
 use Rattle.survey_core.specs.declared.line.Line.TheVariants.{Tiled, Remove}
-use Rattle.survey_core.specs.declared.fault.EntryFault.{EntryFault}
 use Rattle.survey_core.specs.declared.fault.EntryFault.TheVariants.{Short}
 use Rattle.survey_core.specs.Written.{FitsLine}
 use Rattle.survey_core.specs.BatchBody.{ReadEntry, edit_by, tile_by, tile_in, tiled_by, entry_by, entry_with, entry, BatchEntries, then_entries, entries_in, batch_entries}

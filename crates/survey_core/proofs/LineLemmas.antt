@@ -1,10 +1,9 @@
 -- A line that is written is read, and what is read is written so.
-use Rattle.std.proofs.Common.{◌≡◌, ℕ, zero, suc, ◌+◌, ◌-◌, ◌*◌, ◌<◌, ◌≤◌, ◌^◌, Bool, true, false, cond, List, [], ◌∷◌, ◌++◌, length, get_or, take, drop, Option, Some, None, refl, sym, ap, ◌∙◌, subst, arith, length-append, append_assoc, decimal}
-use Rattle.std.specs.Prelude.{◌==◌, not, position, option_and_then, option_map, nat_lt, codes}
-use Rattle.std.specs.List.{prefix_len, position_or_len}
+use Rattle.std.proofs.Common.{◌≡◌, ℕ, ◌+◌, ◌<◌, ◌≤◌, ◌^◌, Bool, true, false, cond, List, [], ◌∷◌, ◌++◌, length, get_or, take, drop, Option, Some, None, refl, sym, ap, ◌∙◌, subst, arith, length-append, append_assoc, decimal}
+use Rattle.std.specs.Prelude.{◌==◌, position, option_and_then, option_map, nat_lt, codes}
+use Rattle.std.specs.List.{position_or_len}
 use Rattle.std.specs.Str.{bytes_eq}
 use Rattle.std.specs.Str.Parse.{AllDigits, digits_value}
-use Rattle.std.specs.Int.{IsInRange}
 use Rattle.std.proofs.lemmas.Bool.Decides.{nat_tests}
 use Rattle.std.proofs.lemmas.List.{take-append-drop, drop_more, take_at, drop_at}
 use Rattle.std.proofs.lemmas.List.Quantifiers.{position-Some}
@@ -198,9 +197,11 @@ line_of_found law top text line e =
 
 text_lacks : (top : ℕ) (line : Line) → top ≤ 11 → FitsLine top line → Lacks line_feed (line_text line)
 text_lacks top (Tiled verb leaf len) few fits =
-    lacks_append line_feed (verb_text verb) (space ∷ (decimal leaf ++ (space ∷ decimal len))) (no_feed verb)
-    (refl, lacks_append line_feed (decimal leaf) (space ∷ decimal len) (decimal_lacks line_feed leaf (omega arith) (leaf_small top leaf few fits.0))
-    (refl, decimal_lacks line_feed len (omega arith) (let short : len < 2 ^ 32 = fits.1 in omega arith)))
+    lacks_append line_feed (verb_text verb) (space ∷ (decimal leaf ++ (space ∷ decimal len))) (no_feed verb) (
+      refl,
+      lacks_append line_feed (decimal leaf) (space ∷ decimal len) (decimal_lacks line_feed leaf (omega arith) (leaf_small top leaf few fits.0))
+          (refl, decimal_lacks line_feed len (omega arith) (let short : len < 2 ^ 32 = fits.1 in omega arith)),
+    )
   where
     no_feed : (verb : Verb) → Lacks line_feed (verb_text verb)
     no_feed Put = (refl, (refl, (refl, tt)))
@@ -222,6 +223,7 @@ line_at_found law top bytes found e =
     let parts = bind_some (cut line_feed bytes) _ found e in
     let line = bind_some (line_of top parts.value.0) _ found parts.then in
     let is : (line.value, parts.value.1) ≡ found = cc (line.then) in
-    let text = line_of_found law top parts.value.0 line.value line.is in
-    (cut_found line_feed bytes parts.value parts.is ∙ ap (λ t. t ++ (line_feed ∷ parts.value.1)) text.0 ∙ ap (λ f. line_text f.0 ++ (line_feed ∷ f.1)) is,
-      subst (λ f. FitsLine top f.0) is text.1)
+    let text = line_of_found law top parts.value.0 line.value line.is in (
+      cut_found line_feed bytes parts.value parts.is ∙ ap (λ t. t ++ (line_feed ∷ parts.value.1)) text.0 ∙ ap (λ f. line_text f.0 ++ (line_feed ∷ f.1)) is,
+      subst (λ f. FitsLine top f.0) is text.1,
+    )

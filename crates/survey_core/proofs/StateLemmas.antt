@@ -1,16 +1,14 @@
 -- What a state keeps.
-use Rattle.std.proofs.Common.{◌≡◌, ℕ, zero, suc, ◌+◌, ◌<◌, ◌≤◌, List, [], ◌∷◌, ◌++◌, length, take, Option, Some, None, refl, sym, ap, ◌∙◌, subst, inl, inr, arith, length-append}
-use Rattle.std.specs.Prelude.{All, Contains, find, is_some, option_map, option_and_then}
-use Rattle.std.specs.List.{range_with_len}
+use Rattle.std.proofs.Common.{◌≡◌, ℕ, ◌<◌, ◌≤◌, List, [], ◌∷◌, ◌++◌, length, take, None, refl, sym, ap, ◌∙◌, subst, inl, inr, arith}
+use Rattle.std.specs.Prelude.{Contains}
 use Rattle.std.proofs.lemmas.List.{take-append-le}
-use Rattle.std.proofs.lemmas.List.Elements.{All-head}
 use Rattle.edit_journal.specs.Edit.{LeafEdit}
 use Rattle.edit_journal.specs.Leaves.{LeafTiles, leaves_of}
 use Rattle.edit_journal.specs.Faults.{edit_fault, batch_fault, item_fault}
 use Rattle.edit_journal.specs.Batches.{edits_of, ends}
 use Rattle.edit_journal.specs.Journal.{JournalContent, IsJournal, journal_edits}
 use Rattle.generation.specs.Generation.{GenerationContent}
-use Rattle.survey_core.specs.History.{SurveyState, opening_state, AppendsBatch, IsBatchStep, IsPublication, IsReached}
+use Rattle.survey_core.specs.History.{SurveyState, opening_state, AppendsBatch, IsPublication, IsReached}
 use Rattle.survey_core.specs.HistoryLaws.{edits_of-append, end_within, end_stays, zero_is_end, reached_first, reached_more}
 use Rattle.survey_core.specs.State.{StateContent, state_edits, survey_state, journal_of, IsState, kept_content, IsKept}
 
@@ -50,7 +48,7 @@ kept_batch journal next generation batch kept is some none =
       whole = end_stays journal.batches (batch ∷ []) generation.prefix kept.whole;
       leaves = kept.leaves ∙ ap (leaves_of journal.opening) (sym same);
       reached = reached_more journal.opening (survey_state (kept_content journal generation)) (survey_state (kept_content longer generation)) kept.reached
-      (inl (record { batch = batch; appended = step }));
+          (inl (record { batch = batch; appended = step }));
     } in
     subst (λ j. IsKept j generation) (sym is) grown
 

@@ -1,6 +1,6 @@
 -- What follows from the definitions of `History`.
-use Rattle.std.proofs.Common.{◌≡◌, ℕ, zero, suc, ◌+◌, ◌<◌, ◌≤◌, List, [], ◌∷◌, ◌++◌, map, length, take, drop, get_or, Some, None, refl, sym, ap, ◌∙◌, subst, inl, inr, arith, length-append, append_assoc, zero-add}
-use Rattle.std.specs.Prelude.{◌⊎◌, flat_map, All, Contains, slice_get}
+use Rattle.std.proofs.Common.{◌≡◌, ℕ, zero, suc, ◌+◌, ◌<◌, ◌≤◌, List, [], ◌∷◌, ◌++◌, map, length, take, drop, Some, refl, sym, ap, ◌∙◌, subst, inl, inr, arith, length-append, append_assoc, zero-add}
+use Rattle.std.specs.Prelude.{All, Contains, slice_get}
 use Rattle.std.specs.List.{range_with_len}
 use Rattle.std.proofs.lemmas.List.{take-append-drop, take-append-le, take_all}
 use Rattle.std.proofs.lemmas.List.Concat.{flat_map-append}
@@ -9,7 +9,7 @@ use Rattle.std.proofs.lemmas.List.Elements.{All-head, All-push}
 use Rattle.edit_journal.specs.Edit.{LeafEdit}
 use Rattle.edit_journal.specs.Leaves.{LeafTiles, leaves_of}
 use Rattle.edit_journal.specs.Batches.{edits_of, ends}
-use Rattle.survey_core.specs.History.{SurveyState, edits_at, opening_state, AppendsBatch, IsBatchStep, IsPublication, IsStep, GoesOn, IsHistory, IsReached, Begins, Precedes, IsSound}
+use Rattle.survey_core.specs.History.{SurveyState, edits_at, opening_state, AppendsBatch, IsPublication, IsStep, GoesOn, IsHistory, IsReached, Begins, Precedes, IsSound}
 
 -- ---- a list and a rest
 

@@ -1,4 +1,4 @@
-use Rattle.std.proofs.Common.{◌+◌, ◌*◌, ◌/◌, ◌^◌, ◌≤◌, arith}
+use Rattle.std.proofs.Common.{◌+◌, ◌*◌, ◌≤◌, arith}
 use Rattle.fits_header.specs.Cards.{whole_blocks}
 use Rattle.fits_tile.specs.TileFile.{data_len}
 use Rattle.survey_core.proofs.RoomLemmas.{room_fits}

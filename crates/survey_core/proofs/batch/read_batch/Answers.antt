@@ -1,10 +1,10 @@
-use Rattle.std.proofs.Common.{◌≡◌, ◌<◌, None, length, map, sym, ap, ◌∙◌, subst, refl, arith}
+use Rattle.std.proofs.Common.{◌≡◌, ◌<◌, None, length, map, ap, subst, arith}
 use Rattle.std.specs.Prelude.{All}
 use Rattle.std.proofs.lemmas.Bool.Decides.{nat_tests}
 use Rattle.std.proofs.lemmas.List.{length-map}
 use Rattle.edit_journal.specs.Edit.{edit_of}
 use Rattle.edit_journal.specs.Leaves.{FitsEdit}
-use Rattle.survey_core.specs.BatchBody.{BatchEntries, batch_entries}
+use Rattle.survey_core.specs.BatchBody.{batch_entries}
 use Rattle.survey_core.proofs.BatchLemmas.{empty_body, begun_body, whole_body, some_entry}
 use Rattle.survey_core.proofs.FitsLemmas.{batch_fits}
 use Rattle.survey_core.proofs.batch.read_batch.Goals as goal

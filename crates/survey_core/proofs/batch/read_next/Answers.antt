@@ -1,8 +1,8 @@
-use Rattle.std.proofs.Common.{List, [], ◌∷◌, ◌++◌, ◌≡◌, ◌<◌, ◌+◌, ◌≤◌, map, length, sym, ap, ◌∙◌, arith}
+use Rattle.std.proofs.Common.{List, [], ◌∷◌, ◌++◌, ◌≡◌, ◌<◌, map, length, ap, ◌∙◌, arith}
 use Rattle.std.proofs.lemmas.List.{length-map, map-append}
 use Rattle.edit_journal.specs.declared.edit.Edit.{Edit}
 use Rattle.edit_journal.specs.Edit.{edit_of}
-use Rattle.survey_core.specs.BatchBody.{read_so_far, tiles_of, tile_count, entry, entry_tiles}
+use Rattle.survey_core.specs.BatchBody.{read_so_far}
 use Rattle.survey_core.proofs.BatchLemmas.{so_far-many, so_far-fault, so_far-more, so_far-tiles}
 use Rattle.survey_core.proofs.batch.read_next.Goals as goal
 

@@ -1,7 +1,7 @@
 use Rattle.std.proofs.Common.{length, sym, ap, ◌∙◌, subst}
 use Rattle.std.specs.Prelude.{Contains}
 use Rattle.std.specs.Arc.{arc_value}
-use Rattle.edit_journal.specs.Batches.{edits_of, ends}
+use Rattle.edit_journal.specs.Batches.{ends}
 use Rattle.survey_core.specs.HistoryLaws.{all_is_end, sound_first}
 use Rattle.survey_core.specs.State.{state_edits, survey_state, IsState}
 use Rattle.survey_core.proofs.StateLemmas.{state_sound}

@@ -1,4 +1,4 @@
-use Rattle.std.proofs.Common.{sym, ap, ◌∙◌}
+use Rattle.std.proofs.Common.{ap, ◌∙◌}
 use Rattle.std.specs.Arc.{arc_value}
 use Rattle.survey_core.proofs.StateLemmas.{kept_first}
 use Rattle.survey_core.proofs.state.State.start.Goals as goal
