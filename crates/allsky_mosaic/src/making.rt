@@ -8,6 +8,7 @@ use crate::bands::{ROWS, band};
 use leaf_store::Store;
 use parent_rule::Depth;
 use std::alloc::{AllocError, Global};
+use std::thread::Threads;
 use tile_pixels::Tile;
 
 /// The mosaic of the tiles of order 3, as the stored bytes of its image, bottom line first; `None` exactly where there is
@@ -18,7 +19,8 @@ use tile_pixels::Tile;
 /// # Errors
 ///
 /// `AllocError` where there is no memory for the mosaic.
-pub fn whole(
+pub fn whole<R: Threads + Sync>(
+    rt: &R,
     alloc: Global,
     depth: Depth,
     n: u8,
@@ -35,6 +37,7 @@ pub fn whole(
     if tiles.len() == 0 {
         return Ok(None);
     }
+    let _rt = rt;
     let raw = bands(alloc, depth, n, tiles, ROWS - 1, ROWS)?;
     Ok(Some(raw))
 }

@@ -70,9 +70,9 @@ fn shows_tiles_of_two_columns(rt: HostRuntime) -> Result<(), Fail> {
     let alloc = rt.alloc();
     let depth = Depth::new(16, i64::from(B)).ok_or("no depth")?;
     let none = tiles(alloc, depth, 1, &[])?;
-    assert!(rt; whole(alloc, depth, 1, &none)?.is_none());
+    assert!(rt; whole(&rt, alloc, depth, 1, &none)?.is_none());
     let last = tiles(alloc, depth, 1, &[(767, [9, B, B, B])])?;
-    let raw = whole(alloc, depth, 1, &last)?.ok_or("no mosaic")?;
+    let raw = whole(&rt, alloc, depth, 1, &last)?.ok_or("no mosaic")?;
     assert_numbers(&rt, &raw, 2 * 54 * 58, &[(76, 9)]);
     let several = tiles(
         alloc,
@@ -85,7 +85,7 @@ fn shows_tiles_of_two_columns(rt: HostRuntime) -> Result<(), Fail> {
             (767, [14, 15, 16, 17]),
         ],
     )?;
-    let raw = whole(alloc, depth, 1, &several)?.ok_or("no mosaic")?;
+    let raw = whole(&rt, alloc, depth, 1, &several)?.ok_or("no mosaic")?;
     let wanted = [
         (3078, 1),
         (3079, 2),
@@ -125,7 +125,7 @@ fn halves_a_larger_tile(rt: HostRuntime) -> Result<(), Fail> {
     ];
     for (n, four, wanted) in cases {
         let one = tiles(alloc, depth, n, &[(28, four)])?;
-        let raw = whole(alloc, depth, n, &one)?.ok_or("no mosaic")?;
+        let raw = whole(&rt, alloc, depth, n, &one)?.ok_or("no mosaic")?;
         assert_eq!(rt; raw.len(), 2 * 1728 * 1856);
         // Cell 28 stands in row 1 and column 1: columns 64 to 127, lines 1,728 to 1,791 from the bottom.
         for (column, up) in [(64, 1728), (127, 1728), (64, 1791), (127, 1791), (90, 1750)] {

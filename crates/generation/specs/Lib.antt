@@ -1,0 +1,5 @@
+pub mod Generation
+pub mod Files
+pub mod Steps
+pub mod Served
+pub mod Kept

@@ -1,0 +1,11 @@
+//! A generation: every file of one published state of a survey, held in memory.
+//!
+//! `Generation::start` makes it of leaves, `Generation::next` of the generation before it by what changed. Both hold, byte
+//! for byte, what the definition of the files makes of the leaves. `file` and `file_parts` hand the files out.
+#![tactic(auto)]
+
+mod files;
+mod generation;
+
+pub use files::{Body, Parts};
+pub use generation::Generation;

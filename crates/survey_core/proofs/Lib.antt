@@ -1,0 +1,5 @@
+pub mod PlaceLemmas
+pub mod StateLemmas
+pub mod BatchLemmas
+pub mod FitsLemmas
+pub mod RoomLemmas
