@@ -1,0 +1,4 @@
+pub mod Board
+pub mod Answers
+pub mod Next
+pub mod Solo

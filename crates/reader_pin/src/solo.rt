@@ -1,0 +1,164 @@
+//! The board of a survey that nobody else changes.
+ghost use Rattle.std.specs.Prelude.{◌≡◌, ℕ, ◌*◌, ◌<◌, ◌≤◌, [], map, length, All, option_map, IfOk, IfErr, OnOk, OnErr};
+ghost use Rattle.edit_journal.specs.Edit.{edit_of, leaf_of};
+ghost use Rattle.edit_journal.specs.Leaves.{FitsEdit, leaves_of};
+ghost use Rattle.edit_journal.specs.Faults.{has_leaf};
+ghost use Rattle.dirty_plan.specs.Dirty.{work, steps_after};
+ghost use Rattle.generation.specs.Steps.{touched};
+ghost use Rattle.survey_core.specs.History.{IsStep, IsPublication, IsHistory};
+ghost use Rattle.survey_core.specs.State.{state_edits, survey_state};
+ghost use Rattle.reader_pin.specs.Board.{Stays, last_seen, state_in, holding_last, holding_none, publish_work};
+ghost use Rattle.reader_pin.specs.Answers.{Accepts, AcceptsAll, TellsRefusal, TellsBatchRefusal, TellsPublished};
+
+use crate::answer::{Accepted, BoardBatch, BoardRefusal, Published};
+use crate::board::Board;
+use crate::held::Held;
+use crate::mark::Mark;
+use crate::next::{after_batch, after_edit, after_publication};
+use edit_journal::Edit;
+use parent_rule::Steps;
+use std::alloc::{AllocError, Global};
+use std::marker::Model;
+use std::mem::replace;
+use std::sync::Wait;
+use std::thread::Threads;
+use survey_core::State;
+use survey_link::Gate;
+
+/// The board of a survey that nobody else changes: it owns the survey's newest state, and every step of the history that it
+/// has seen is its own event. So it never waits, each fault is the newest state's, and a publication publishes all edits.
+#[derive(Drop)]
+pub struct Solo {
+    alloc: Global,
+    last: State,
+    seen: Vec<Mark>,
+    held: Held,
+}
+
+impl Model for Solo {
+    ghost use Rattle.reader_pin.specs.Board.{BoardContent};
+    ghost use Rattle.reader_pin.specs.Solo.{solo_content, IsSolo};
+
+    ghost Value = { BoardContent };
+
+    ghost view = { λ s. solo_content s.last s.seen.items s.held };
+
+    ghost invariant = { λ s. IsSolo s.last s.seen.items s.held };
+}
+
+impl Solo {
+    ghost use Rattle.reader_pin.specs.Board.{last_seen};
+    ghost use Rattle.reader_pin.specs.Solo.{opened, after_event, IsAlone};
+
+    /// The board of a survey whose first state this is.
+    ///
+    /// # Errors
+    ///
+    /// `AllocError` where there is no memory for what the board keeps of its history.
+    pub fn new(alloc: Global, state: State) -> Result<Solo, AllocError>
+        requires first { state.batches ≡ [] }
+        ensures { IfOk result (λ board. board ≡ opened state) }
+    {
+        let mut seen = Vec::new(alloc);
+        seen.push(Mark::of(&state))?;
+        Ok(Solo {
+            alloc,
+            last: state,
+            seen,
+            held: Held::Nothing,
+        })
+    }
+
+    /// Where the memory of the next state comes from.
+    fn alloc(&self) -> Global {
+        self.alloc
+    }
+
+    /// Goes on to the state after an event. What it keeps of the state takes its memory before.
+    fn go_on(&mut self, next: State) -> Result<(), AllocError>
+        requires conf { next.conf ≡ self.old.conf }
+        requires opening { next.opening ≡ self.old.opening }
+        requires step { IsStep self.old.opening (last_seen self.old) (survey_state next) }
+        ensures went { OnOk result (self.new ≡ after_event (survey_state next) self.old) }
+        ensures legal { IsHistory self.new.opening self.new.history }
+        ensures stayed { OnErr result (self.new ≡ self.old) }
+    {
+        self.seen.push(Mark::of(&next))?;
+        let earlier = replace(&mut self.last, next);
+        if let Held::Last = self.held {
+            self.held = Held::Earlier(earlier);
+        }
+        Ok(())
+    }
+}
+
+impl Board for Solo {
+    ghost use Rattle.reader_pin.specs.Solo.{IsAlone};
+
+    ghost content = { λ board. board };
+
+    /// There are no newer states.
+    fn pin(&mut self) {
+        let _legal = self.last();
+    }
+
+    fn last(&self) -> &State
+        ensures last { result.now ≡ state_in self.now (last_seen self.now) }
+        ensures legal { IsHistory self.now.opening self.now.history }
+        ensures alone { IsAlone self.now }
+    {
+        &self.last
+    }
+
+    fn hold(&mut self) {
+        self.held = Held::Last;
+    }
+
+    fn held(&self) -> Option<&State> {
+        match &self.held {
+            Held::Nothing => None,
+            Held::Last => Some(&self.last),
+            Held::Earlier(state) => Some(state),
+        }
+    }
+
+    fn release(&mut self) {
+        self.held = Held::Nothing;
+    }
+
+    fn edit<R: Wait>(&mut self, _rt: &R, edit: Edit) -> Result<Accepted, BoardRefusal> {
+        let (next, accepted) = after_edit(self.last(), edit)?;
+        self.go_on(next)?;
+        Ok(accepted)
+    }
+
+    fn batch<R: Wait>(&mut self, _rt: &R, edits: Vec<Edit>) -> Result<u32, BoardBatch> {
+        let (next, count) = after_batch(self.last(), edits)?;
+        self.go_on(next)?;
+        Ok(count)
+    }
+
+    /// Publishes all edits. The steps rise at most once for each cell over a leaf of an edit that wasn't published.
+    fn publish<R: Threads + Wait + Sync, G: Gate + Sync>(
+        &mut self,
+        rt: &R,
+        gate: &G,
+        steps: &mut Steps,
+    ) -> Result<Published, AllocError>
+        ensures published { IfOk result (TellsPublished self.old self.new) }
+        ensures unchanged { OnErr result (Stays self.old self.new) }
+        ensures steps { OnOk result (steps.new ≤ steps_after steps.old (2 * publish_work self.old self.new)) }
+        ensures once { OnOk result (steps.new ≤ steps_after steps.old (publish_work self.old self.new)) }
+        ensures never_falls { steps.old ≤ steps.new }
+    {
+        let last = self.last();
+        let edits = last.edits();
+        if last.tip() == edits {
+            let _count = steps.count();
+            return Ok(Published::Already(edits));
+        }
+        let next = after_publication(rt, self.alloc(), last, gate, steps)?;
+        self.go_on(next)?;
+        Ok(Published::New(edits))
+    }
+}
