@@ -1,4 +1,5 @@
 pub mod Board
 pub mod Answers
+pub mod Build
 pub mod Next
 pub mod Solo

@@ -5,12 +5,15 @@ ghost use Rattle.edit_journal.specs.Leaves.{FitsEdit};
 ghost use Rattle.dirty_plan.specs.Dirty.{steps_after};
 ghost use Rattle.survey_core.specs.History.{IsHistory};
 ghost use Rattle.reader_pin.specs.Board.{BoardContent, Stays, last_seen, state_in, holding_last, holding_none, publish_work};
+ghost use Rattle.reader_pin.specs.Build.{Builds};
 ghost use Rattle.reader_pin.specs.Answers.{Accepts, AcceptsAll, TellsRefusal, TellsBatchRefusal, TellsPublished};
 
 use crate::answer::{Accepted, BoardBatch, BoardRefusal, Published};
+use crate::build::{Built, build_whole};
 use edit_journal::Edit;
 use parent_rule::Steps;
 use std::alloc::AllocError;
+use std::mem::replace;
 use std::sync::Wait;
 use std::thread::Threads;
 use survey_core::State;
@@ -72,13 +75,33 @@ pub trait Board {
         ensures refused { IfErr result (TellsBatchRefusal (map edit_of edits.items) (content self.old) (content self.new)) };
 
     /// Publishes all edits that the board has seen, and perhaps newer ones: one event, or none where all edits are published.
+    /// It has generations built by `build`, at most twice, for want of which it answers `AllocError`: without the runtime's
+    /// threads, which a board has no right to start. `publish` is the call for everybody else.
+    ///
+    /// # Errors
+    ///
+    /// `AllocError` where there is no memory for the next state. It makes no event.
+    fn publish_by<R: Wait, F: Fn(&State, Steps) -> Built>(
+        &mut self,
+        rt: &R,
+        build: &F,
+        steps: Steps,
+    ) -> (Result<Published, AllocError>, Steps)
+        requires callable { (state : _) (before : _) → F.pre build.now state before }
+        requires builds { (state : _) (before : _) (built : _) → F.post build.now state before built → Builds state.now before built }
+        ensures published { IfOk result.0 (TellsPublished (content self.old) (content self.new)) }
+        ensures unchanged { OnErr result.0 (Stays (content self.old) (content self.new)) }
+        ensures steps { OnOk result.0 (result.1 ≤ steps_after steps (2 * publish_work (content self.old) (content self.new))) }
+        ensures never_falls { steps ≤ result.1 };
+
+    /// Publishes all edits that the board has seen, and perhaps newer ones: one event, or none where all edits are published.
     /// The gate is passed before each merge of tiles. The steps rise by one for each: at most twice for each cell over a leaf
     /// of the edits from the tip of the last state seen before to the last edit of the last one seen then.
     ///
     /// # Errors
     ///
     /// `AllocError` where there is no memory for the next state. It makes no event.
-    fn publish<R: Threads + Wait + Sync, G: Gate + Sync>(
+    final fn publish<R: Threads + Wait + Sync, G: Gate + Sync>(
         &mut self,
         rt: &R,
         gate: &G,
@@ -87,5 +110,12 @@ pub trait Board {
         ensures published { IfOk result (TellsPublished (content self.old) (content self.new)) }
         ensures unchanged { OnErr result (Stays (content self.old) (content self.new)) }
         ensures steps { OnOk result (steps.new ≤ steps_after steps.old (2 * publish_work (content self.old) (content self.new))) }
-        ensures never_falls { steps.old ≤ steps.new };
+        ensures never_falls { steps.old ≤ steps.new }
+    {
+        let build = |state: &State, before: Steps| build_whole(rt, gate, state, before);
+        let before = replace(steps, Steps::new());
+        let (published, after) = self.publish_by(rt, &build, before);
+        *steps = after;
+        published
+    }
 }

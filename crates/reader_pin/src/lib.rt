@@ -6,6 +6,7 @@
 
 mod answer;
 mod board;
+mod build;
 mod held;
 mod mark;
 mod next;
@@ -15,4 +16,5 @@ mod tests;
 
 pub use answer::{Accepted, BoardBatch, BoardRefusal, Published};
 pub use board::Board;
+pub use build::Built;
 pub use solo::Solo;

@@ -1,21 +1,18 @@
 //! The state after an event, of a survey whose newest state is at hand.
-ghost use Rattle.std.specs.Prelude.{◌≡◌, ℕ, ◌<◌, ◌≤◌, map, length, All, IfOk, IfErr};
+ghost use Rattle.std.specs.Prelude.{◌≡◌, ◌<◌, ◌≤◌, map, length, All, IfOk, IfErr};
 ghost use Rattle.edit_journal.specs.Edit.{edit_of};
 ghost use Rattle.edit_journal.specs.Leaves.{FitsEdit};
-ghost use Rattle.dirty_plan.specs.Dirty.{work, steps_after};
-ghost use Rattle.generation.specs.Steps.{touched};
 ghost use Rattle.survey_core.specs.State.{state_edits};
 ghost use Rattle.reader_pin.specs.Board.{Publishes};
+ghost use Rattle.reader_pin.specs.Build.{whole_generation};
 ghost use Rattle.reader_pin.specs.Next.{Follows, FollowsEdit, FollowsBatch, TellsRefusedEdit, TellsRefusedBatch};
 
 use crate::answer::{Accepted, BoardBatch, BoardRefusal};
 use edit_journal::{BatchRefusal, Edit, EditRefusal};
-use parent_rule::Steps;
+use generation::Generation;
 use std::alloc::{AllocError, Global};
 use std::sync::Arc;
-use std::thread::Threads;
 use survey_core::{InstallRefusal, State};
-use survey_link::Gate;
 
 /// The state after an edit, and what its board answers.
 pub(crate) fn after_edit(last: &State, edit: Edit) -> Result<(State, Accepted), BoardRefusal>
@@ -58,24 +55,17 @@ pub(crate) fn after_batch(last: &State, batch: Vec<Edit>) -> Result<(State, u32)
     }
 }
 
-/// The state with all edits published, where they aren't.
-pub(crate) fn after_publication<R: Threads + Sync, G: Gate + Sync>(
-    rt: &R,
+/// The state with the generation of all its edits published, where these weren't.
+pub(crate) fn after_generation(
     alloc: Global,
     last: &State,
-    gate: &G,
-    steps: &mut Steps,
+    generation: Generation,
 ) -> Result<State, AllocError>
-    requires { last.now.tip < length (state_edits last.now) }
-    ensures next { IfOk result (Follows (Publishes (length (state_edits last.now))) last.now) }
-    ensures steps { steps.new ≤ steps_after steps.old (
-        work last.now.conf.shape.top last.now.conf.shape.low (touched (state_edits last.now) last.now.tip (length (state_edits last.now)))) }
-    ensures never_falls { steps.old ≤ steps.new }
+    requires unpublished { last.now.tip < length (state_edits last.now) }
+    requires whole { generation ≡ whole_generation last.now }
+    ensures { IfOk result (Follows (Publishes (length (state_edits last.now))) last.now) }
 {
-    let edits = last.edits();
-    let generation = last
-        .generation()
-        .next(rt, last.journal(), edits, gate, steps)?;
+    let _edits = last.edits();
     match last.install(Arc::new(alloc, generation)?) {
         Ok(next) => Ok(next),
         Err(InstallRefusal::OutOfMemory) => Err(AllocError),

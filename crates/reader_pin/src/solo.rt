@@ -3,27 +3,27 @@ ghost use Rattle.std.specs.Prelude.{◌≡◌, ℕ, ◌*◌, ◌<◌, ◌≤◌,
 ghost use Rattle.edit_journal.specs.Edit.{edit_of, leaf_of};
 ghost use Rattle.edit_journal.specs.Leaves.{FitsEdit, leaves_of};
 ghost use Rattle.edit_journal.specs.Faults.{has_leaf};
-ghost use Rattle.dirty_plan.specs.Dirty.{work, steps_after};
-ghost use Rattle.generation.specs.Steps.{touched};
+ghost use Rattle.dirty_plan.specs.Dirty.{steps_after};
 ghost use Rattle.survey_core.specs.History.{IsStep, IsPublication, IsHistory};
 ghost use Rattle.survey_core.specs.State.{state_edits, survey_state};
-ghost use Rattle.reader_pin.specs.Board.{Stays, last_seen, state_in, holding_last, holding_none, publish_work};
+ghost use Rattle.reader_pin.specs.Board.{Stays, Happens, Publishes, last_seen, state_in, edit_count, holding_last, holding_none, publish_work};
+ghost use Rattle.reader_pin.specs.Build.{Builds, whole_generation};
 ghost use Rattle.reader_pin.specs.Answers.{Accepts, AcceptsAll, TellsRefusal, TellsBatchRefusal, TellsPublished};
 
 use crate::answer::{Accepted, BoardBatch, BoardRefusal, Published};
 use crate::board::Board;
+use crate::build::Built;
 use crate::held::Held;
 use crate::mark::Mark;
-use crate::next::{after_batch, after_edit, after_publication};
+use crate::next::{after_batch, after_edit, after_generation};
 use edit_journal::Edit;
+use generation::Generation;
 use parent_rule::Steps;
 use std::alloc::{AllocError, Global};
 use std::marker::Model;
 use std::mem::replace;
 use std::sync::Wait;
-use std::thread::Threads;
 use survey_core::State;
-use survey_link::Gate;
 
 /// The board of a survey that nobody else changes: it owns the survey's newest state, and every step of the history that it
 /// has seen is its own event. So it never waits, each fault is the newest state's, and a publication publishes all edits.
@@ -90,6 +90,24 @@ impl Solo {
         }
         Ok(())
     }
+
+    /// Publishes the generation of all edits, which aren't all published.
+    fn publish_built(
+        &mut self,
+        generation: Result<Generation, AllocError>,
+    ) -> Result<Published, AllocError>
+        requires unpublished { (last_seen self.old).tip < edit_count (last_seen self.old) }
+        requires whole { IfOk generation (λ generation. generation ≡ whole_generation (state_in self.old (last_seen self.old))) }
+        ensures published { IfOk result (λ published. published ≡ Published.New (edit_count (last_seen self.old))) }
+        ensures event { OnOk result (Happens (Publishes (edit_count (last_seen self.old))) self.old self.new) }
+        ensures unchanged { OnErr result (self.new ≡ self.old) }
+    {
+        let last = self.last();
+        let edits = last.edits();
+        let next = after_generation(self.alloc(), last, generation?)?;
+        self.go_on(next)?;
+        Ok(Published::New(edits))
+    }
 }
 
 impl Board for Solo {
@@ -138,27 +156,28 @@ impl Board for Solo {
         Ok(count)
     }
 
-    /// Publishes all edits. The steps rise at most once for each cell over a leaf of an edit that wasn't published.
-    fn publish<R: Threads + Wait + Sync, G: Gate + Sync>(
+    /// Publishes all edits, by one generation at most.
+    fn publish_by<R: Wait, F: Fn(&State, Steps) -> Built>(
         &mut self,
-        rt: &R,
-        gate: &G,
-        steps: &mut Steps,
-    ) -> Result<Published, AllocError>
-        ensures published { IfOk result (TellsPublished self.old self.new) }
-        ensures unchanged { OnErr result (Stays self.old self.new) }
-        ensures steps { OnOk result (steps.new ≤ steps_after steps.old (2 * publish_work self.old self.new)) }
-        ensures once { OnOk result (steps.new ≤ steps_after steps.old (publish_work self.old self.new)) }
-        ensures never_falls { steps.old ≤ steps.new }
+        _rt: &R,
+        build: &F,
+        steps: Steps,
+    ) -> (Result<Published, AllocError>, Steps)
+        requires callable { (state : _) (before : _) → F.pre build.now state before }
+        requires builds { (state : _) (before : _) (built : _) → F.post build.now state before built → Builds state.now before built }
+        ensures published { IfOk result.0 (TellsPublished self.old self.new) }
+        ensures unchanged { OnErr result.0 (Stays self.old self.new) }
+        ensures steps { OnOk result.0 (result.1 ≤ steps_after steps (2 * publish_work self.old self.new)) }
+        ensures once { OnOk result.0 (result.1 ≤ steps_after steps (publish_work self.old self.new)) }
+        ensures never_falls { steps ≤ result.1 }
     {
         let last = self.last();
         let edits = last.edits();
         if last.tip() == edits {
             let _count = steps.count();
-            return Ok(Published::Already(edits));
+            return (Ok(Published::Already(edits)), steps);
         }
-        let next = after_publication(rt, self.alloc(), last, gate, steps)?;
-        self.go_on(next)?;
-        Ok(Published::New(edits))
+        let Built { generation, steps } = build(last, steps);
+        (self.publish_built(generation), steps)
     }
 }
