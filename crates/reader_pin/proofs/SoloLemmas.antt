@@ -1,25 +1,33 @@
 -- What a `Solo` keeps: the states that its marks stand for stay the same while batches come, and each event adds one.
-use Rattle.std.proofs.Common.{◌≡◌, ℕ, zero, suc, ◌+◌, ◌-◌, ◌<◌, ◌≤◌, Bool, true, false, nat_le, List, [], ◌∷◌, ◌++◌, map, length, get_or, Some, None, refl, sym, ap, ◌∙◌, subst, inl, inr, arith, cond, length-append, append_assoc}
-use Rattle.std.specs.Prelude.{◌⊎◌, All, slice_get, Option, flat_map}
+use Rattle.std.proofs.Common.{◌≡◌, ℕ, ◌+◌, ◌-◌, ◌<◌, ◌≤◌, true, false, nat_le, List, [], ◌∷◌, ◌++◌, length, get_or, Some, refl, sym, ap, ◌∙◌, subst, arith, length-append}
+use Rattle.std.specs.Prelude.{All, slice_get}
 use Rattle.std.specs.List.{range_with_len}
 use Rattle.std.proofs.lemmas.Bool.Decides.{nat_tests}
-use Rattle.std.proofs.lemmas.List.{append-nil, map-id, map-append, length-map, get_or-append_right}
-use Rattle.std.proofs.lemmas.List.Concat.{flat_map-cons}
+use Rattle.std.proofs.lemmas.List.{map-id, map-append, length-map, get_or-append_right}
 use Rattle.std.proofs.lemmas.List.Elements.{All-head, All-tail, All-push}
-use Rattle.std.proofs.lemmas.List.FromFn.{map-range_with_len_more, length-range_with_len}
+use Rattle.std.proofs.lemmas.List.FromFn.{map-range_with_len_more}
 use Rattle.std.proofs.lemmas.Option.{slice_get-get_or}
-use Rattle.survey_conf.specs.Description.{Description}
 use Rattle.edit_journal.specs.Edit.{LeafEdit}
 use Rattle.edit_journal.specs.Leaves.{LeafTiles}
 use Rattle.edit_journal.specs.Batches.{edits_of}
-use Rattle.survey_core.specs.History.{SurveyState, edits_at, opening_state, IsStep, IsHistory, Begins, Precedes}
-use Rattle.survey_core.specs.HistoryLaws.{begins_itself, begins_length, step_precedes, history_more, history_some, edits_of-append}
+use Rattle.survey_core.specs.History.{SurveyState, edits_at, opening_state, AppendsBatch, IsStep, IsHistory, Begins}
+use Rattle.survey_core.specs.HistoryLaws.{begins_itself, begins_length, step_precedes, history_more, history_some}
 use Rattle.survey_core.specs.State.{StateContent, IsState, state_edits, survey_state}
 use Rattle.reader_pin.specs.declared.mark.Mark.{Mark}
 use Rattle.reader_pin.specs.declared.held.Held.{Held}
 use Rattle.reader_pin.specs.declared.held.Held.TheVariants.{Nothing, Last, Earlier}
-use Rattle.reader_pin.specs.Board.{BoardContent, Stays, Happens, last_of, last_seen}
-use Rattle.reader_pin.specs.Solo.{after_event, first_batches, mark_of, marked, all_marked, held_of, solo_content, IsOfSurvey, IsSolo, IsAlone}
+use Rattle.reader_pin.specs.declared.answer.Accepted.{Accepted}
+use Rattle.reader_pin.specs.declared.answer.BoardRefusal.{BoardRefusal}
+use Rattle.reader_pin.specs.declared.answer.BoardRefusal.TheVariants.{Fault, OutOfMemory}
+use Rattle.reader_pin.specs.declared.answer.BoardBatch.{BoardBatch}
+use Rattle.reader_pin.specs.declared.answer.BoardBatch.TheVariants.{Fault as Faulty, OutOfMemory as NoMemory}
+use Rattle.reader_pin.specs.Board.{BoardContent, Stays, Happens, InOne, Publishes, state_in, last_of, last_seen, publish_work}
+use Rattle.reader_pin.specs.Build.{build_work}
+use Rattle.reader_pin.specs.Answers.{Accepts, AcceptsAll, IsRefused, AreRefused, TellsRefusal, TellsBatchRefusal}
+use Rattle.reader_pin.specs.Next.{FollowsEdit, FollowsBatch, TellsRefusedEdit, TellsRefusedBatch}
+use Rattle.dirty_plan.specs.Dirty.{work}
+use Rattle.generation.specs.Steps.{touched}
+use Rattle.reader_pin.specs.Solo.{opened, after_event, held_behind, first_batches, mark_of, marked, all_marked, held_of, solo_content, IsOfSurvey, IsSolo, IsAlone}
 
 -- no batch is empty
 abbrev AreSome : List (List LeafEdit) → Type 0
@@ -83,7 +91,7 @@ all_marked-push batches marks mark = map-append (marked batches) marks (mark ∷
 
 pub length-all_marked : (batches : List (List LeafEdit)) (marks : List Mark) → length (all_marked batches marks) ≡ length marks
 unfolding all_marked
-length-all_marked batches marks = length-map (marked batches) marks
+length-all_marked batches marks = length-map marks (marked batches)
 
 -- a state is what its mark stands for
 marked-last : (state : StateContent) → marked state.batches (mark_of state) ≡ survey_state state
@@ -161,6 +169,58 @@ content_goes_on last next marks held after is state conf opening step kept =
     ap (λ (n : ℕ). range_with_len 1 (n - 1)) more ∙ (places-more (length marks) (omega (arith, count)) ∙ ap (λ (p : ℕ). range_with_len 1 (length marks - 1) ++ p ∷ []) (sym count)) in
     rw (history, own, kept, conf, opening) refl
 
+-- what is held stays
+held-behind : (last next : StateContent) (held : Held) → held_of next (held_behind last held) ≡ held_of last held
+held-behind last next Nothing = refl
+held-behind last next Last = refl
+held-behind last next (Earlier state) = refl
+
+survey-behind : (last next : StateContent) (held : Held) → next.conf ≡ last.conf → next.opening ≡ last.opening → IsOfSurvey last held → IsOfSurvey next (held_behind last held)
+survey-behind last next Nothing conf opening survey = tt
+survey-behind last next Last conf opening survey = (sym conf, sym opening)
+survey-behind last next (Earlier state) conf opening survey = (survey.0 ∙ sym conf, survey.1 ∙ sym opening)
+
+-- an event of a board that is kept so
+pub record Went (last next : StateContent) (marks : List Mark) (held : Held) (board : BoardContent) : Type 0 where
+  pub solo : IsSolo next (marks ++ mark_of next ∷ []) (held_behind last held)
+  pub content : solo_content next (marks ++ mark_of next ∷ []) (held_behind last held) ≡ after_event (survey_state next) board
+
+pub went : (last next : StateContent) (marks : List Mark) (held : Held) (board : BoardContent) → solo_content last marks held ≡ board → IsSolo last marks held → IsState next →
+    next.conf ≡ board.conf → next.opening ≡ board.opening → IsStep board.opening (last_seen board) (survey_state next) → Went last next marks held board
+went last next marks held board is solo state conf opening step =
+    let conf' : next.conf ≡ last.conf = conf ∙ sym (ap (λ (b : BoardContent). b.conf) is) in
+    let opening' : next.opening ≡ last.opening = opening ∙ sym (ap (λ (b : BoardContent). b.opening) is) in
+    let before : last_seen board ≡ survey_state last = ap last_seen (sym is) ∙ solo.latest in
+    let step' : IsStep last.opening (survey_state last) (survey_state next) =
+    subst (λ (o : LeafTiles). IsStep o (survey_state last) (survey_state next)) (sym (ap (λ (b : BoardContent). b.opening) is)) (subst (λ (s : SurveyState). IsStep board.opening s (survey_state next)) before step) in
+    record {
+      solo = goes_on last next marks held (held_behind last held) solo state opening' step' (survey-behind last next held conf' opening' solo.survey);
+      content = content_goes_on last next marks held (held_behind last held) solo state conf' opening' step' (held-behind last next held) ∙ ap (after_event (survey_state next)) is;
+    }
+
+-- ---- a new board
+
+opened-states : (state : StateContent) → survey_state state ≡ opening_state → all_marked state.batches (mark_of state ∷ []) ≡ opening_state ∷ []
+unfolding all_marked
+opened-states state first = ap (λ (s : SurveyState). s ∷ []) (marked-last state ∙ first)
+
+pub first-state : (state : StateContent) → (length (state_edits state) ≡ 0 → survey_state state ≡ opening_state) → state.batches ≡ [] → survey_state state ≡ opening_state
+first-state state first none = first (ap (λ (bs : List (List LeafEdit)). length (edits_of bs)) none ∙ ap length edits_of-nil)
+
+pub opened-solo : (state : StateContent) → survey_state state ≡ opening_state → IsSolo state (mark_of state ∷ []) Nothing
+opened-solo state first =
+    let states : all_marked state.batches (mark_of state ∷ []) ≡ opening_state ∷ [] = opened-states state first in
+    let P : Mark → Type 0 = λ mark. mark.edits ≤ length (state_edits state) in
+    record {
+      legal = subst (IsHistory state.opening) (sym states) (refl, tt);
+      known = All-push P [] (mark_of state) (λ k d h. absurd (omega arith)) (omega arith);
+      latest = ap last_of states ∙ (last_of-push [] opening_state ∙ sym first);
+      survey = tt;
+    }
+
+pub opened-content : (state : StateContent) → survey_state state ≡ opening_state → solo_content state (mark_of state ∷ []) Nothing ≡ opened state
+opened-content state first = rw (opened-states state first) refl
+
 -- ---- boards
 
 -- an event of its own
@@ -186,3 +246,44 @@ stays old new is legal = subst (λ (b : BoardContent). Stays old b) (sym is) (le
 -- every step was its own event
 pub alone : (last : StateContent) (marks : List Mark) (held : Held) (board : BoardContent) → solo_content last marks held ≡ board → IsAlone board
 alone last marks held board is = subst IsAlone is (ap (λ (n : ℕ). range_with_len 1 (n - 1)) (sym (length-all_marked last.batches marks)))
+
+-- ---- what it answers
+
+-- what holds of the last state holds of one state
+in-last : (board : BoardContent) (P : SurveyState → Type 0) → IsHistory board.opening board.history → P (last_seen board) → InOne board board P
+in-last board P legal holds =
+    let some : 0 < length board.history = history_some board.opening board.history legal in
+    record { place = length board.history - 1; late = omega arith; state = last_seen board; there = last_there board.history some; holds = holds }
+
+pub refused-edit : (edit : LeafEdit) (board : BoardContent) (refusal : BoardRefusal) → IsHistory board.opening board.history → TellsRefusedEdit edit (state_in board (last_seen board)) refusal → TellsRefusal edit board board refusal
+refused-edit edit board (Fault fault edits) legal tells = in-last board (IsRefused board.opening edit fault edits) legal tells
+refused-edit edit board OutOfMemory legal tells = tt
+
+pub refused-batch : (batch : List LeafEdit) (board : BoardContent) (refusal : BoardBatch) → IsHistory board.opening board.history → TellsRefusedBatch batch (state_in board (last_seen board)) refusal → TellsBatchRefusal batch board board refusal
+refused-batch batch board (Faulty at fault edits) legal tells = in-last board (AreRefused board.opening batch (record { at = at; fault = fault }) edits) legal tells
+refused-batch batch board NoMemory legal tells = tt
+
+pub accepted-edit : (edit : LeafEdit) (old new : BoardContent) (next : StateContent) (accepted : Accepted) → FollowsEdit edit (state_in old (last_seen old)) next accepted →
+    new ≡ after_event (survey_state next) old → IsHistory new.opening new.history → Accepts edit old new accepted
+unfolding happens
+accepted-edit edit old new next accepted follows is legal = record {
+  happens = happens (AppendsBatch old.opening (edit ∷ [])) old new (survey_state next) is legal follows.follows.event;
+  number = follows.number;
+  created = follows.created;
+}
+
+pub accepted-batch : (batch : List LeafEdit) (old new : BoardContent) (next : StateContent) (count : ℕ) → FollowsBatch batch (state_in old (last_seen old)) next count →
+    new ≡ after_event (survey_state next) old → IsHistory new.opening new.history → AcceptsAll batch old new count
+unfolding happens
+accepted-batch batch old new next count follows is legal = record {
+  happens = happens (AppendsBatch old.opening batch) old new (survey_state next) is legal follows.follows.event;
+  count = follows.number;
+}
+
+-- a publication keeps the edits
+pub published-edits : (k : ℕ) (old new : BoardContent) (state : SurveyState) → new ≡ after_event state old → Publishes k (last_seen old) state → edits_at (last_seen new) ≡ edits_at (last_seen old)
+published-edits k old new state is event =
+    ap (λ (b : BoardContent). edits_at (last_seen b)) is ∙ (ap edits_at (last_of-push old.history state) ∙ ap edits_of event.publication.batches)
+
+pub published-work : (old new : BoardContent) → edits_at (last_seen new) ≡ edits_at (last_seen old) → publish_work old new ≡ build_work (state_in old (last_seen old))
+published-work old new same = ap (λ (edits : List LeafEdit). work old.conf.shape.top old.conf.shape.low (touched edits (last_seen old).tip (length edits))) same

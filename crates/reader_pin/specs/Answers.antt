@@ -1,5 +1,5 @@
 -- What the answers of a board tell.
-use Rattle.std.specs.Prelude.{◌≡◌, ℕ, ◌≤◌, List, [], ◌∷◌, length, not, Some}
+use Rattle.std.specs.Prelude.{◌≡◌, ℕ, ◌≤◌, List, [], ◌∷◌, not, Some}
 use Rattle.edit_journal.specs.Edit.{LeafEdit, leaf_of}
 use Rattle.edit_journal.specs.Leaves.{LeafTiles, leaves_of}
 use Rattle.edit_journal.specs.Faults.{edit_fault, batch_fault, has_leaf}

@@ -2,11 +2,10 @@
 -- This project's profile.
 use Rattle.std.specs.Prelude.{◌≡◌, ℕ, ◌+◌, ◌-◌, ◌≤◌, List, [], ◌∷◌, ◌++◌, length, slice_get, slice_index_or, Option, Some, None}
 use Rattle.survey_conf.specs.Description.{Description}
-use Rattle.edit_journal.specs.Edit.{LeafEdit}
 use Rattle.edit_journal.specs.Leaves.{LeafTiles}
 use Rattle.dirty_plan.specs.Dirty.{work}
 use Rattle.generation.specs.Steps.{touched}
-use Rattle.survey_core.specs.History.{SurveyState, edits_at, opening_state, AppendsBatch, IsPublication, IsHistory, Begins}
+use Rattle.survey_core.specs.History.{SurveyState, edits_at, opening_state, IsPublication, IsHistory, Begins}
 use Rattle.survey_core.specs.State.{StateContent}
 
 -- the survey's description and opening leaves, the states that the board has seen, the places of its own events among them,

@@ -3,7 +3,6 @@ use Rattle.std.specs.Prelude.{◌≡◌, ℕ, List, [], ◌∷◌, length, not}
 use Rattle.edit_journal.specs.Edit.{LeafEdit, leaf_of}
 use Rattle.edit_journal.specs.Leaves.{leaves_of}
 use Rattle.edit_journal.specs.Faults.{has_leaf}
-use Rattle.edit_journal.specs.declared.fault.BatchFault.{BatchFault}
 use Rattle.survey_core.specs.History.{SurveyState, AppendsBatch}
 use Rattle.survey_core.specs.State.{StateContent, state_edits, survey_state}
 use Rattle.reader_pin.specs.declared.answer.Accepted.{Accepted}

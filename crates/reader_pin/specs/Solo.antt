@@ -1,6 +1,6 @@
 -- The board of a survey that nobody else changes, and how it keeps what it has seen: the last state, and of each state the
 -- number of its edits and its tip.
-use Rattle.std.specs.Prelude.{◌≡◌, ℕ, ◌+◌, ◌-◌, ◌≤◌, nat_le, if◌then◌else◌, List, [], ◌∷◌, ◌++◌, map, length, All, Option, Some, None}
+use Rattle.std.specs.Prelude.{◌≡◌, ℕ, ◌-◌, ◌≤◌, nat_le, if◌then◌else◌, List, [], ◌∷◌, ◌++◌, map, length, All, Option, Some, None}
 use Rattle.std.specs.List.{range_with_len}
 use Rattle.edit_journal.specs.Edit.{LeafEdit}
 use Rattle.survey_core.specs.History.{SurveyState, opening_state, IsHistory}
@@ -46,6 +46,12 @@ abbrev pub held_of : StateContent → Held → Option SurveyState
 held_of last Nothing = None
 held_of last Last = Some (survey_state last)
 held_of last (Earlier state) = Some (survey_state state)
+
+-- what is held once that state isn't the last any more
+abbrev pub held_behind : StateContent → Held → Held
+held_behind last Nothing = Nothing
+held_behind last Last = Earlier last
+held_behind last (Earlier state) = Earlier state
 
 abbrev pub solo_content : StateContent → List Mark → Held → BoardContent
 solo_content last marks held = record {

@@ -4,7 +4,7 @@ ghost use Rattle.edit_journal.specs.Edit.{edit_of, leaf_of};
 ghost use Rattle.edit_journal.specs.Leaves.{FitsEdit, leaves_of};
 ghost use Rattle.edit_journal.specs.Faults.{has_leaf};
 ghost use Rattle.dirty_plan.specs.Dirty.{steps_after};
-ghost use Rattle.survey_core.specs.History.{IsStep, IsPublication, IsHistory};
+ghost use Rattle.survey_core.specs.History.{edits_at, IsStep, IsHistory};
 ghost use Rattle.survey_core.specs.State.{state_edits, survey_state};
 ghost use Rattle.reader_pin.specs.Board.{Stays, Happens, Publishes, last_seen, state_in, edit_count, holding_last, holding_none, publish_work};
 ghost use Rattle.reader_pin.specs.Build.{Builds, whole_generation};
@@ -84,10 +84,9 @@ impl Solo {
         ensures stayed { OnErr result (self.new ≡ self.old) }
     {
         self.seen.push(Mark::of(&next))?;
-        let earlier = replace(&mut self.last, next);
-        if let Held::Last = self.held {
-            self.held = Held::Earlier(earlier);
-        }
+        let last = replace(&mut self.last, next);
+        let held = replace(&mut self.held, Held::Nothing);
+        self.held = held.behind(last);
         Ok(())
     }
 
@@ -100,6 +99,7 @@ impl Solo {
         requires whole { IfOk generation (λ generation. generation ≡ whole_generation (state_in self.old (last_seen self.old))) }
         ensures published { IfOk result (λ published. published ≡ Published.New (edit_count (last_seen self.old))) }
         ensures event { OnOk result (Happens (Publishes (edit_count (last_seen self.old))) self.old self.new) }
+        ensures edits { OnOk result (edits_at (last_seen self.new) ≡ edits_at (last_seen self.old)) }
         ensures unchanged { OnErr result (self.new ≡ self.old) }
     {
         let last = self.last();
@@ -145,15 +145,23 @@ impl Board for Solo {
     }
 
     fn edit<R: Wait>(&mut self, _rt: &R, edit: Edit) -> Result<Accepted, BoardRefusal> {
-        let (next, accepted) = after_edit(self.last(), edit)?;
-        self.go_on(next)?;
-        Ok(accepted)
+        match after_edit(self.last(), edit) {
+            Ok((next, accepted)) => {
+                self.go_on(next)?;
+                Ok(accepted)
+            }
+            Err(refusal) => Err(refusal),
+        }
     }
 
     fn batch<R: Wait>(&mut self, _rt: &R, edits: Vec<Edit>) -> Result<u32, BoardBatch> {
-        let (next, count) = after_batch(self.last(), edits)?;
-        self.go_on(next)?;
-        Ok(count)
+        match after_batch(self.last(), edits) {
+            Ok((next, count)) => {
+                self.go_on(next)?;
+                Ok(count)
+            }
+            Err(refusal) => Err(refusal),
+        }
     }
 
     /// Publishes all edits, by one generation at most.
