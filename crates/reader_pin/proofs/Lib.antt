@@ -1,1 +1,2 @@
 pub mod SoloLemmas
+pub mod AloneLemmas

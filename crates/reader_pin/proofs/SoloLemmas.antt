@@ -106,7 +106,7 @@ last_of-push states state =
     let none : length states - length states ≡ 0 = omega arith in
     rw count (get_or-append_right states (state ∷ []) (length states) (length states) opening_state refl (omega arith) ∙ ap (λ (i : ℕ). get_or (state ∷ []) i opening_state) none)
 
-last_there : (states : List SurveyState) → 0 < length states → slice_get states (length states - 1) ≡ Some (last_of states)
+pub last_there : (states : List SurveyState) → 0 < length states → slice_get states (length states - 1) ≡ Some (last_of states)
 unfolding last_of
 last_there states some = slice_get-get_or states (length states - 1) opening_state (omega arith)
 

@@ -1,4 +1,5 @@
 pub mod Board
+pub mod Laws
 pub mod Answers
 pub mod Build
 pub mod Next

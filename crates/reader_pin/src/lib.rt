@@ -8,6 +8,7 @@ mod answer;
 mod board;
 mod build;
 mod held;
+pub mod laws;
 mod mark;
 mod next;
 mod solo;
