@@ -74,13 +74,12 @@ pub trait Board {
         ensures unchanged { OnErr result (Stays (content self.old) (content self.new)) }
         ensures refused { IfErr result (TellsBatchRefusal (map edit_of edits.items) (content self.old) (content self.new)) };
 
-    /// Publishes all edits that the board has seen, and perhaps newer ones: one event, or none where all edits are published.
-    /// It has generations built by `build`, at most twice, for want of which it answers `AllocError`: without the runtime's
-    /// threads, which a board has no right to start. `publish` is the call for everybody else.
+    /// The board's own part of `publish`. It has the generations of all edits of a state built by `build`, one or two of them:
+    /// a board has no right to start threads. The counter of steps goes in and comes back.
     ///
     /// # Errors
     ///
-    /// `AllocError` where there is no memory for the next state. It makes no event.
+    /// `AllocError` where there is no memory for a generation or for the next state. It makes no event.
     fn publish_by<R: Wait, F: Fn(&State, Steps) -> Built>(
         &mut self,
         rt: &R,
