@@ -1,0 +1,4 @@
+pub mod Refusals
+pub mod Opening
+pub mod Survey
+pub mod Texts
