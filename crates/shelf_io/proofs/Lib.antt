@@ -1,0 +1,6 @@
+pub mod PathLemmas
+pub mod AscendLemmas
+pub mod ListedLemmas
+pub mod LeafLemmas
+pub mod LoadLemmas
+pub mod StrayLemmas
