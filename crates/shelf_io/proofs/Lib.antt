@@ -4,3 +4,5 @@ pub mod ListedLemmas
 pub mod LeafLemmas
 pub mod LoadLemmas
 pub mod StrayLemmas
+pub mod WriteLemmas
+pub mod CompareLemmas

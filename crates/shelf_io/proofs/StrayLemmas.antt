@@ -24,7 +24,7 @@ or_second : (a b : Bool) → b ≡ true → (a || b) ≡ true
 or_second a b e = grind arith
 
 -- a text that is among texts and one more is among the texts, or is that one
-among_cases : (texts : List (List ℕ)) (text other : List ℕ) → is_among (texts ++ text ∷ []) other ≡ true → (is_among texts other ≡ true) ⊎ (other ≡ text)
+pub among_cases : (texts : List (List ℕ)) (text other : List ℕ) → is_among (texts ++ text ∷ []) other ≡ true → (is_among texts other ≡ true) ⊎ (other ≡ text)
 among_cases texts text other e =
     elim (or_true (is_among texts other) (eq_by_cmp (slice_cmp nat_cmp) other text) (sym (among_more texts text other) ∙ e)) [
       | inl before ↦ inl before

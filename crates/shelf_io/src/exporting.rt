@@ -65,6 +65,7 @@ fn write_all<H: Shelf>(
 ) -> Result<(), LinkFault>
     ensures written { OnOk result (H.files shelf.new
         ≡ with_paths (files_in generation.now) (paths_in generation.now) (H.files shelf.old)) }
+    ensures there { OnOk result (All (λ path. IsSome (get (files_in generation.now) (spelling path))) (paths_in generation.now)) }
     ensures others { OthersStay (H.files shelf.old) (H.files shelf.new) }
     ensures failed { IsErrOf result LinkFault.Failed → Rises (H.faults shelf.old) (H.faults shelf.new) }
     ensures never_falls { H.faults shelf.old ≤ H.faults shelf.new }

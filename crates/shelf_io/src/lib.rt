@@ -11,6 +11,7 @@ mod exporting;
 mod leaves;
 mod listing;
 mod loading;
+mod order;
 mod refusal;
 mod spelling;
 mod strays;
