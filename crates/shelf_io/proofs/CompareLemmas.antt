@@ -1,14 +1,17 @@
 -- The first path at which a shelf and a survey differ.
-use Rattle.std.proofs.Common.{◌≡◌, ℕ, zero, suc, ◌+◌, ◌<◌, ◌≤◌, ◌||◌, Bool, true, false, cond, List, [], ◌∷◌, ◌++◌, Option, Some, None, refl, sym, ap, ◌∙◌, subst, arith, map, length, append_assoc, append-nil, ◌⊎◌, inl, inr, Decides}
-use Rattle.std.specs.Prelude.{◌≢◌, not, All, IfSome, IsSome, is_some, MatchOption, slice_get, slice_index_or, option_map, fold, ⊤}
+use Rattle.std.proofs.Common.{◌≡◌, ℕ, zero, suc, ◌+◌, ◌<◌, ◌≤◌, ◌||◌, Bool, true, false, cond, List, [], ◌∷◌, ◌++◌, Option, Some, None, refl, sym, ap, ◌∙◌, subst, arith, map, take, drop, length, add-one, append_assoc, append-nil, ◌⊎◌, inl, inr, Decides}
+use Rattle.std.specs.Prelude.{◌≢◌, not, nat_eq, All, IfSome, IsSome, is_some, MatchOption, slice_get, slice_index_or, option_map, fold, ⊤}
 use Rattle.std.specs.declared.cmp.Ordering.TheVariants.{Less, Equal, Greater}
 use Rattle.std.specs.declared.cmp.Ordering.{Ordering}
 use Rattle.std.specs.Option.{option_eq}
 use Rattle.std.specs.Str.{bytes_eq}
 use Rattle.std.specs.Ordering.{nat_cmp, eq_by_cmp, is_lt}
-use Rattle.std.specs.Cmp.Lexicographic.{slice_cmp}
+use Rattle.std.specs.Cmp.Lexicographic.{slice_cmp, pointwise}
+use Rattle.std.specs.Borrow.{Bor}
 use Rattle.std.specs.FinMap.{get, keys, contains_key, contains_key-keys}
-use Rattle.std.proofs.lemmas.Slice.Eq.{bytes_eq-Decides}
+use Rattle.std.proofs.lemmas.Slice.Eq.{bytes_eq-Decides, strip_prefix_is}
+use Rattle.std.proofs.lemmas.Bool.Decides.{nat_tests, same_from_decides}
+use Rattle.std.proofs.lemmas.List.Sums.{fold_push}
 use Rattle.std.proofs.lemmas.Cmp.{nat_list_cmp_total, tied_itself}
 use Rattle.std.proofs.lemmas.List.{map-append}
 use Rattle.std.proofs.lemmas.List.Folds.{list_any-append}
@@ -209,3 +212,64 @@ module _ (survey files : ShelfFiles) (paths strays : List Path) (found : AreStra
         | inl among ↦ of.passed (spelling path) among
         | inr same ↦ same
       ]
+
+-- ---- one path more
+
+take_found : (paths : List Path) (i : ℕ) (path : Path) → slice_get paths i ≡ Some path → take (i + 1) paths ≡ take i paths ++ path ∷ []
+take_found [] i path at = cc
+take_found (p ∷ ps) zero path at = let same : p ≡ path = cc in λ i. same i ∷ []
+take_found (p ∷ ps) (suc i) path at = ap (λ n. take n (p ∷ ps)) (add-one (suc i)) ∙ ap (λ n. p ∷ take n ps) (sym (add-one i)) ∙ ap (λ qs. p ∷ qs) (take_found ps i path at)
+
+pub compared_more : (survey : ShelfFiles) (here files : Option ShelfFiles) (paths : List Path) (i : ℕ) (path : Path) (start first next : Option Path) (agree : Bool) → here ≡ files → slice_get paths i ≡ Some path
+    → next ≡ cond agree first (Some (earlier first path)) → IfSome here (λ fs. agree ≡ agrees_at survey fs path)
+    → IfSome files (λ fs. first ≡ fold (first_after survey fs) start (take i paths)) → IfSome files (λ fs. next ≡ fold (first_after survey fs) start (take (i + 1) paths))
+compared_more survey here files paths i path start first next agree same at is agrees before =
+    go files before (subst (λ o. IfSome o (λ fs. agree ≡ agrees_at survey fs path)) same agrees)
+  where
+    go : (o : Option ShelfFiles) → IfSome o (λ fs. first ≡ fold (first_after survey fs) start (take i paths)) → IfSome o (λ fs. agree ≡ agrees_at survey fs path) → IfSome o (λ fs. next ≡ fold (first_after survey fs) start (take (i + 1) paths))
+    go None before agrees = tt
+    go (Some fs) before agrees =
+        is ∙ ap (λ b. cond b first (Some (earlier first path))) agrees ∙ ap (λ f. first_after survey fs f path) before
+        ∙ sym (fold_push (first_after survey fs) start (take i paths) path) ∙ sym (ap (fold (first_after survey fs) start) (take_found paths i path at))
+
+-- ---- a file in three parts
+
+nat_decides : (a b : ℕ) → Decides (nat_eq a b) (a ≡ b)
+nat_decides a b = (λ e. grind (arith, nat_tests), λ e. grind (arith, nat_tests))
+
+-- what is left behind a prefix
+abbrev pub Stripped : List ℕ → List ℕ → Bor (List ℕ) → Type 0
+Stripped bytes prefix rest = (pointwise nat_eq (take (length prefix) bytes) prefix ≡ true) × (rest.now ≡ drop (length prefix) bytes) × (length rest.now + length prefix ≡ length bytes)
+
+all_parts : (bytes front kept zeros rest last : List ℕ) (r : Bool) → bytes ≡ front ++ rest → rest ≡ kept ++ last → r ≡ bytes_eq last zeros → r ≡ bytes_eq bytes ((front ++ kept) ++ zeros)
+all_parts bytes front kept zeros rest last r first second is =
+    let whole : bytes ≡ (front ++ kept) ++ last = first ∙ ap (λ xs. front ++ xs) second ∙ sym (append_assoc front kept last) in
+    is ∙ same_from_decides (bytes_eq last zeros) (bytes_eq bytes ((front ++ kept) ++ zeros))
+    (λ e. whole ∙ ap (λ xs. (front ++ kept) ++ xs) ((bytes_eq-Decides last zeros).0 e),
+    λ e. (bytes_eq-Decides last zeros).1 (cancel (front ++ kept) last zeros (sym whole ∙ e)))
+    (bytes_eq-Decides bytes ((front ++ kept) ++ zeros))
+  where
+    cancel : (xs ys zs : List ℕ) → xs ++ ys ≡ xs ++ zs → ys ≡ zs
+    cancel [] ys zs e = e
+    cancel (x ∷ xs) ys zs e = let rest : xs ++ ys ≡ xs ++ zs = cc in cancel xs ys zs rest
+
+pub parts_same : (bytes front kept zeros : List ℕ) (rest last : Bor (List ℕ)) (r : Bool) → Stripped bytes front rest → Stripped rest.now kept last → r ≡ bytes_eq last.now zeros → r ≡ bytes_eq bytes ((front ++ kept) ++ zeros)
+parts_same bytes front kept zeros rest last r first second is =
+    all_parts bytes front kept zeros rest.now last.now r (strip_prefix_is nat_decides bytes front (Some rest) first) (strip_prefix_is nat_decides rest.now kept (Some last) second) is
+
+pub front_apart : (bytes front kept zeros : List ℕ) → pointwise nat_eq (take (length front) bytes) front ≡ false → false ≡ bytes_eq bytes ((front ++ kept) ++ zeros)
+front_apart bytes front kept zeros apart =
+    same_from_decides false (bytes_eq bytes ((front ++ kept) ++ zeros))
+    (λ e. cc, λ e. absurd (strip_prefix_is nat_decides bytes front None apart (kept ++ zeros) (e ∙ append_assoc front kept zeros)))
+    (bytes_eq-Decides bytes ((front ++ kept) ++ zeros))
+
+pub kept_apart : (bytes front kept zeros : List ℕ) (rest : Bor (List ℕ)) → Stripped bytes front rest → pointwise nat_eq (take (length kept) rest.now) kept ≡ false → false ≡ bytes_eq bytes ((front ++ kept) ++ zeros)
+kept_apart bytes front kept zeros rest first apart =
+    let whole : bytes ≡ front ++ rest.now = strip_prefix_is nat_decides bytes front (Some rest) first in
+    same_from_decides false (bytes_eq bytes ((front ++ kept) ++ zeros))
+    (λ e. cc, λ e. absurd (strip_prefix_is nat_decides rest.now kept None apart zeros (cancel front rest.now (kept ++ zeros) (sym whole ∙ e ∙ append_assoc front kept zeros))))
+    (bytes_eq-Decides bytes ((front ++ kept) ++ zeros))
+  where
+    cancel : (xs ys zs : List ℕ) → xs ++ ys ≡ xs ++ zs → ys ≡ zs
+    cancel [] ys zs e = e
+    cancel (x ∷ xs) ys zs e = let rest : xs ++ ys ≡ xs ++ zs = cc in cancel xs ys zs rest

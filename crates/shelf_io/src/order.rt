@@ -1,8 +1,9 @@
 //! Paths by the bytes of their spellings.
-ghost use Rattle.std.specs.Prelude.{◌≡◌, All, IfSome};
+ghost use Rattle.std.specs.Prelude.{◌≡◌, All, IfSome, Some, if◌then◌else◌};
 ghost use Rattle.tile_path.specs.Spelling.{IsPath};
 ghost use Rattle.shelf_io.specs.Comparing.{earlier_of as earlier_of_lem, earlier as earlier_lem, first_path as first_path_lem};
 
+use std::cmp::Ordering;
 use tile_path::Path;
 
 // The length of the longest spelling.
@@ -21,8 +22,22 @@ pub(crate) fn first_path(paths: &[Path]) -> Option<Path>
     first
 }
 
-/// Whichever of the two comes first.
-pub(crate) fn earlier(first: Option<Path>, path: Path) -> Path
+/// The first path at which two surveys differ, of those compared so far and one more, at which they agree or not.
+pub(crate) fn first_after(first: Option<Path>, path: Path, agree: bool) -> Option<Path>
+    requires first { IfSome first IsPath }
+    requires path { IsPath path }
+    ensures path { IfSome result IsPath }
+    ensures first { result ≡ (if agree then first else Some (earlier_lem first path)) }
+{
+    if agree {
+        first
+    } else {
+        Some(earlier(first, path))
+    }
+}
+
+// Whichever of the two comes first.
+fn earlier(first: Option<Path>, path: Path) -> Path
     requires first { IfSome first IsPath }
     requires path { IsPath path }
     ensures path { IsPath result }
@@ -45,9 +60,8 @@ fn earlier_of(first: Path, path: Path) -> Path
     let mut text = [0; LONGEST];
     let first_len = first.write_into(&mut first_text);
     let len = path.write_into(&mut text);
-    if text[..len] < first_text[..first_len] {
-        path
-    } else {
-        first
+    match text[..len].cmp(&first_text[..first_len]) {
+        Ordering::Less => path,
+        _ => first,
     }
 }

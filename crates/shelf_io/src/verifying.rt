@@ -6,11 +6,11 @@ ghost use Rattle.std.specs.FinMap.{get};
 ghost use Rattle.survey_link.specs.Link.{Rises};
 ghost use Rattle.tile_path.specs.Spelling.{IsPath, spelling};
 ghost use Rattle.generation.specs.Files.{paths_in, files_in};
-ghost use Rattle.shelf_io.specs.Comparing.{agrees_at, first_after};
+ghost use Rattle.shelf_io.specs.Comparing.{agrees_at, first_after as first_after_lem};
 ghost use Rattle.shelf_io.specs.Survey.{IsVerdict, CountsFiles};
 
 use crate::buffer::{FRONT_LEN, buffer};
-use crate::order::{earlier, first_path};
+use crate::order::{first_after, first_path};
 use crate::spelling::spelled;
 use crate::strays::shelf_strays;
 use crate::verdict::Verdict;
@@ -37,10 +37,11 @@ pub fn verify<H: Shelf>(
     ensures failed { IsErrOf result LinkFault.Failed → Rises (H.faults shelf.old) (H.faults shelf.new) }
     ensures never_falls { H.faults shelf.old ≤ H.faults shelf.new }
 {
+    let count = generation.file_count();
     let strays = shelf_strays(alloc, shelf, generation)?;
     match first_difference(alloc, shelf, generation, first_path(&strays))? {
         Some(path) => Ok(Verdict::Differs(path)),
-        None => Ok(Verdict::Same(generation.file_count())),
+        None => Ok(Verdict::Same(count)),
     }
 }
 
@@ -55,7 +56,7 @@ fn first_difference<H: Shelf>(
     requires { IfSome first IsPath }
     ensures path { IfOk result (λ path. IfSome path IsPath) }
     ensures first { IfOk result (λ path. IfSome (H.files shelf.old) (λ files.
-        path ≡ fold (first_after (files_in generation.now) files) first (paths_in generation.now))) }
+        path ≡ fold (first_after_lem (files_in generation.now) files) first (paths_in generation.now))) }
     ensures kept { H.files shelf.new ≡ H.files shelf.old }
     ensures failed { IsErrOf result LinkFault.Failed → Rises (H.faults shelf.old) (H.faults shelf.new) }
     ensures never_falls { H.faults shelf.old ≤ H.faults shelf.new }
@@ -63,9 +64,8 @@ fn first_difference<H: Shelf>(
     let mut front = buffer(alloc, FRONT_LEN)?;
     for i in 0..generation.file_count() {
         let path = generation.path(i).unwrap();
-        if !has_file(alloc, shelf, generation, &path, &mut front)? {
-            first = Some(earlier(first, path));
-        }
+        let agree = has_file(alloc, shelf, generation, &path, &mut front)?;
+        first = first_after(first, path, agree);
     }
     Ok(first)
 }
