@@ -15,6 +15,8 @@ mod order;
 mod refusal;
 mod spelling;
 mod strays;
+#[cfg(test)]
+mod tests;
 mod verdict;
 mod verifying;
 
