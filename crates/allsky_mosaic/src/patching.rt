@@ -15,7 +15,8 @@ use std::alloc::{AllocError, Global};
 use tile_pixels::Tile;
 
 /// The mosaic of the tiles of order 3, as `whole` makes it, by the mosaic that there was before some of them changed: the
-/// squares of the touched cells are made anew, and all others are copied. `None` exactly where there is no tile now.
+/// squares of the touched cells are made anew, and all others are copied. `touched` has each cell whose tile has changed, in
+/// whatever order, and may have others. `None` exactly where there is no tile now.
 ///
 /// # Errors
 ///

@@ -1,6 +1,5 @@
-use Rattle.std.proofs.Common.{◌≡◌, ℕ, ◌+◌, ◌-◌, ◌/◌, ◌^◌, ◌<◌, List, true, false, ap, sym, subst, ◌∙◌, inl, inr, arith}
+use Rattle.std.proofs.Common.{◌≡◌, ℕ, ◌-◌, ◌/◌, ◌^◌, ap, sym, ◌∙◌, inl, inr, arith}
 use Rattle.std.proofs.lemmas.Bool.{cases_lt}
-use Rattle.healpix_nested.specs.Cells.{lies_under}
 use Rattle.coverage_moc.specs.Cover.{has, is_full}
 use Rattle.coverage_moc.proofs.MemberLemmas.{false_where}
 use Rattle.coverage_moc.proofs.CoverLemmas.{full_at, full_from}

@@ -1,4 +1,4 @@
-use Rattle.std.proofs.Common.{◌≡◌, ℕ, ◌+◌, ◌^◌, ◌≤◌, List, ap, sym, ◌∙◌, arith, Vec, Global}
+use Rattle.std.proofs.Common.{ℕ, ◌+◌, ◌^◌, ◌≤◌, ap, sym, ◌∙◌, arith, Vec, Global}
 use Rattle.healpix_nested.specs.Cells.{uniq_number}
 use Rattle.healpix_nested.specs.CellLaws.{four_pow_mono}
 use Rattle.coverage_moc.specs.Cover.{is_row}

@@ -1,4 +1,4 @@
-use Rattle.std.proofs.Common.{◌*◌, ◌^◌, ◌<◌, sym, subst, arith}
+use Rattle.std.proofs.Common.{◌^◌, ◌<◌, sym, subst, arith}
 use Rattle.healpix_nested.specs.CellLaws.{four_pow_pos}
 use Rattle.tile_pixels.specs.Tile.{PixelTile, HasShape}
 use Rattle.survey_bench.proofs.journal.after_one.Goals as goal
