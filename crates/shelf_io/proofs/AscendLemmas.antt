@@ -56,15 +56,17 @@ same_numbers a b (x ∷ xs) (y ∷ ys) up above same =
   where
     own : (x : ℕ) → nat_eq x x ≡ true
     own x = grind (arith, nat_tests)
+
     first : (x y : ℕ) (xs ys : List ℕ) → Ascends (x + 1) xs → Ascends (y + 1) ys → ((n : ℕ) → has (x ∷ xs) n ≡ has (y ∷ ys) n) → x ≡ y
     first x y xs ys up above same =
         elim (nat_lt x y) as (λ b. nat_lt x y ≡ b → x ≡ y) [
           | true ↦ λ h. let none : has (y ∷ ys) x ≡ false = none_below x (x + 1) (y ∷ ys) (omega arith) (grind (arith, nat_tests), above) in let e = same x in let is = own x in absurd (grind (arith, none, e, is))
           | false ↦ λ h. elim (nat_lt y x) as (λ b. nat_lt y x ≡ b → x ≡ y) [
-              | true ↦ λ g. let none : has (x ∷ xs) y ≡ false = none_below y (y + 1) (x ∷ xs) (omega arith) (grind (arith, nat_tests), up) in let e = same y in let is = own y in absurd (grind (arith, none, e, is))
-              | false ↦ λ g. grind (arith, nat_tests)
-            ] refl
+            | true ↦ λ g. let none : has (x ∷ xs) y ≡ false = none_below y (y + 1) (x ∷ xs) (omega arith) (grind (arith, nat_tests), up) in let e = same y in let is = own y in absurd (grind (arith, none, e, is))
+            | false ↦ λ g. grind (arith, nat_tests)
+          ] refl
         ] refl
+
     rest : (x y : ℕ) (xs ys : List ℕ) → x ≡ y → Ascends (x + 1) xs → Ascends (y + 1) ys → ((n : ℕ) → has (x ∷ xs) n ≡ has (y ∷ ys) n) → (n : ℕ) → has xs n ≡ has ys n
     rest x y xs ys here up above same n =
         elim (nat_eq x n) as (λ b. nat_eq x n ≡ b → has xs n ≡ has ys n) [

@@ -108,19 +108,19 @@ first_of_more : (survey files : ShelfFiles) (compared : List Path) (first : Opti
 first_of_more survey files compared first path found =
     elim (agrees_at survey files path) as (λ b. agrees_at survey files path ≡ b → IsFirstOf survey files (compared ++ path ∷ []) (cond b first (Some (earlier first path)))) [
       | true ↦ λ e. record {
-          differs = found.differs;
-          passed = λ text among. elim (among_cases (map spelling compared) (spelling path) text (sym (ap (λ ts. is_among ts text) (map-append spelling compared (path ∷ []))) ∙ among)) [
-            | inl before ↦ found.passed text before
-            | inr same ↦ agreed survey files first text (ap (get files) same ∙ agrees_true survey files path e ∙ ap (get survey) (sym same))
-          ];
-        }
+        differs = found.differs;
+        passed = λ text among. elim (among_cases (map spelling compared) (spelling path) text (sym (ap (λ ts. is_among ts text) (map-append spelling compared (path ∷ []))) ∙ among)) [
+          | inl before ↦ found.passed text before
+          | inr same ↦ agreed survey files first text (ap (get files) same ∙ agrees_true survey files path e ∙ ap (get survey) (sym same))
+        ];
+      }
       | false ↦ λ e. record {
-          differs = earlier_differs survey files first path found.differs (agrees_false survey files path e);
-          passed = λ text among. elim (among_cases (map spelling compared) (spelling path) text (sym (ap (λ ts. is_among ts text) (map-append spelling compared (path ∷ []))) ∙ among)) [
-            | inl before ↦ still_passed survey files first path text (found.passed text before)
-            | inr same ↦ own_passed survey files first path text same
-          ];
-        }
+        differs = earlier_differs survey files first path found.differs (agrees_false survey files path e);
+        passed = λ text among. elim (among_cases (map spelling compared) (spelling path) text (sym (ap (λ ts. is_among ts text) (map-append spelling compared (path ∷ []))) ∙ among)) [
+          | inl before ↦ still_passed survey files first path text (found.passed text before)
+          | inr same ↦ own_passed survey files first path text same
+        ];
+      }
     ] refl
 
 first_of_all : (survey files : ShelfFiles) (paths compared : List Path) (first : Option Path) → IsFirstOf survey files compared first → IsFirstOf survey files (compared ++ paths) (fold (first_after survey files) first paths)
@@ -165,6 +165,7 @@ among_either xs ys text either =
   where
     or_first : (a b : Bool) → a ≡ true → (a || b) ≡ true
     or_first a b e = grind arith
+
     or_second : (a b : Bool) → b ≡ true → (a || b) ≡ true
     or_second a b e = grind arith
 
@@ -185,6 +186,7 @@ module _ (survey files : ShelfFiles) (paths strays : List Path) (found : AreStra
       absent : (o : Option (List ℕ)) → is_some o ≡ false → o ≡ None
       absent None e = refl
       absent (Some x) e = cc
+
       cases : (o : Option (List ℕ)) → get survey (spelling path) ≡ o → (is_among (map spelling (strays ++ paths)) (spelling path) ≡ true) ⊎ AgreeAt survey files path
       cases (Some bytes) e = let at = each (spelling path) (ap is_some e) in inl (among_either strays paths (spelling path) (inr (among_at paths at.0 (spelling path) at.2)))
       cases None e =
@@ -244,9 +246,10 @@ Stripped bytes prefix rest = (pointwise nat_eq (take (length prefix) bytes) pref
 all_parts : (bytes front kept zeros rest last : List ℕ) (r : Bool) → bytes ≡ front ++ rest → rest ≡ kept ++ last → r ≡ bytes_eq last zeros → r ≡ bytes_eq bytes ((front ++ kept) ++ zeros)
 all_parts bytes front kept zeros rest last r first second is =
     let whole : bytes ≡ (front ++ kept) ++ last = first ∙ ap (λ xs. front ++ xs) second ∙ sym (append_assoc front kept last) in
-    is ∙ same_from_decides (bytes_eq last zeros) (bytes_eq bytes ((front ++ kept) ++ zeros))
-    (λ e. whole ∙ ap (λ xs. (front ++ kept) ++ xs) ((bytes_eq-Decides last zeros).0 e),
-    λ e. (bytes_eq-Decides last zeros).1 (cancel (front ++ kept) last zeros (sym whole ∙ e)))
+    is ∙ same_from_decides (bytes_eq last zeros) (bytes_eq bytes ((front ++ kept) ++ zeros)) (
+      λ e. whole ∙ ap (λ xs. (front ++ kept) ++ xs) ((bytes_eq-Decides last zeros).0 e),
+      λ e. (bytes_eq-Decides last zeros).1 (cancel (front ++ kept) last zeros (sym whole ∙ e)),
+    )
     (bytes_eq-Decides bytes ((front ++ kept) ++ zeros))
   where
     cancel : (xs ys zs : List ℕ) → xs ++ ys ≡ xs ++ zs → ys ≡ zs

@@ -75,16 +75,18 @@ found_all top texts xs ys zs found moved sorted once =
     let there : ℕ → Bool = λ leaf. is_among texts (leaf_path top leaf) in
     let numbers : (n : ℕ) → has (dedup nat_eq ys) n ≡ has xs n = λ n. has_dedup n ys ∙ sym (list_any-IsPermutation (λ x. nat_eq x n) xs ys moved) in
     let wanted : (n : ℕ) → has (filter there (range_with_len 0 (cell_count top))) n ≡ (there n && (nat_le 0 n && nat_lt n (0 + cell_count top))) =
-        λ n. has_filter there n (range_with_len 0 (cell_count top)) ∙ ap (λ b. there n && b) (has_range n 0 (cell_count top)) in
+    λ n. has_filter there n (range_with_len 0 (cell_count top)) ∙ ap (λ b. there n && b) (has_range n 0 (cell_count top)) in
     once ∙ same_numbers 0 0 (dedup nat_eq ys) (filter there (range_with_len 0 (cell_count top)))
-        (ascends_from_increasing 0 (dedup nat_eq ys) (λ _. omega arith) (IsStrictlyIncreasing-dedup ys sorted))
-        (ascends_from_increasing 0 (filter there (range_with_len 0 (cell_count top))) (λ _. omega arith) (IsStrictlyIncreasing-filter there (range_with_len 0 (cell_count top)) (range_increases 0 (cell_count top))))
-        (λ n. numbers n ∙ counted top texts xs found n ∙ sym (wanted n))
+    (ascends_from_increasing 0 (dedup nat_eq ys) (λ _. omega arith) (IsStrictlyIncreasing-dedup ys sorted))
+    (ascends_from_increasing 0 (filter there (range_with_len 0 (cell_count top))) (λ _. omega arith) (IsStrictlyIncreasing-filter there (range_with_len 0 (cell_count top)) (range_increases 0 (cell_count top))))
+    (λ n. numbers n ∙ counted top texts xs found n ∙ sym (wanted n))
   where
     inside : (b : Bool) (n c : ℕ) → n < c → b ≡ (b && (nat_le 0 n && nat_lt n (0 + c)))
     inside b n c h = grind (arith, nat_tests)
+
     outside : (b : Bool) (n c : ℕ) → c ≤ n → false ≡ (b && (nat_le 0 n && nat_lt n (0 + c)))
     outside b n c h = grind (arith, nat_tests)
+
     counted : (top : ℕ) (texts : List (List ℕ)) (xs : List ℕ) → Found top texts xs → (n : ℕ) → has xs n ≡ (is_among texts (leaf_path top n) && (nat_le 0 n && nat_lt n (0 + cell_count top)))
     counted top texts xs found n =
         elim (nat_lt n (cell_count top)) as (λ b. nat_lt n (cell_count top) ≡ b → has xs n ≡ (is_among texts (leaf_path top n) && (nat_le 0 n && nat_lt n (0 + cell_count top)))) [

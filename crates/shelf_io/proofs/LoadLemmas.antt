@@ -86,8 +86,8 @@ among_cells texts top =
     All-filter (λ leaf. is_among texts (leaf_path top leaf)) (λ leaf. leaf < cell_count top) (range_with_len 0 (cell_count top))
     (All-from_get_or (λ leaf. leaf < cell_count top) (range_with_len 0 (cell_count top)) 0
     (λ i h. let long : length (range_with_len 0 (cell_count top)) ≡ cell_count top = length-range_with_len 0 (cell_count top) in
-        let at : get_or (range_with_len 0 (cell_count top)) i 0 ≡ 0 + i = get_or-range_with_len 0 (cell_count top) i 0 (omega arith) in
-        omega arith))
+    let at : get_or (range_with_len 0 (cell_count top)) i 0 ≡ 0 + i = get_or-range_with_len 0 (cell_count top) i 0 (omega arith) in
+    omega arith))
 
 -- ---- the survey
 

@@ -37,11 +37,12 @@ leaf_is top leaf (Tile cell) e =
 -- a text that is read as this path is spelled as a leaf's exactly where the path is of the leaf
 pub leaf_of_read : (top : ℕ) (text : List ℕ) (path : Path) → top ≤ 11 → spelling path ≡ text → ((other : Path) → IsPath other → spelling other ≡ text → Some path ≡ Some other)
     → (leaf : ℕ) → leaf < cell_count top → (leaf_of top path ≡ Some leaf) ↔ (leaf_path top leaf ≡ text)
-leaf_of_read top text path h spelled only leaf below =
-    (λ is. sym (leaf_spelling top leaf) ∙ ap spelling (sym (leaf_is top leaf path is)) ∙ spelled,
-    λ is. let found : Some path ≡ Some (Tile (leaf_cell top leaf)) = only (Tile (leaf_cell top leaf)) (leaf_is_path top leaf h below) (leaf_spelling top leaf ∙ is) in
-        let same : path ≡ Tile (leaf_cell top leaf) = cc in
-        ap (leaf_of top) same ∙ own_leaf top leaf)
+leaf_of_read top text path h spelled only leaf below = (
+  λ is. sym (leaf_spelling top leaf) ∙ ap spelling (sym (leaf_is top leaf path is)) ∙ spelled,
+  λ is. let found : Some path ≡ Some (Tile (leaf_cell top leaf)) = only (Tile (leaf_cell top leaf)) (leaf_is_path top leaf h below) (leaf_spelling top leaf ∙ is) in
+      let same : path ≡ Tile (leaf_cell top leaf) = cc in
+      ap (leaf_of top) same ∙ own_leaf top leaf,
+)
 
 -- the leaf of a path that a survey can have is a cell of its order
 pub leaf_below : (top : ℕ) (path : Path) → IsPath path → IfSome (leaf_of top path) (λ leaf. leaf < cell_count top)

@@ -194,12 +194,14 @@ holds survey old paths strays found there each path is = cases (get survey (spel
     absent : (o : Option (List ℕ)) → is_some o ≡ false → o ≡ None
     absent None e = refl
     absent (Some x) e = cc
+
     gone : get survey (spelling path) ≡ None → get (without_in strays old) (spelling path) ≡ None
     gone lacking =
         elim (is_among (keys old) (spelling path)) as (λ b. is_among (keys old) (spelling path) ≡ b → get (without_in strays old) (spelling path) ≡ None) [
           | true ↦ λ e. removed_gone strays old (spelling path) (found.every path is e lacking)
           | false ↦ λ e. gone_stays strays old (spelling path) (absent (get old (spelling path)) (contains_key-keys old (spelling path) ∙ e))
         ] refl
+
     cases : (o : Option (List ℕ)) → get survey (spelling path) ≡ o → get (with_in survey paths (without_in strays old)) (spelling path) ≡ get survey (spelling path)
     cases None e = kept_there survey paths (without_in strays old) (spelling path) there e ∙ gone e ∙ sym e
     cases (Some bytes) e =

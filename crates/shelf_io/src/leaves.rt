@@ -93,12 +93,7 @@ fn add_leaf<H: Shelf>(
 }
 
 // Puts a tile behind those of leaves with lower numbers.
-fn put_tile(
-    alloc: Global,
-    leaf: u64,
-    tile: Tile,
-    tiles: &mut Store<Tile>,
-) -> Result<(), AllocError>
+fn put_tile(alloc: Global, leaf: u64, tile: Tile, tiles: &mut Store<Tile>) -> Result<(), AllocError>
     requires { All (λ key. key < leaf) (keys_of tiles.old) }
     ensures put { OnOk result (tiles.new ≡ tiles.old ++ (leaf, tile) ∷ []) }
     ensures refused { OnErr result (tiles.new ≡ tiles.old) }

@@ -107,9 +107,17 @@ fn refusal<R: Threads + Sync>(
     alloc: Global,
     shelf: &mut MemShelf,
 ) -> Result<String, AllocError> {
-    match opened(rt, alloc, shelf) {
-        Ok(_) => String::from_str(alloc, "loaded"),
-        Err(refusal) => refusal.to_string(alloc),
+    if let Err(refusal) = opened(rt, alloc, shelf) {
+        return refusal.to_string(alloc);
+    }
+    String::from_str(alloc, "loaded")
+}
+
+// How the shelf compares with the generation.
+fn compared(alloc: Global, shelf: &mut MemShelf, generation: &Generation) -> Result<String, Fail> {
+    match verify(alloc, shelf, generation) {
+        Ok(verdict) => Ok(verdict.to_string(alloc)?),
+        Err(fault) => Err(Fail::from(fault)),
     }
 }
 
@@ -191,10 +199,10 @@ fn an_empty_survey_has_two_files(rt: HostRuntime) -> Result<(), Fail> {
     let paths = listed(alloc, &mut shelf)?;
     assert!(rt; paths.as_str() == "Moc.fits note.txt properties survey.conf ");
     shelf.put("Norder3/Allsky.fits", b"stray")?;
-    let verdict = verify(alloc, &mut shelf, &generation)?.to_string(alloc)?;
+    let verdict = compared(alloc, &mut shelf, &generation)?;
     assert!(rt; verdict.as_str() == "differs Norder3/Allsky.fits");
     assert!(rt; export(alloc, &mut shelf, &generation)? == 2);
-    let verdict = verify(alloc, &mut shelf, &generation)?.to_string(alloc)?;
+    let verdict = compared(alloc, &mut shelf, &generation)?;
     assert!(rt; verdict.as_str() == "verified 2");
     Ok(())
 }
@@ -204,49 +212,62 @@ fn a_survey_is_exported_and_loaded_again(rt: HostRuntime) -> Result<(), Fail> {
     let alloc = rt.alloc();
     let mut shelf = shelf_with_leaf(alloc, Vec::new(alloc))?;
     let generation = opened(&rt, alloc, &mut shelf)?;
-    let verdict = verify(alloc, &mut shelf, &generation)?.to_string(alloc)?;
+    let verdict = compared(alloc, &mut shelf, &generation)?;
     assert!(rt; verdict.as_str() == "differs Moc.fits");
     assert!(rt; export(alloc, &mut shelf, &generation)? == 5);
-    let above = shelf.get(alloc, "Norder3/Dir0/Npix0.fits")?.ok_or("no tile")?;
+    let above = shelf
+        .get(alloc, "Norder3/Dir0/Npix0.fits")?
+        .ok_or("no tile")?;
     assert!(rt; above.len() == 5_760);
     assert!(rt; above[2_880..2_888] == [0x80, 0, 0x80, 0, 0, 3, 0x80, 0]);
     let again = opened(&rt, alloc, &mut shelf)?;
-    let verdict = verify(alloc, &mut shelf, &again)?.to_string(alloc)?;
+    let verdict = compared(alloc, &mut shelf, &again)?;
     assert!(rt; verdict.as_str() == "verified 5");
     Ok(())
 }
 
 // Loads, exports and verifies while one call fails, counted from the first after the shelf was filled. How far it came: the
-// number of files that were verified, or which of the three failed.
+// length of the verdict, or 100, 200 or 300 for the one of the three that failed.
 fn with_one_failing_call<R: Threads + Sync>(rt: &R, alloc: Global, call: u64) -> Result<u64, Fail> {
     let mut fails = Vec::new(alloc);
     fails.push(4 + call % 64)?;
     let mut shelf = shelf_with_leaf(alloc, fails)?;
-    let told = match opened(rt, alloc, &mut shelf) {
-        Err(LoadRefusal::ShelfFault) => 100,
-        Err(refusal) => return Err(Fail::from(refusal)),
-        Ok(generation) => match export(alloc, &mut shelf, &generation) {
-            Err(LinkFault::Failed) => 200,
-            Err(fault) => return Err(Fail::from(fault)),
-            Ok(_) => match verify(alloc, &mut shelf, &generation) {
-                Err(LinkFault::Failed) => 300,
-                Err(fault) => return Err(Fail::from(fault)),
-                Ok(verdict) => verdict.to_string(alloc)?.len() as u64,
-            },
-        },
-    };
+    let told = how_far(rt, alloc, &mut shelf)?;
     if !keeps_its_own(alloc, &mut shelf)? {
         return Err(Fail::from("a file of another kind was touched"));
     }
     Ok(told)
 }
 
+fn how_far<R: Threads + Sync>(rt: &R, alloc: Global, shelf: &mut MemShelf) -> Result<u64, Fail> {
+    let generation = match opened(rt, alloc, shelf) {
+        Ok(generation) => generation,
+        Err(LoadRefusal::ShelfFault) => return Ok(100),
+        Err(refusal) => return Err(Fail::from(refusal)),
+    };
+    match export(alloc, shelf, &generation) {
+        Ok(_) => how_compared(alloc, shelf, &generation),
+        Err(LinkFault::Failed) => Ok(200),
+        Err(fault) => Err(Fail::from(fault)),
+    }
+}
+
+fn how_compared(alloc: Global, shelf: &mut MemShelf, generation: &Generation) -> Result<u64, Fail> {
+    match verify(alloc, shelf, generation) {
+        Ok(verdict) => Ok(verdict.to_string(alloc)?.len() as u64),
+        Err(LinkFault::Failed) => Ok(300),
+        Err(fault) => Err(Fail::from(fault)),
+    }
+}
+
 // Whether the description and the note are as they were.
 fn keeps_its_own(alloc: Global, shelf: &mut MemShelf) -> Result<bool, LinkFault> {
     let conf = shelf.get(alloc, "survey.conf")?;
     let note = shelf.get(alloc, "note.txt")?;
-    Ok(conf.is_some_and(|text| text.as_slice() == SURVEY.as_bytes())
-        && note.is_some_and(|text| text.as_slice() == b"keep".as_slice()))
+    Ok(
+        conf.is_some_and(|text| text.as_slice() == SURVEY.as_bytes())
+            && note.is_some_and(|text| text.as_slice() == b"keep".as_slice()),
+    )
 }
 
 // Loading takes three calls: the description, the list, the leaf. Exporting takes seven: the list, a stray to remove, five
@@ -260,7 +281,10 @@ fn one_failing_call_is_told(rt: HostRuntime) -> Result<(), Fail> {
             3..10 => 200,
             _ => 300,
         };
-        assert!(rt; with_one_failing_call(&rt, alloc, call)? == wanted, "{call}");
+        assert!(rt;
+            with_one_failing_call(&rt, alloc, call)? == wanted,
+            "{call}"
+        );
     }
     let all = "verified 5".len() as u64;
     assert!(rt; with_one_failing_call(&rt, alloc, 63)? == all);

@@ -11,12 +11,12 @@ use Rattle.shelf_io.proofs.listing.listed_leaves.Goals.{in-Some+in_ok-push, in_d
 pub loop-path-preserved : goal.loop-path-preserved
 loop-path-preserved c =
     let more : map string_bytes (take (c.loop-path.path-index + 1) c.args.paths.now) ≡ map string_bytes (take c.loop-path.path-index c.args.paths.now) ++ c.as_bytes.result.now ∷ [] =
-        map_more string_bytes c.args.paths.now c.loop-path.path-index c.path-item.result c.loop-path-test.true c.path-item.is ∙ ap (λ text. map string_bytes (take c.loop-path.path-index c.args.paths.now) ++ text ∷ []) (sym c.as_bytes.ensures.value) in
+    map_more string_bytes c.args.paths.now c.loop-path.path-index c.path-item.result c.loop-path-test.true c.path-item.is ∙ ap (λ text. map string_bytes (take c.loop-path.path-index c.args.paths.now) ++ text ∷ []) (sym c.as_bytes.ensures.value) in
     let next : c.match-leaf_at.leaves.items ≡ c.loop-path.leaves.items ++ option_items c.leaf_at.result =
-        elim c.match-leaf_at.branch [
-          | in-Some+in_ok-push w ↦ ap (λ v. v.items) w.leaves-is ∙ w.in_ok-push.ensures.items ∙ ap (λ o. c.loop-path.leaves.items ++ option_items o) (sym w.in-Some.is)
-          | in_default w ↦ ap (λ v. v.items) w.leaves-is ∙ sym (append-nil c.loop-path.leaves.items) ∙ ap (λ o. c.loop-path.leaves.items ++ option_items o) (sym w.in_default.is)
-        ] in
+    elim c.match-leaf_at.branch [
+      | in-Some+in_ok-push w ↦ ap (λ v. v.items) w.leaves-is ∙ w.in_ok-push.ensures.items ∙ ap (λ o. c.loop-path.leaves.items ++ option_items o) (sym w.in-Some.is)
+      | in_default w ↦ ap (λ v. v.items) w.leaves-is ∙ sym (append-nil c.loop-path.leaves.items) ∙ ap (λ o. c.loop-path.leaves.items ++ option_items o) (sym w.in_default.is)
+    ] in
     found_next c.args.top _ _ c.loop-path.leaves.items c.match-leaf_at.leaves.items c.as_bytes.result.now c.leaf_at.result more c.leaf_at.ensures.cell c.leaf_at.ensures.leaf c.loop-path.invariant next
 
 whole : (paths : List (String Global)) (i : ℕ) → length paths ≤ i → take i paths ≡ paths

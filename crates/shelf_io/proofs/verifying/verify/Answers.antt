@@ -30,9 +30,9 @@ returns-in-Some-clause-verdict g c =
     let strays = c.in_ok-strays.strays.items in
     let begun : c.first_path.result ≡ first_path strays = c.first_path.ensures.first ∙ ap first_path c.deref.ensures.value in
     let told : IfSome (g.H.Shelf.files c.args.shelf.now) (λ fs. Some c.in-Some.path ≡ fold (first_after survey fs) (first_path strays) paths) =
-        subst (λ o. IfSome o (λ fs. Some c.in-Some.path ≡ fold (first_after survey fs) (first_path strays) paths)) c.shelf_strays.ensures.kept
-        (subst (λ f. IfSome (g.H.Shelf.files c.shelf_strays.new.shelf) (λ fs. Some c.in-Some.path ≡ fold (first_after survey fs) f paths)) begun
-        (subst (λ r. IfSome (g.H.Shelf.files c.shelf_strays.new.shelf) (λ fs. r ≡ fold (first_after survey fs) c.first_path.result paths)) c.in-Some.is c.in_ok-path.ensures.first)) in
+    subst (λ o. IfSome o (λ fs. Some c.in-Some.path ≡ fold (first_after survey fs) (first_path strays) paths)) c.shelf_strays.ensures.kept
+    (subst (λ f. IfSome (g.H.Shelf.files c.shelf_strays.new.shelf) (λ fs. Some c.in-Some.path ≡ fold (first_after survey fs) f paths)) begun
+    (subst (λ r. IfSome (g.H.Shelf.files c.shelf_strays.new.shelf) (λ fs. r ≡ fold (first_after survey fs) c.first_path.result paths)) c.in-Some.is c.in_ok-path.ensures.first)) in
     told_first survey (g.H.Shelf.files c.args.shelf.now) paths strays c.in-Some.path
     (λ text some. let at = c.file_count-count.ensures.each text some in (at.0, omega (arith, at.1, c.file_count-count.ensures.paths), at.2))
     (subst (λ o. IfSome o IsPath) c.in-Some.is c.in_ok-path.ensures.path) c.in_ok-strays.ensures.strays told
@@ -44,9 +44,9 @@ returns-clause-verdict g c =
     let strays = c.in_ok-strays.strays.items in
     let begun : c.first_path.result ≡ first_path strays = c.first_path.ensures.first ∙ ap first_path c.deref.ensures.value in
     let told : IfSome (g.H.Shelf.files c.args.shelf.now) (λ fs. None ≡ fold (first_after survey fs) (first_path strays) paths) =
-        subst (λ o. IfSome o (λ fs. None ≡ fold (first_after survey fs) (first_path strays) paths)) c.shelf_strays.ensures.kept
-        (subst (λ f. IfSome (g.H.Shelf.files c.shelf_strays.new.shelf) (λ fs. None ≡ fold (first_after survey fs) f paths)) begun
-        (subst (λ r. IfSome (g.H.Shelf.files c.shelf_strays.new.shelf) (λ fs. r ≡ fold (first_after survey fs) c.first_path.result paths)) c.in-None.is c.in_ok-path.ensures.first)) in
+    subst (λ o. IfSome o (λ fs. None ≡ fold (first_after survey fs) (first_path strays) paths)) c.shelf_strays.ensures.kept
+    (subst (λ f. IfSome (g.H.Shelf.files c.shelf_strays.new.shelf) (λ fs. None ≡ fold (first_after survey fs) f paths)) begun
+    (subst (λ r. IfSome (g.H.Shelf.files c.shelf_strays.new.shelf) (λ fs. r ≡ fold (first_after survey fs) c.first_path.result paths)) c.in-None.is c.in_ok-path.ensures.first)) in
     told_none survey (g.H.Shelf.files c.args.shelf.now) paths strays
     (λ text some. let at = c.file_count-count.ensures.each text some in (at.0, omega (arith, at.1, c.file_count-count.ensures.paths), at.2))
     c.in_ok-strays.ensures.strays told
