@@ -1,6 +1,8 @@
 //! Each form once, through the trait it meets.
 ghost use Rattle.std.specs.Prelude.{◌<◌, length};
 
+mod folder_shelf;
+
 use super::*;
 use std::alloc::{AllocError, Global};
 use std::io;
