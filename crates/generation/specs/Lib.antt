@@ -2,3 +2,4 @@ pub mod Generation
 pub mod Files
 pub mod Steps
 pub mod Served
+pub mod Kept

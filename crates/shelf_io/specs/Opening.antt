@@ -43,7 +43,7 @@ abbrev pub leaf_cell : ℕ → ℕ → NestedCell
 leaf_cell top leaf = record { order = top; npix = leaf }
 
 -- the path of a leaf: of a tile of the order of the leaves
-abbrev pub leaf_path : ℕ → ℕ → List ℕ
+unfoldable pub leaf_path : ℕ → ℕ → List ℕ
 leaf_path top leaf = spelling (TilePath (leaf_cell top leaf))
 
 -- the leaves that the shelf has a file of, by ascending number
@@ -97,13 +97,21 @@ opening_with files (Ok d) = option_map_or (λ refusal. Err refusal) (leaves_refu
 abbrev pub opening : ShelfFiles → Result OpenedSurvey LoadRefusal
 opening files = opening_with files (conf_on files)
 
--- how many steps it takes at most: one for each leaf that has a file, and one for each tile above those that are read
-abbrev pub steps_with : ShelfFiles → Result Description LoadRefusal → ℕ
-steps_with files (Err refusal) = 0
-steps_with files (Ok d) = length (leaves_on files d.shape.top) + tiles_above d.shape (leaf_map (survey_on files d).leaves)
+-- how many leaves have a file, and how many tiles there are above those that are read
+abbrev pub leaf_count_with : ShelfFiles → Result Description LoadRefusal → ℕ
+leaf_count_with files (Err refusal) = 0
+leaf_count_with files (Ok d) = length (leaves_on files d.shape.top)
 
+abbrev pub leaf_count : ShelfFiles → ℕ
+leaf_count files = leaf_count_with files (conf_on files)
+
+abbrev pub tiles_above_with : Result OpenedSurvey LoadRefusal → ℕ
+tiles_above_with (Err refusal) = 0
+tiles_above_with (Ok survey) = tiles_above survey.conf.shape (leaf_map survey.leaves)
+
+-- how many steps loading takes at most: one for each leaf that has a file, and one for each tile above them
 abbrev pub opening_steps : ShelfFiles → ℕ
-opening_steps files = steps_with files (conf_on files)
+opening_steps files = leaf_count files + tiles_above_with (opening files)
 
 -- a refusal is the one that the files show; or the shelf failed, or there was no memory, which no files show
 abbrev pub IsRefusedBy : Option LoadRefusal → LoadRefusal → Type 0

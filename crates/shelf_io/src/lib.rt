@@ -4,9 +4,19 @@
 //! No call holds more than one file of the shelf at a time, and none touches a file that no survey can have.
 #![tactic(auto)]
 
+mod buffer;
+mod charge;
+mod description;
 mod exporting;
+mod leaves;
+mod listing;
 mod loading;
+mod order;
 mod refusal;
+mod spelling;
+mod strays;
+#[cfg(test)]
+mod tests;
 mod verdict;
 mod verifying;
 
