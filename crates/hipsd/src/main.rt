@@ -24,6 +24,8 @@ mod records;
 mod refusing;
 mod run;
 #[cfg(test)]
+mod survey_tests;
+#[cfg(test)]
 mod tests;
 mod verifying;
 
