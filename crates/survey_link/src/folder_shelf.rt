@@ -1,7 +1,9 @@
 //! The shelf over the current folder.
 ghost use Rattle.std.specs.Prelude.{◌≡◌, ◌≤◌, None, Bool, true, false, All, Err, string_bytes, IfOk, OnOk, OnErr, IsErrOf};
 ghost use Rattle.survey_link.specs.Link.{next_count};
-ghost use Rattle.survey_link.specs.ShelfPath.{is_left_over, is_shelf_path};
+ghost use Rattle.survey_link.specs.Folder.{IsPut};
+ghost use Rattle.survey_link.specs.Shelf.{OthersStay};
+ghost use Rattle.survey_link.specs.ShelfPath.{is_left_over, is_shelf_path, unfinished};
 
 use crate::faults::LinkFault;
 use crate::file_fault::FileFault;
@@ -85,7 +87,10 @@ fn put_at<F: Folder>(
     alloc: Global,
     path: &str,
     bytes: &[u8],
-) -> Result<(), FileFault> {
+) -> Result<(), FileFault>
+    ensures done { OnOk result (IsPut path.now (unfinished path.now) bytes.now (F.files folder.old) (F.files folder.new)) }
+    ensures refused { OnErr result (OthersStay (unfinished path.now) (F.files folder.old) (F.files folder.new)) }
+{
     match unfinished(alloc, path) {
         Ok(beside) => put_by_way_of(folder, beside.as_str(), path, bytes),
         Err(_) => Err(FileFault::OutOfMemory),

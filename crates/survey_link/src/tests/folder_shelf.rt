@@ -1,8 +1,9 @@
 //! A shelf over the folder that the test runs in; all that it writes lies below the folder `shelf`.
+use super::{holds, lacks};
 use crate::file_fault::FileFault;
 use crate::here::again;
 use crate::shelf_path::is_shelf_path;
-use crate::{FolderShelf, Shelf};
+use crate::{FolderShelf, LinkFault, Shelf};
 use std::alloc::Global;
 use std::cell::Cell;
 use std::io::ErrorKind;
@@ -56,28 +57,12 @@ listed - 1
 ";
 
 // How many of the files that are listed lie in the folder `shelf`.
-fn count<H: Shelf>(alloc: Global, shelf: &mut H) -> Option<usize> {
-    match shelf.list(alloc) {
-        Err(_) => None,
-        Ok(paths) => {
-            let ours = paths
-                .iter()
-                .filter(|path| path.as_str().starts_with("shelf/"));
-            Some(ours.count())
-        }
-    }
-}
-
-// Whether these bytes stand at the path.
-fn holds<H: Shelf>(alloc: Global, shelf: &mut H, path: &str, text: &str) -> bool {
-    match shelf.get(alloc, path) {
-        Ok(Some(bytes)) => bytes.as_slice() == text.as_bytes(),
-        _ => false,
-    }
-}
-
-fn lacks<H: Shelf>(alloc: Global, shelf: &mut H, path: &str) -> bool {
-    matches!(shelf.get(alloc, path), Ok(None))
+fn count<H: Shelf>(alloc: Global, shelf: &mut H) -> Result<usize, LinkFault> {
+    let paths = shelf.list(alloc)?;
+    let ours = paths
+        .iter()
+        .filter(|path| path.as_str().starts_with("shelf/"));
+    Ok(ours.count())
 }
 
 // Whether the step goes as its word says.
@@ -91,10 +76,10 @@ fn goes<R: Files + AllocGlobal + Clone + Drop>(
     let alloc = rt.alloc();
     match word {
         "put" => shelf.put(path, text.as_bytes()).is_ok(),
-        "holds" => holds(alloc, shelf, path, text),
-        "lacks" => lacks(alloc, shelf, path),
+        "holds" => holds(alloc, shelf, path, text.as_bytes()).unwrap_or(false),
+        "lacks" => lacks(alloc, shelf, path).unwrap_or(false),
         "removed" => shelf.remove(path).is_ok(),
-        "listed" => count(alloc, shelf) == text.parse::<usize>().ok(),
+        "listed" => count(alloc, shelf).ok() == text.parse::<usize>().ok(),
         "faults" => Some(shelf.faults()) == text.parse::<u64>().ok(),
         "unreadable" => shelf.get(alloc, path).is_err(),
         "unwritable" => shelf.put(path, text.as_bytes()).is_err(),
