@@ -1,3 +1,12 @@
 pub mod Lists
 pub mod Locality
 pub mod Orders
+pub mod Placing
+pub mod Chain
+pub mod Results
+pub mod Edits
+pub mod Pyramids
+pub mod FileLemmas
+pub mod Changing
+pub mod Mosaics
+pub mod Paths

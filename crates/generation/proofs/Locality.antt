@@ -47,7 +47,7 @@ exists_agrees shape a b (suc height) k q e agree =
     let c3 = exists_agrees shape a b height (k + 1) (4 * q + 3) next (agree_child a b height q 3 (omega arith) more) in
     exists_step shape a k q above
     ∙ same_four (exists shape a (k + 1) (4 * q)) (exists shape a (k + 1) (4 * q + 1)) (exists shape a (k + 1) (4 * q + 2)) (exists shape a (k + 1) (4 * q + 3))
-      (exists shape b (k + 1) (4 * q)) (exists shape b (k + 1) (4 * q + 1)) (exists shape b (k + 1) (4 * q + 2)) (exists shape b (k + 1) (4 * q + 3)) c0 c1 c2 c3
+    (exists shape b (k + 1) (4 * q)) (exists shape b (k + 1) (4 * q + 1)) (exists shape b (k + 1) (4 * q + 2)) (exists shape b (k + 1) (4 * q + 3)) c0 c1 c2 c3
     ∙ sym (exists_step shape b k q above)
 
 -- the pixels under a cell agree
@@ -84,7 +84,7 @@ pixel_agrees : (shape : PyramidShape) (a b : LeafMap) (k p s : ℕ) → k ≤ sh
 pixel_agrees shape a b k p s h agree =
     let height : shape.top + shape.n - (k + shape.n) ≡ shape.top - k = omega arith in
     value_agrees shape a b (shape.top + shape.n - (k + shape.n)) (p * 4 ^ shape.n + stored_z shape.n s) (λ pixel e.
-      agree (pixel / 4 ^ shape.n) (within pixel shape.n (shape.top - k) p (stored_z shape.n s) (stored_z_below shape.n s) (ap (λ j. pixel / 4 ^ j) (sym height) ∙ e)))
+    agree (pixel / 4 ^ shape.n) (within pixel shape.n (shape.top - k) p (stored_z shape.n s) (stored_z_below shape.n s) (ap (λ j. pixel / 4 ^ j) (sym height) ∙ e)))
 
 -- a tile is the same where the leaves under its cell are
 pub record SameTile (shape : PyramidShape) (a b : LeafMap) (k p : ℕ) : Type 0 where

@@ -1,11 +1,11 @@
 -- The tiles of an order, as a map from cells.
 use Rattle.std.proofs.Common.{◌≡◌, ℕ, ◌+◌, ◌-◌, ◌*◌, ◌/◌, ◌^◌, ◌<◌, ◌≤◌, ◌||◌, ◌&&◌, Bool, true, false, map, List, [], ◌∷◌, Option, Some, None, option_map, refl, sym, ap, ◌∙◌, subst, arith, length, ℤ, eqb, leb, eqb-true, leb-true}
-use Rattle.std.specs.Prelude.{All, IfSome, is_some}
+use Rattle.std.specs.Prelude.{All, IfSome, MatchOption, is_some}
 use Rattle.std.specs.List.{list_any}
 use Rattle.std.specs.Map.{keys_of, values_of}
 use Rattle.std.specs.BTreeMap.{is_at}
 use Rattle.std.specs.Ordering.{nat_cmp}
-use Rattle.std.proofs.lemmas.Bool.{and_parts}
+use Rattle.std.proofs.lemmas.Bool.{and_parts, true≢false}
 use Rattle.std.proofs.lemmas.Bool.Decides.{nat_tests}
 use Rattle.std.proofs.lemmas.List.Elements.{All-head, All-tail, All-nil, All-cons}
 use Rattle.std.proofs.lemmas.Map.Made.{lookup-map_values}
@@ -22,7 +22,7 @@ use Rattle.leaf_store.specs.Store.{IsAscending, value_at}
 use Rattle.rebuild_worker.specs.Level.{HaveShape, numbers_of}
 use Rattle.edit_journal.specs.Leaves.{LeafTiles, FitsLeaves}
 use Rattle.generation.specs.Files.{leaf_map, existing}
-use Rattle.generation.specs.Kept.{tile_of, tiles_of}
+use Rattle.generation.specs.Kept.{tile_of, tiles_of, HasTile}
 use Rattle.generation.proofs.Lists.{same_pairs, selected_some, selected_none, selected_ascends, keys_of-selected}
 
 -- the leaves are cells of their order
@@ -83,6 +83,22 @@ module _ (shape : PyramidShape) (leaves : LeafMap) (k : ℕ) where
     | false ↦ λ e. rw (value_absent p e) e
   ] refl
 
+-- what a look-up in an order finds is the tile of the cell
+pub found_tile : {A : Type 0} (view : A → PixelTile) (shape : PyramidShape) (leaves : LeafMap) (k p : ℕ) (r : Option A) → (exists shape leaves k p ≡ true → p < cell_count k) → shape.low ≤ k → k ≤ shape.top
+    → option_map view r ≡ value_at p (tiles_of shape leaves k) → MatchOption r (HasTile shape leaves k p → ⊥) (λ x. HasTile shape leaves k p × (view x ≡ tile_of shape leaves k p))
+found_tile {A} view shape leaves k p r below low high is = elim (exists shape leaves k p) as (λ b. exists shape leaves k p ≡ b → MatchOption r (HasTile shape leaves k p → ⊥) (λ x. HasTile shape leaves k p × (view x ≡ tile_of shape leaves k p))) [
+  | true ↦ λ e. there r e (is ∙ value_there shape leaves k p e (below e))
+  | false ↦ λ e. absent r e (is ∙ value_absent shape leaves k p e)
+] refl
+  where
+    there : (r : Option A) → exists shape leaves k p ≡ true → option_map view r ≡ Some (tile_of shape leaves k p) → MatchOption r (HasTile shape leaves k p → ⊥) (λ x. HasTile shape leaves k p × (view x ≡ tile_of shape leaves k p))
+    there None e found = cc
+    there (Some x) e found = ((low, high, e), (let same : view x ≡ tile_of shape leaves k p = cc in same))
+
+    absent : (r : Option A) → exists shape leaves k p ≡ false → option_map view r ≡ None → MatchOption r (HasTile shape leaves k p → ⊥) (λ x. HasTile shape leaves k p × (view x ≡ tile_of shape leaves k p))
+    absent None e found = λ has. true≢false (sym has.2 ∙ e)
+    absent (Some x) e found = cc
+
 -- ---- the leaves
 
 pub leaf_numbers-leaf_map : (p : ℕ) (leaves : LeafTiles) → leaf_numbers (leaf_map leaves) p ≡ numbers_of (value_at p leaves)
@@ -99,9 +115,9 @@ pub leaves_are : (shape : PyramidShape) (leaves : LeafTiles) → IsShape shape.t
 leaves_are shape leaves known fits numbers = same_pairs leaves (tiles_of shape (leaf_map leaves) shape.top) fits.ascending (tiles_ascend shape (leaf_map leaves) shape.top) (λ p.
     let small : shape.top ≤ 11 = known.greatest_top in
     shown_is shape (leaf_map leaves) shape.top p (value_at p leaves)
-      (exists_in_order shape (leaf_map leaves) shape.top p (omega arith) numbers.cells)
-      (IfSome-lookup_from_All (λ t. HasShape t shape.depth shape.n) (is_at (nat_cmp p)) leaves fits.tiles)
-      (leaf_shows shape leaves p (value_at p leaves) known.greatest_n (IfSome-lookup_from_All (λ t. length t.numbers ≡ 4 ^ shape.n) (is_at (nat_cmp p)) leaves (lengths leaves numbers.lengths)) refl))
+    (exists_in_order shape (leaf_map leaves) shape.top p (omega arith) numbers.cells)
+    (IfSome-lookup_from_All (λ t. HasShape t shape.depth shape.n) (is_at (nat_cmp p)) leaves fits.tiles)
+    (leaf_shows shape leaves p (value_at p leaves) known.greatest_n (IfSome-lookup_from_All (λ t. length t.numbers ≡ 4 ^ shape.n) (is_at (nat_cmp p)) leaves (lengths leaves numbers.lengths)) refl))
   where
     lengths : (leaves : LeafTiles) → All (λ ns. length ns ≡ 4 ^ shape.n) (values_of (leaf_map leaves)) → All (λ t. length t.numbers ≡ 4 ^ shape.n) (values_of leaves)
     lengths [] all = All-nil (λ (t : PixelTile). length t.numbers ≡ 4 ^ shape.n)

@@ -1,18 +1,21 @@
 -- What a generation keeps: the tiles of each order, as the definition of the pyramid makes them of the leaves.
-use Rattle.std.specs.Prelude.{◌≡◌, ◌≢◌, ℕ, ◌+◌, ◌-◌, ◌*◌, ◌/◌, ◌<◌, ◌≤◌, false, List, [], map, take, drop, length, slice_index_or, Option, Some, None}
+use Rattle.std.specs.Prelude.{◌≡◌, ◌≢◌, ℕ, ◌+◌, ◌-◌, ◌*◌, ◌/◌, ◌<◌, ◌≤◌, false, true, List, [], map, take, drop, length, slice_index_or, Option, Some, None, Contains}
 use Rattle.healpix_nested.specs.Cells.{cell_count}
 use Rattle.parent_rule.specs.Permit.{PermittedCell}
 use Rattle.pyramid_model.specs.Shape.{PyramidShape, LeafMap, FitsShape, IsShape}
-use Rattle.pyramid_model.specs.Tile.{pixels}
+use Rattle.pyramid_model.specs.Tile.{exists, pixels}
 use Rattle.tile_pixels.specs.Tile.{PixelTile}
 use Rattle.leaf_store.specs.Store.{value_at}
-use Rattle.survey_conf.specs.Description.{Description}
+use Rattle.std.specs.Map.{keys_of}
+use Rattle.survey_conf.specs.Description.{Description, IsDescription}
+use Rattle.survey_conf.specs.Properties.{properties_text}
+use Rattle.coverage_moc.specs.Cover.{MocCover, cover}
 use Rattle.fits_tile.specs.TileFile.{image_file}
-use Rattle.allsky_mosaic.specs.Mosaic.{mosaic, mosaic_count, width_of, height_of}
-use Rattle.allsky_mosaic.specs.Tiles.{IsMosaic, order_3, leaves_of}
+use Rattle.allsky_mosaic.specs.Mosaic.{mosaic, width_of, height_of}
 use Rattle.dirty_plan.specs.Dirty.{is_dirty, orders_down}
 use Rattle.edit_journal.specs.Leaves.{LeafTiles, FitsLeaves}
 use Rattle.generation.specs.Files.{leaf_map, existing}
+use Rattle.generation.specs.Changes.{AreTiles}
 
 -- the tile of a cell
 abbrev pub tile_of : PyramidShape → LeafMap → ℕ → ℕ → PixelTile
@@ -21,6 +24,10 @@ tile_of shape leaves order npix = record { depth = shape.depth; n = shape.n; num
 -- the tiles of an order, by ascending number
 unfoldable pub tiles_of : PyramidShape → LeafMap → ℕ → List (ℕ × PixelTile)
 tiles_of shape leaves order = map (λ npix. (npix, tile_of shape leaves order npix)) (existing shape leaves order)
+
+-- the survey has a tile of the cell
+abbrev pub HasTile : PyramidShape → LeafMap → ℕ → ℕ → Type 0
+HasTile shape leaves order npix = (shape.low ≤ order) × (order ≤ shape.top) × (exists shape leaves order npix ≡ true)
 
 -- those of the orders from the one above the leaves down to the lowest
 abbrev pub levels_of : PyramidShape → LeafMap → List (List (ℕ × PixelTile))
@@ -36,7 +43,12 @@ pub record IsPyramid (shape : PyramidShape) (leaves : LeafTiles) (levels : List 
   pub known : IsShape shape.top shape.low shape.n
   pub fits : FitsLeaves shape leaves
   pub numbers : FitsShape shape (leaf_map leaves)
+  pub tiles : AreTiles leaves
   pub levels_are : levels ≡ levels_of shape (leaf_map leaves)
+
+-- a leaf that isn't among the touched ones is the same in both maps
+abbrev pub SameBut : List ℕ → LeafTiles → LeafTiles → Type 0
+SameBut touched old new = (leaf : ℕ) → (Contains touched leaf → ⊥) → value_at leaf new ≡ value_at leaf old
 
 -- before a level is made: tiles of cells under which no touched leaf lies are those of the order
 abbrev pub AreKept : PyramidShape → LeafMap → List ℕ → ℕ → List (ℕ × PixelTile) → Type 0
@@ -48,17 +60,22 @@ abbrev pub AllKept : PyramidShape → LeafMap → List ℕ → List (List (ℕ �
 AllKept shape leaves touched levels =
     (i : ℕ) → i < shape.top - shape.low → AreKept shape leaves touched (shape.top - 1 - i) (slice_index_or levels i [])
 
--- the bytes of the mosaic's pixels within its file
-abbrev pub image_pixels : Description → List ℕ → List ℕ
-image_pixels d file = take (mosaic_count d.shape.n * (d.shape.depth.bitpix / 8)) (drop 2880 file)
-
--- the file of the mosaic of leaves, whose pixels are the mosaic of the tiles of order 3
+-- the file of the mosaic of leaves
 pub record IsMosaicFile (d : Description) (leaves : LeafMap) (file : List ℕ) : Type 0 where
   pub some : leaves ≢ []
   pub file_is : file ≡ image_file d (width_of d.shape.n) (height_of d.shape.n) (mosaic d.shape leaves)
-  pub pixels_are : IsMosaic d.shape.depth d.shape.n (order_3 d.shape.depth d.shape.n) (leaves_of (tiles_of d.shape leaves 3)) (image_pixels d file)
 
 -- there is one exactly where there is a leaf
 abbrev pub KeepsMosaic : Description → LeafMap → Option (List ℕ) → Type 0
 KeepsMosaic d leaves None = leaves ≡ []
 KeepsMosaic d leaves (Some file) = IsMosaicFile d leaves file
+
+-- what a generation keeps beside its leaves: the cover and its file, the mosaic's file and the text of the properties
+pub record IsKept (d : Description) (pyramid : PyramidContent) (coverage : MocCover) (mosaic : Option (List ℕ)) (properties : List ℕ) : Type 0 where
+  pub description : IsDescription d
+  pub shape : pyramid.shape ≡ d.shape
+  pub fits : FitsLeaves d.shape pyramid.leaves
+  pub numbers : FitsShape d.shape (leaf_map pyramid.leaves)
+  pub coverage_is : coverage ≡ record { top = d.shape.top; rows = cover d.shape.top (keys_of pyramid.leaves) }
+  pub mosaic_is : KeepsMosaic d (leaf_map pyramid.leaves) mosaic
+  pub properties_are : properties ≡ properties_text d (length pyramid.leaves)

@@ -3,3 +3,5 @@ pub mod Files
 pub mod Steps
 pub mod Served
 pub mod Kept
+pub mod Placed
+pub mod Changes

@@ -9,6 +9,10 @@ use Rattle.generation.specs.Files.{existing}
 unfoldable pub tiles_above : PyramidShape → LeafMap → ℕ
 tiles_above shape leaves = sum_by (λ order. length (existing shape leaves order)) (orders_down shape.top shape.low)
 
--- the leaves that the edits with places i to j - 1 are of
+-- the edits with places i to j - 1
+abbrev pub edits_between : List LeafEdit → ℕ → ℕ → List LeafEdit
+edits_between edits i j = take (j - i) (drop i edits)
+
+-- the leaves that they are of
 abbrev pub touched : List LeafEdit → ℕ → ℕ → List ℕ
-touched edits i j = map leaf_of (take (j - i) (drop i edits))
+touched edits i j = map leaf_of (edits_between edits i j)

@@ -1,21 +1,30 @@
 //! The files of one state of a survey.
-ghost use Rattle.std.specs.Prelude.{◌≡◌, ℕ, ◌+◌, ◌^◌, ◌<◌, ◌≤◌, List, ◌++◌, length, take, slice_get, option_map, Some, IsSome, IfOk, IfSome};
+ghost use Rattle.std.specs.Prelude.{◌≡◌, ℕ, ◌+◌, ◌^◌, ◌<◌, ◌≤◌, List, length, take, slice_get, option_map, Some, IsSome, IfOk, IfSome, OnOk, All, if◌then◌else◌};
 ghost use Rattle.std.specs.Arc.{arc_value};
 ghost use Rattle.std.specs.FinMap.{get, len};
+ghost use Rattle.std.specs.List.Sorted.{IsStrictlyIncreasing};
 ghost use Rattle.fits_header.specs.Cards.{whole_blocks};
 ghost use Rattle.fits_tile.specs.TileFile.{data_len};
+ghost use Rattle.healpix_nested.specs.Cells.{cell_count};
 ghost use Rattle.pyramid_model.specs.Shape.{FitsShape};
 ghost use Rattle.survey_conf.specs.Description.{IsDescription};
 ghost use Rattle.tile_path.specs.Spelling.{IsPath, spelling};
 ghost use Rattle.dirty_plan.specs.Dirty.{work, steps_after};
 ghost use Rattle.edit_journal.specs.Journal.{journal_edits};
 ghost use Rattle.edit_journal.specs.Leaves.{leaves_of, FitsLeaves};
-ghost use Rattle.generation.specs.Files.{leaf_map, paths_in, files_in};
-ghost use Rattle.generation.specs.Served.{body_bytes, body_len, parts_bytes};
+ghost use Rattle.generation.specs.Changes.{AreTiles};
+ghost use Rattle.generation.specs.Files.{leaf_map, mosaic_paths, paths, paths_in, files_in};
+ghost use Rattle.generation.specs.Kept.{SameBut, KeepsMosaic};
 ghost use Rattle.generation.specs.Steps.{tiles_above, touched};
 
-use crate::files::{Body, Parts};
+use crate::changes::Changes;
+use crate::coverage::Coverage;
+use crate::mosaic::mosaic_file;
+use crate::pyramid::Pyramid;
+use dirty_plan::laws::more_touched_is_more_work;
 use edit_journal::Journal;
+use edit_journal::laws::{edits_go_on, edits_keep_the_shape, edits_touch_their_leaves};
+use fits_tile::file_len;
 use leaf_store::Store;
 use parent_rule::Steps;
 use std::alloc::{AllocError, Global};
@@ -25,6 +34,7 @@ use std::thread::Threads;
 use survey_conf::Conf;
 use survey_link::Gate;
 use tile_path::Path;
+use tile_path::laws::spellings_differ;
 use tile_pixels::Tile;
 
 /// Every file of one state of a survey: its description, how many of its edits are in it, the leaves after them, and the
@@ -33,20 +43,26 @@ use tile_pixels::Tile;
 /// A generation never changes: `next` answers a new one, which shares each tile that no edit between them touched.
 #[derive(Drop)]
 pub struct Generation {
-    conf: Arc<Conf>,
+    alloc: Global,
+    pub(crate) conf: Arc<Conf>,
     prefix: u32,
-    leaves: Store<Tile>,
+    pub(crate) pyramid: Pyramid,
+    pub(crate) coverage: Coverage,
+    pub(crate) mosaic: Option<Vec<u8>>,
+    pub(crate) properties: Vec<u8>,
 }
 
 impl Model for Generation {
+    ghost use Rattle.std.specs.Prelude.{option_map};
     ghost use Rattle.std.specs.Arc.{arc_value};
     ghost use Rattle.generation.specs.Generation.{GenerationContent};
+    ghost use Rattle.generation.specs.Kept.{IsKept};
 
     ghost Value = { GenerationContent };
 
-    ghost view = { λ g. record { conf = arc_value g.conf; prefix = g.prefix; leaves = g.leaves } };
+    ghost view = { λ g. record { conf = arc_value g.conf; prefix = g.prefix; leaves = g.pyramid.leaves } };
 
-    ghost invariant = { λ g. ⊥ };
+    ghost invariant = { λ g. IsKept (arc_value g.conf) g.pyramid g.coverage (option_map (λ file. file.items) g.mosaic) g.properties.items };
 }
 
 impl Generation {
@@ -69,8 +85,8 @@ impl Generation {
         ensures steps { steps.new ≤ steps_after steps.old (tiles_above (arc_value conf).shape (leaf_map leaves)) }
         ensures never_falls { steps.old ≤ steps.new }
     {
-        let _count = steps.count();
-        Err(AllocError)
+        let pyramid = Pyramid::of(rt, alloc, gate, conf.shape(), leaves, steps)?;
+        Generation::of_pyramid(rt, alloc, conf, 0, pyramid)
     }
 
     /// The generation of the same survey after the first `k` edits of the journal, made from this one by the edits between.
@@ -101,39 +117,69 @@ impl Generation {
             work self.now.conf.shape.top self.now.conf.shape.low (touched (journal_edits journal.now) self.now.prefix k)) }
         ensures never_falls { steps.old ≤ steps.new }
     {
+        // A count fits 64 bits.
         let _count = steps.count();
-        Err(AllocError)
+        let changes = self.changes_to(journal, k)?;
+        let pyramid = self.pyramid.after(rt, self.alloc, gate, changes, steps)?;
+        Generation::of_pyramid(rt, self.alloc, self.conf.clone()?, k, pyramid)
     }
 
-    /// The file at a path: written at the front of `out`, or kept; `None` exactly where there is no such file. `out` has
-    /// room for `room` bytes. It takes no memory.
-    pub fn file(&self, path: &Path, out: &mut [u8]) -> Option<Body<'_>>
-        requires room { 2880 + whole_blocks (data_len self.now.conf.shape) ≤ length out.old }
-        ensures file { option_map (λ body. body_bytes body out.new) result ≡ get (files_in self.now) (spelling path.now) }
-        ensures written { IfSome result (λ body. body_len body ≤ length out.new) }
+    // What the edits of the journal from this generation's on to edit k change.
+    fn changes_to(&self, journal: &Journal, k: u32) -> Result<Changes, AllocError>
+        requires shape { journal.now.shape ≡ self.now.conf.shape }
+        requires forward { self.now.prefix ≤ k }
+        requires known { k ≤ length (journal_edits journal.now) }
+        requires holds { leaves_of journal.now.opening (take self.now.prefix (journal_edits journal.now)) ≡ self.now.leaves }
+        ensures leaves { IfOk result (λ changes. changes.leaves ≡ leaves_of journal.now.opening (take k (journal_edits journal.now))) }
+        ensures fits { IfOk result (λ changes. FitsLeaves self.now.conf.shape changes.leaves) }
+        ensures tiles { IfOk result (λ changes. AreTiles changes.leaves) }
+        ensures ascending { IfOk result (λ changes. IsStrictlyIncreasing changes.touched.items) }
+        ensures cells { IfOk result (λ changes. All (λ leaf. leaf < cell_count self.now.conf.shape.top) changes.touched.items) }
+        ensures same { IfOk result (λ changes. SameBut changes.touched.items self.now.leaves changes.leaves) }
+        ensures work { IfOk result (λ changes. work self.now.conf.shape.top self.now.conf.shape.low changes.touched.items
+            ≤ work self.now.conf.shape.top self.now.conf.shape.low (touched (journal_edits journal.now) self.now.prefix k)) }
     {
-        let _prefix = self.prefix;
-        None
+        // What is known of edits, and that those of a journal fit its shape.
+        edits_go_on();
+        edits_keep_the_shape();
+        edits_touch_their_leaves();
+        more_touched_is_more_work();
+        let _count = journal.len();
+        let changes = Changes::of(self.alloc, self.pyramid.leaves(), journal, self.prefix, k)?;
+        Ok(changes)
     }
 
-    /// The file at a path in three parts, of which the first is written at the front of `out`; `None` exactly where there
-    /// is no such file. `out` has room for 2,880 bytes. The pixels of a tile stay where they lie. It takes no memory.
-    pub fn file_parts<'a>(&'a self, path: &Path, out: &mut [u8]) -> Option<Parts<'a>>
-        requires room { 2880 ≤ length out.old }
-        ensures file { option_map (λ parts. parts_bytes parts out.new) result ≡ get (files_in self.now) (spelling path.now) }
-        ensures front { IfSome result (λ parts. parts.front ≤ 2880) }
-        ensures length { IfSome result (λ parts. parts.front + length parts.kept.now + length parts.zeros.now < 2 ^ 64) }
+    // The generation of these tiles.
+    fn of_pyramid<R: Threads + Sync>(
+        rt: &R,
+        alloc: Global,
+        conf: Arc<Conf>,
+        prefix: u32,
+        pyramid: Pyramid,
+    ) -> Result<Generation, AllocError>
+        requires { pyramid.shape ≡ (arc_value conf).shape }
+        ensures { IfOk result (λ made. made ≡ record { conf = arc_value conf; prefix = prefix; leaves = pyramid.leaves }) }
     {
-        let _prefix = self.prefix;
-        None
+        let leaves = pyramid.leaves();
+        let coverage = Coverage::of(alloc, conf.shape().top, leaves)?;
+        let properties = conf.properties(alloc, leaves.len() as u64)?;
+        let mosaic = mosaic_of(rt, alloc, &conf, &pyramid)?;
+        Ok(Generation {
+            alloc,
+            conf,
+            prefix,
+            pyramid,
+            coverage,
+            mosaic,
+            properties,
+        })
     }
 
     /// How many bytes `file` needs room for: the length of a tile file.
     pub fn room(&self) -> usize
         ensures { result ≡ 2880 + whole_blocks (data_len self.now.conf.shape) }
     {
-        let _prefix = self.prefix;
-        0
+        file_len(&self.conf)
     }
 
     /// How many edits of the survey it has.
@@ -157,7 +203,7 @@ impl Generation {
         ensures fits { FitsLeaves self.now.conf.shape result.now }
         ensures numbers { FitsShape self.now.conf.shape (leaf_map result.now) }
     {
-        &self.leaves
+        self.pyramid.leaves()
     }
 
     /// How many files there are.
@@ -167,8 +213,8 @@ impl Generation {
         ensures each { (text : List ℕ) → IsSome (get (files_in self.now) text)
             → (i : ℕ) × (i < result) × (option_map spelling (slice_get (paths_in self.now) i) ≡ Some text) }
     {
-        let _prefix = self.prefix;
-        0
+        spellings_differ();
+        2 + u64::from(self.mosaic.is_some()) + self.pyramid.count()
     }
 
     /// Path `i` of the files, from 0: the properties, the coverage, the mosaic where it is, and then the tiles by order and
@@ -178,7 +224,45 @@ impl Generation {
         ensures known { IfSome result IsPath }
         ensures there { IfSome result (λ path. IsSome (get (files_in self.now) (spelling path))) }
     {
-        let _prefix = self.prefix;
-        None
+        spellings_differ();
+        path_of(&self.pyramid, self.mosaic.is_some(), i)
+    }
+}
+
+// Path `i` of the files of a pyramid, which may have a mosaic.
+fn path_of(pyramid: &Pyramid, has_mosaic: bool, i: u64) -> Option<Path>
+    requires { (if has_mosaic then 1 else 0) ≡ length (mosaic_paths (leaf_map pyramid.now.leaves)) }
+    ensures { result ≡ slice_get (paths pyramid.now.shape (leaf_map pyramid.now.leaves)) i }
+{
+    let first = 2 + u64::from(has_mosaic);
+    if i >= first {
+        return match pyramid.cell(i - first) {
+            Some(cell) => Some(Path::Tile(cell)),
+            None => None,
+        };
+    }
+    match i {
+        0 => Some(Path::Properties),
+        1 => Some(Path::Moc),
+        _ => Some(Path::Allsky),
+    }
+}
+
+// The file of the mosaic of a pyramid's tiles of order 3, where it has one.
+fn mosaic_of<R: Threads + Sync>(
+    rt: &R,
+    alloc: Global,
+    conf: &Conf,
+    pyramid: &Pyramid,
+) -> Result<Option<Vec<u8>>, AllocError>
+    requires { pyramid.now.shape ≡ conf.now.shape }
+    ensures { IfOk result (λ found. KeepsMosaic conf.now (leaf_map pyramid.now.leaves) (option_map (λ file. file.items) found)) }
+{
+    match pyramid.tiles(3) {
+        Some(tiles) => {
+            let file = mosaic_file(rt, alloc, conf, tiles)?;
+            Ok(file)
+        }
+        None => Ok(None),
     }
 }

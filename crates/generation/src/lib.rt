@@ -4,8 +4,13 @@
 //! for byte, what the definition of the files makes of the leaves. `file` and `file_parts` hand the files out.
 #![tactic(auto)]
 
+mod changes;
+mod coverage;
 mod files;
 mod generation;
+mod levels;
+mod mosaic;
+mod pyramid;
 
 pub use files::{Body, Parts};
 pub use generation::Generation;
