@@ -66,5 +66,8 @@ where
     ensures steps_never_fall { steps.old ≤ steps.new }
 {
     let generation = load(rt, rt.alloc(), shelf, gate, steps)?;
-    Ok(export(rt.alloc(), shelf, &generation)?)
+    match export(rt.alloc(), shelf, &generation) {
+        Ok(count) => Ok(count),
+        Err(fault) => Err(LoadRefusal::from(fault)),
+    }
 }

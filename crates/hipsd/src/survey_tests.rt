@@ -15,8 +15,7 @@ hips_status = public master clonable
 ";
 
 // The last lines of a small survey's.
-static SMALL: &str =
-    "hips_order = 4;hips_tile_width = 2;survey_bitpix = 16;survey_blank = -32768";
+static SMALL: &str = "hips_order = 4;hips_tile_width = 2;survey_bitpix = 16;survey_blank = -32768";
 
 // A shelf that isn't opened: how many leaves of which order have a file of 10 bytes, and its description's last lines, or
 // `absent`; then the status and the line that is written.
@@ -73,7 +72,14 @@ fn run_over<R: AllocGlobal + Threads + Wait + Sync>(
     let gate = OpenGate::new();
     let mut steps = Steps::new();
     Ok(run(
-        rt, &words, &mut source, sink, shelf, &mut doors, &gate, &mut steps,
+        rt,
+        &words,
+        &mut source,
+        sink,
+        shelf,
+        &mut doors,
+        &gate,
+        &mut steps,
     ))
 }
 
@@ -93,7 +99,11 @@ fn ends<R: AllocGlobal + Threads + Wait + Sync>(
 }
 
 // Whether a command refuses the shelf of a row so, and leaves its files.
-fn refuses<R: AllocGlobal + Threads + Wait + Sync>(rt: &R, word: &str, row: &str) -> Result<bool, Fail> {
+fn refuses<R: AllocGlobal + Threads + Wait + Sync>(
+    rt: &R,
+    word: &str,
+    row: &str,
+) -> Result<bool, Fail> {
     let alloc = rt.alloc();
     let mut fields = row.split('|');
     let count = fields.next().unwrap_or("");
@@ -190,17 +200,20 @@ fn status_where<R: AllocGlobal + Threads + Wait + Sync>(
 #[test]
 fn fails_where_the_shelf_does(rt: HostRuntime) -> Result<(), Fail> {
     for word in ["export", "verify"] {
-        let mut failed = 0;
+        let mut last = 0;
         for call in 2..40 {
             let fails = format!(in rt.alloc(); "{call}")?;
             let ended = status_where(&rt, word, fails.as_str())?;
             if ended != 7 {
-                assert!(rt; ended == 0 || ended == 9, "{word} where call {call} fails: {ended}");
+                assert!(rt;
+                    ended == 0 || ended == 9,
+                    "{word} where call {call} fails: {ended}"
+                );
                 break;
             }
-            failed += 1;
+            last = call;
         }
-        assert!(rt; failed > 2, "{word}");
+        assert!(rt; last > 4, "{word}");
     }
     Ok(())
 }

@@ -153,7 +153,10 @@ fn answers_probe(rt: HostRuntime) -> Result<(), Fail> {
 }
 
 // The status where that read fails of one of a leaf in pieces of three bytes, and whether the output is that of the status.
-fn with_failing_read<R: AllocGlobal + Threads + Wait + Sync>(rt: &R, call: u64) -> Result<(u8, bool), Fail> {
+fn with_failing_read<R: AllocGlobal + Threads + Wait + Sync>(
+    rt: &R,
+    call: u64,
+) -> Result<(u8, bool), Fail> {
     let alloc = rt.alloc();
     let failing = Vec::from_slice(alloc, &[call])?;
     let mut source = MemSource::new(unhex(alloc, LEAF_0)?, 3, failing);
@@ -191,7 +194,12 @@ fn records(alloc: Global, count: u32, more: &[u8]) -> Result<Vec<u8>, Fail> {
 }
 
 // Whether probe over that input ends so.
-fn probes<R: AllocGlobal + Threads + Wait + Sync>(rt: &R, input: Vec<u8>, status: u8, output: &str) -> Result<bool, Fail> {
+fn probes<R: AllocGlobal + Threads + Wait + Sync>(
+    rt: &R,
+    input: Vec<u8>,
+    status: u8,
+    output: &str,
+) -> Result<bool, Fail> {
     let alloc = rt.alloc();
     let mut source = MemSource::new(input, 100, Vec::new(alloc));
     let mut sink = MemSink::new(alloc, 100, Vec::new(alloc))?;

@@ -65,5 +65,8 @@ where
     ensures steps_never_fall { steps.old ≤ steps.new }
 {
     let generation = load(rt, rt.alloc(), shelf, gate, steps)?;
-    Ok(verify(rt.alloc(), shelf, &generation)?)
+    match verify(rt.alloc(), shelf, &generation) {
+        Ok(verdict) => Ok(verdict),
+        Err(fault) => Err(LoadRefusal::from(fault)),
+    }
 }
