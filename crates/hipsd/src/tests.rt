@@ -5,7 +5,9 @@ use parent_rule::Steps;
 use std::alloc::{AllocError, Global};
 use std::env;
 use std::io::{self, ErrorKind};
+use std::sync::Wait;
 use std::test::Fail;
+use std::thread::Threads;
 use survey_link::{MemDoor, MemShelf, MemSink, MemSource, OpenGate};
 
 const USAGE: &[u8] = b"usage: hipsd COMMAND\n";
@@ -35,8 +37,8 @@ fn split(alloc: Global, line: &str) -> Result<Vec<String>, AllocError> {
 }
 
 // Runs a command line over a source and a sink, and answers its status.
-fn run_over(
-    rt: &HostRuntime,
+fn run_over<R: AllocGlobal + Threads + Wait + Sync>(
+    rt: &R,
     line: &str,
     source: &mut MemSource,
     sink: &mut MemSink,
@@ -90,7 +92,7 @@ fn holds(alloc: Global, sink: &MemSink, output: &str) -> Result<bool, Fail> {
 }
 
 // Whether the run ends so.
-fn goes(rt: &HostRuntime, row: &str) -> Result<bool, Fail> {
+fn goes<R: AllocGlobal + Threads + Wait + Sync>(rt: &R, row: &str) -> Result<bool, Fail> {
     let alloc = rt.alloc();
     let mut source = source_of(alloc, row)?;
     let mut sink = sink_of(alloc, row)?;
@@ -135,7 +137,7 @@ probe 4 1 3 0|0000000000000000 0001 0002 0003 0005|100|-|0|100|6|
 static UNREAD: &str = "\
 |0000000000000000 0001 0002 0003 0005|100|0|100|-|1|usage
 probe|0000000000000000 0001 0002 0003 0005|100|0|100|-|1|usage
-session|0000000000000000 0001 0002 0003 0005|100|0|100|-|1|usage
+sessions|0000000000000000 0001 0002 0003 0005|100|0|100|-|1|usage
 probe 4 1 5 0|0000000000000000 0001 0002 0003 0005|100|0|100|-|1|usage
 probe 4 1 3 768|0000000000000000 0001 0002 0003 0005|100|0|100|-|13|
 ";
@@ -151,7 +153,10 @@ fn answers_probe(rt: HostRuntime) -> Result<(), Fail> {
 }
 
 // The status where that read fails of one of a leaf in pieces of three bytes, and whether the output is that of the status.
-fn with_failing_read(rt: &HostRuntime, call: u64) -> Result<(u8, bool), Fail> {
+fn with_failing_read<R: AllocGlobal + Threads + Wait + Sync>(
+    rt: &R,
+    call: u64,
+) -> Result<(u8, bool), Fail> {
     let alloc = rt.alloc();
     let failing = Vec::from_slice(alloc, &[call])?;
     let mut source = MemSource::new(unhex(alloc, LEAF_0)?, 3, failing);
@@ -189,7 +194,12 @@ fn records(alloc: Global, count: u32, more: &[u8]) -> Result<Vec<u8>, Fail> {
 }
 
 // Whether probe over that input ends so.
-fn probes(rt: &HostRuntime, input: Vec<u8>, status: u8, output: &str) -> Result<bool, Fail> {
+fn probes<R: AllocGlobal + Threads + Wait + Sync>(
+    rt: &R,
+    input: Vec<u8>,
+    status: u8,
+    output: &str,
+) -> Result<bool, Fail> {
     let alloc = rt.alloc();
     let mut source = MemSource::new(input, 100, Vec::new(alloc));
     let mut sink = MemSink::new(alloc, 100, Vec::new(alloc))?;
