@@ -10,3 +10,4 @@ pub mod FileLemmas
 pub mod Changing
 pub mod Mosaics
 pub mod Paths
+pub mod Over

@@ -1,22 +1,21 @@
 -- A pyramid of leaves, and the one after some of them changed.
-use Rattle.std.proofs.Common.{◌≡◌, inl, inr, ℕ, suc, ◌+◌, ◌-◌, ◌*◌, ◌/◌, ◌^◌, ◌<◌, ◌≤◌, ◌||◌, Bool, true, false, map, filter, List, [], ◌∷◌, Option, Some, None, refl, sym, ap, ◌∙◌, subst, arith, length, get_or, eqb, leb, Bor, ◌⊎◌}
+use Rattle.std.proofs.Common.{◌≡◌, ℕ, ◌-◌, ◌/◌, ◌^◌, ◌<◌, ◌≤◌, ◌||◌, Bool, true, false, filter, List, [], ◌∷◌, Option, Some, None, refl, sym, ap, ◌∙◌, subst, arith, length, get_or, eqb, leb, eqb-true, Bor, ◌⊎◌}
 use Rattle.std.specs.Prelude.{All, Contains, IfSome, IsSome, MatchOption, sum_by}
-use Rattle.std.specs.List.{list_any, range_with_len}
+use Rattle.std.specs.List.{range_with_len}
 use Rattle.std.specs.List.Sorted.{IsStrictlySortedBy}
 use Rattle.std.specs.Ordering.{nat_cmp}
 use Rattle.std.specs.Map.{keys_of, values_of}
-use Rattle.std.proofs.lemmas.Bool.{cases_lt, true≢false}
+use Rattle.std.proofs.lemmas.Bool.{true≢false, and_parts}
 use Rattle.std.proofs.lemmas.List.Folds.{list_any_at}
 use Rattle.std.proofs.lemmas.List.Sums.{sum_by-cons}
 use Rattle.std.proofs.lemmas.Bool.Decides.{nat_tests}
-use Rattle.std.proofs.lemmas.List.Elements.{All-head, All-tail, All-nil, All-cons, All-map}
+use Rattle.std.proofs.lemmas.List.Elements.{All-head, All-tail, All-nil, All-cons}
 use Rattle.std.proofs.lemmas.List.FromFn.{length-map-range_with_len, get_or-map-range_with_len}
 use Rattle.std.proofs.lemmas.Map.Made.{keys_of-map_values}
 use Rattle.std.proofs.lemmas.Simd.{map-map}
 use Rattle.healpix_nested.specs.Cells.{cell_count, lies_under}
-use Rattle.healpix_nested.specs.CellLaws.{under_ancestor}
 use Rattle.parent_rule.specs.Depth.{IsNumber}
-use Rattle.pyramid_model.specs.Shape.{PyramidShape, LeafMap, FitsShape, IsShape, leaf_numbers}
+use Rattle.pyramid_model.specs.Shape.{PyramidShape, LeafMap, FitsShape, IsShape}
 use Rattle.pyramid_model.specs.Tile.{exists}
 use Rattle.tile_pixels.specs.Tile.{PixelTile, IsTile, HasShape}
 use Rattle.leaf_store.specs.Store.{value_at}
@@ -25,9 +24,9 @@ use Rattle.dirty_plan.specs.Dirty.{is_dirty, dirty_cells, work, orders_down}
 use Rattle.edit_journal.specs.Leaves.{LeafTiles, FitsLeaves}
 use Rattle.generation.specs.Changes.{AreTiles}
 use Rattle.generation.specs.Files.{leaf_map, existing}
-use Rattle.generation.specs.Kept.{tiles_of, tile_of, levels_of, AreKept, AllKept, SameBut}
+use Rattle.generation.specs.Kept.{tiles_of, levels_of, AllKept, SameBut, SameOrder3}
 use Rattle.generation.specs.Steps.{tiles_above}
-use Rattle.generation.proofs.Locality.{AgreeUnder, SameTile, same_tile}
+use Rattle.generation.proofs.Locality.{SameTile, same_tile}
 use Rattle.generation.proofs.Orders.{exists_in_order, value_there, value_absent, leaf_numbers-leaf_map}
 
 -- ---- leaves that are tiles fit the shape, and so do their numbers
@@ -128,6 +127,24 @@ module _ (shape : PyramidShape) (old new : LeafTiles) (touched : List ℕ) (know
   kept_after levels is i h cell clean =
       let below : shape.top - 1 - i ≤ shape.top = omega arith in
       ap (value_at cell) (level_of shape (leaf_map old) levels i [] is h) ∙ clean_value (shape.top - 1 - i) cell below clean
+
+-- ---- the cells of order 3 over the touched leaves
+
+-- no touched leaf lies under another cell
+clean_cell : (top cell : ℕ) (touched cells : List ℕ) → All (λ leaf. Contains cells (leaf / 4 ^ (top - 3))) touched → (Contains cells cell → ⊥) → is_dirty top touched 3 cell ≡ false
+clean_cell top cell [] cells over apart = refl
+clean_cell top cell (leaf ∷ touched) cells over apart =
+    elim (lies_under top leaf 3 cell) as (λ b. lies_under top leaf 3 cell ≡ b → (b || is_dirty top touched 3 cell) ≡ false) [
+      | true ↦ λ under.
+          let parts : (leb 3 top ≡ true) × (eqb (leaf / 4 ^ (top - 3)) cell ≡ true) = and_parts (leb 3 top) (eqb (leaf / 4 ^ (top - 3)) cell) under in
+          absurd (apart (subst (Contains cells) (eqb-true (leaf / 4 ^ (top - 3)) cell parts.1) (All-head (λ l. Contains cells (l / 4 ^ (top - 3))) leaf touched over)))
+      | false ↦ λ clear. clean_cell top cell touched cells (All-tail (λ l. Contains cells (l / 4 ^ (top - 3))) leaf touched over) apart
+    ] refl
+
+pub same_order_3 : (shape : PyramidShape) (old new : LeafTiles) (touched cells : List ℕ) → IsShape shape.top shape.low shape.n → FitsShape shape (leaf_map new) → SameBut touched old new
+    → All (λ leaf. Contains cells (leaf / 4 ^ (shape.top - 3))) touched → SameOrder3 shape cells (leaf_map old) (leaf_map new)
+same_order_3 shape old new touched cells known numbers same over cell apart =
+    clean_value shape old new touched known numbers same 3 cell known.least_top (clean_cell shape.top cell touched cells over apart)
 
 -- ---- what is found in an order
 

@@ -1,7 +1,5 @@
 -- What a generation keeps: the tiles of each order, as the definition of the pyramid makes them of the leaves.
-use Rattle.std.specs.Prelude.{◌≡◌, ◌≢◌, ℕ, ◌+◌, ◌-◌, ◌*◌, ◌/◌, ◌<◌, ◌≤◌, false, true, List, [], map, take, drop, length, slice_index_or, Option, Some, None, Contains}
-use Rattle.healpix_nested.specs.Cells.{cell_count}
-use Rattle.parent_rule.specs.Permit.{PermittedCell}
+use Rattle.std.specs.Prelude.{◌≡◌, ◌≢◌, ℕ, ◌-◌, ◌*◌, ◌/◌, ◌<◌, ◌≤◌, false, true, List, [], map, take, drop, length, slice_index_or, Option, Some, None, Contains}
 use Rattle.pyramid_model.specs.Shape.{PyramidShape, LeafMap, FitsShape, IsShape}
 use Rattle.pyramid_model.specs.Tile.{exists, pixels}
 use Rattle.tile_pixels.specs.Tile.{PixelTile}
@@ -10,8 +8,10 @@ use Rattle.std.specs.Map.{keys_of}
 use Rattle.survey_conf.specs.Description.{Description, IsDescription}
 use Rattle.survey_conf.specs.Properties.{properties_text}
 use Rattle.coverage_moc.specs.Cover.{MocCover, cover}
+use Rattle.fits_header.specs.Cards.{whole_blocks}
 use Rattle.fits_tile.specs.TileFile.{image_file}
-use Rattle.allsky_mosaic.specs.Mosaic.{mosaic, width_of, height_of}
+use Rattle.allsky_mosaic.specs.Mosaic.{mosaic, mosaic_count, width_of, height_of}
+use Rattle.allsky_mosaic.specs.Tiles.{IsMosaic, order_3, leaves_of}
 use Rattle.dirty_plan.specs.Dirty.{is_dirty, orders_down}
 use Rattle.edit_journal.specs.Leaves.{LeafTiles, FitsLeaves}
 use Rattle.generation.specs.Files.{leaf_map, existing}
@@ -60,10 +60,40 @@ abbrev pub AllKept : PyramidShape → LeafMap → List ℕ → List (List (ℕ �
 AllKept shape leaves touched levels =
     (i : ℕ) → i < shape.top - shape.low → AreKept shape leaves touched (shape.top - 1 - i) (slice_index_or levels i [])
 
+-- a cell of order 3 that isn't among the touched ones has the same tile in both pyramids
+abbrev pub SameOrder3 : PyramidShape → List ℕ → LeafMap → LeafMap → Type 0
+SameOrder3 shape touched old new = (cell : ℕ) → (Contains touched cell → ⊥) → value_at cell (tiles_of shape old 3) ≡ value_at cell (tiles_of shape new 3)
+
+-- how many bytes the pixels of a mosaic are; in its file they stand first in the blocks at the end
+abbrev pub pixel_len : Description → ℕ
+pixel_len d = mosaic_count d.shape.n * (d.shape.depth.bitpix / 8)
+
+abbrev pub file_pixels : Description → List ℕ → List ℕ
+file_pixels d file = take (pixel_len d) (drop (length file - whole_blocks (pixel_len d)) file)
+
+-- bytes are the mosaic of leaves, and so that of their tiles of order 3
+pub record ShowsBoth (d : Description) (leaves : LeafMap) (raw : List ℕ) : Type 0 where
+  pub some : leaves ≢ []
+  pub survey : IsMosaic d.shape.depth d.shape.n d.shape leaves raw
+  pub order_3 : IsMosaic d.shape.depth d.shape.n (order_3 d.shape.depth d.shape.n) (leaves_of (tiles_of d.shape leaves 3)) raw
+
+-- there are such bytes exactly where there is a leaf
+abbrev pub ArePixels : Description → LeafMap → Option (List ℕ) → Type 0
+ArePixels d leaves None = leaves ≡ []
+ArePixels d leaves (Some raw) = ShowsBoth d leaves raw
+
 -- the file of the mosaic of leaves
 pub record IsMosaicFile (d : Description) (leaves : LeafMap) (file : List ℕ) : Type 0 where
   pub some : leaves ≢ []
   pub file_is : file ≡ image_file d (width_of d.shape.n) (height_of d.shape.n) (mosaic d.shape leaves)
+  pub long : whole_blocks (pixel_len d) ≤ length file
+  pub pixels : IsMosaic d.shape.depth d.shape.n (order_3 d.shape.depth d.shape.n) (leaves_of (tiles_of d.shape leaves 3)) (file_pixels d file)
+
+-- the file of the mosaic of leaves whose tiles of order 3 are these, but for those of the touched cells
+pub record WasMosaicFile (d : Description) (touched : List ℕ) (tiles : List (ℕ × PixelTile)) (file : List ℕ) : Type 0 where
+  pub before : LeafMap
+  pub file_is : IsMosaicFile d before file
+  pub agrees : (cell : ℕ) → (Contains touched cell → ⊥) → value_at cell (tiles_of d.shape before 3) ≡ value_at cell tiles
 
 -- there is one exactly where there is a leaf
 abbrev pub KeepsMosaic : Description → LeafMap → Option (List ℕ) → Type 0

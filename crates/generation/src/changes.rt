@@ -1,6 +1,7 @@
 //! What some edits change: the leaves after them, and which leaves they are of.
-ghost use Rattle.std.specs.Prelude.{◌≡◌, ℕ, ◌<◌, ◌≤◌, length, OnOk, IfOk};
+ghost use Rattle.std.specs.Prelude.{◌≡◌, ℕ, ◌-◌, ◌/◌, ◌^◌, ◌<◌, ◌≤◌, All, Contains, length, OnOk, IfOk};
 ghost use Rattle.std.specs.List.Sorted.{IsStrictlyIncreasing};
+ghost use Rattle.healpix_nested.specs.Cells.{cell_count};
 ghost use Rattle.edit_journal.specs.Edit.{edit_of, tile_of};
 ghost use Rattle.edit_journal.specs.Journal.{journal_edits};
 ghost use Rattle.edit_journal.specs.Leaves.{leaves_after, leaves_of};
@@ -90,4 +91,20 @@ fn ascending(numbers: Vec<u64>) -> Result<Vec<u64>, AllocError>
     sorted.sort()?;
     sorted.dedup();
     Ok(sorted)
+}
+
+/// The cells of order 3 over leaves, cells of order `top`.
+pub(crate) fn cells_over(alloc: Global, top: u8, leaves: &[u64]) -> Result<Vec<u64>, AllocError>
+    requires least { 3 ≤ top }
+    requires greatest { top ≤ 11 }
+    requires leaves { All (λ leaf. leaf < cell_count top) leaves.now }
+    ensures cells { IfOk result (λ cells. All (λ cell. cell < 768) cells.items) }
+    ensures over { IfOk result (λ cells. All (λ leaf. Contains cells.items (leaf / 4 ^ (top - 3))) leaves.now) }
+{
+    let mut cells = Vec::with_capacity(alloc, leaves.len())?;
+    for leaf in leaves {
+        cells.push(leaf >> (2 * (top - 3)))?;
+    }
+    cells.dedup();
+    Ok(cells)
 }

@@ -14,12 +14,12 @@ ghost use Rattle.edit_journal.specs.Journal.{journal_edits};
 ghost use Rattle.edit_journal.specs.Leaves.{leaves_of, FitsLeaves};
 ghost use Rattle.generation.specs.Changes.{AreTiles};
 ghost use Rattle.generation.specs.Files.{leaf_map, mosaic_paths, paths, paths_in, files_in};
-ghost use Rattle.generation.specs.Kept.{SameBut, KeepsMosaic};
+ghost use Rattle.generation.specs.Kept.{SameBut, SameOrder3, KeepsMosaic, WasMosaicFile, tiles_of};
 ghost use Rattle.generation.specs.Steps.{tiles_above, touched};
 
-use crate::changes::Changes;
+use crate::changes::{Changes, cells_over};
 use crate::coverage::Coverage;
-use crate::mosaic::mosaic_file;
+use crate::mosaic::{mosaic_file, patched_file};
 use crate::pyramid::Pyramid;
 use dirty_plan::laws::more_touched_is_more_work;
 use edit_journal::Journal;
@@ -86,7 +86,8 @@ impl Generation {
         ensures never_falls { steps.old ≤ steps.new }
     {
         let pyramid = Pyramid::of(rt, alloc, gate, conf.shape(), leaves, steps)?;
-        Generation::of_pyramid(rt, alloc, conf, 0, pyramid)
+        let mosaic = mosaic_of(rt, alloc, &conf, &pyramid)?;
+        Generation::of_parts(alloc, conf, 0, pyramid, mosaic)
     }
 
     /// The generation of the same survey after the first `k` edits of the journal, made from this one by the edits between.
@@ -120,8 +121,10 @@ impl Generation {
         // A count fits 64 bits.
         let _count = steps.count();
         let changes = self.changes_to(journal, k)?;
+        let cells = cells_over(self.alloc, self.conf.shape().top, &changes.touched)?;
         let pyramid = self.pyramid.after(rt, self.alloc, gate, changes, steps)?;
-        Generation::of_pyramid(rt, self.alloc, self.conf.clone()?, k, pyramid)
+        let mosaic = self.mosaic_after(rt, &pyramid, &cells)?;
+        Generation::of_parts(self.alloc, self.conf.clone()?, k, pyramid, mosaic)
     }
 
     // What the edits of the journal from this generation's on to edit k change.
@@ -149,21 +152,39 @@ impl Generation {
         Ok(changes)
     }
 
-    // The generation of these tiles.
-    fn of_pyramid<R: Threads + Sync>(
+    // The file of the mosaic of a pyramid that differs from this generation's in the tiles of these cells of order 3 alone.
+    fn mosaic_after<R: Threads + Sync>(
+        &self,
         rt: &R,
+        pyramid: &Pyramid,
+        cells: &[u64],
+    ) -> Result<Option<Vec<u8>>, AllocError>
+        requires shape { pyramid.now.shape ≡ self.now.conf.shape }
+        requires cells { All (λ cell. cell < 768) cells.now }
+        requires same { SameOrder3 self.now.conf.shape cells.now (leaf_map self.now.leaves) (leaf_map pyramid.now.leaves) }
+        ensures { IfOk result (λ found. KeepsMosaic self.now.conf (leaf_map pyramid.now.leaves) (option_map (λ file. file.items) found)) }
+    {
+        match &self.mosaic {
+            Some(old) => mosaic_from(self.alloc, &self.conf, old, cells, pyramid),
+            None => mosaic_of(rt, self.alloc, &self.conf, pyramid),
+        }
+    }
+
+    // The generation of these tiles, with the file of their mosaic.
+    fn of_parts(
         alloc: Global,
         conf: Arc<Conf>,
         prefix: u32,
         pyramid: Pyramid,
+        mosaic: Option<Vec<u8>>,
     ) -> Result<Generation, AllocError>
-        requires { pyramid.shape ≡ (arc_value conf).shape }
+        requires shape { pyramid.shape ≡ (arc_value conf).shape }
+        requires mosaic { KeepsMosaic (arc_value conf) (leaf_map pyramid.leaves) (option_map (λ file. file.items) mosaic) }
         ensures { IfOk result (λ made. made ≡ record { conf = arc_value conf; prefix = prefix; leaves = pyramid.leaves }) }
     {
         let leaves = pyramid.leaves();
         let coverage = Coverage::of(alloc, conf.shape().top, leaves)?;
         let properties = conf.properties(alloc, leaves.len() as u64)?;
-        let mosaic = mosaic_of(rt, alloc, &conf, &pyramid)?;
         Ok(Generation {
             alloc,
             conf,
@@ -261,6 +282,28 @@ fn mosaic_of<R: Threads + Sync>(
     match pyramid.tiles(3) {
         Some(tiles) => {
             let file = mosaic_file(rt, alloc, conf, tiles)?;
+            Ok(file)
+        }
+        None => Ok(None),
+    }
+}
+
+// The same, made from the file of the mosaic of other tiles, which differ in those of these cells alone.
+fn mosaic_from(
+    alloc: Global,
+    conf: &Conf,
+    old: &[u8],
+    cells: &[u64],
+    pyramid: &Pyramid,
+) -> Result<Option<Vec<u8>>, AllocError>
+    requires shape { pyramid.now.shape ≡ conf.now.shape }
+    requires cells { All (λ cell. cell < 768) cells.now }
+    requires old { WasMosaicFile conf.now cells.now (tiles_of conf.now.shape (leaf_map pyramid.now.leaves) 3) old.now }
+    ensures { IfOk result (λ found. KeepsMosaic conf.now (leaf_map pyramid.now.leaves) (option_map (λ file. file.items) found)) }
+{
+    match pyramid.tiles(3) {
+        Some(tiles) => {
+            let file = patched_file(alloc, conf, old, cells, tiles)?;
             Ok(file)
         }
         None => Ok(None),
