@@ -7,6 +7,9 @@
 # it, and its times say nothing. Processor time is user and system time of the process; times on the wall mean something only
 # where nothing else runs. How many processors there are is what this script may use (`taskset -c`).
 #
+# Then the mosaic of 768 tiles of 512 by 512 pixels at 16 bits, by `whole` with one thread and with all, and by `patch` where
+# one tile was replaced, beside mosaic.c; and 65,536 edits of one leaf, of which each journal is kept.
+#
 #   bench/publication.sh [RUNS]
 set -u
 here=$(cd "$(dirname "$0")" && pwd)
@@ -19,6 +22,7 @@ bench="$here/../crates/survey_bench/out/survey_bench"
 programs=hipsd
 if command -v gcc >/dev/null 2>&1; then
     gcc -O3 -march=x86-64-v2 -o "$work/level" "$here/level.c" || exit 1
+    gcc -O3 -march=x86-64-v2 -o "$work/mosaic" "$here/mosaic.c" || exit 1
     programs="hipsd plain lanes"
 else
     echo "publication.sh: there is no gcc here, so there is no C beside"
@@ -53,6 +57,52 @@ awk '
                 printf "               processor time: serial %.2f, plain C %.2f, C lanes %.2f; ratios %.2f and %.2f\n", least[b, "hipsd", 3], least[b, "plain", 3], least[b, "lanes", 3], least[b, "hipsd", 3] / least[b, "plain", 3], least[b, "hipsd", 3] / least[b, "lanes", 3]
         }
     }' "$work/level-times" || exit 1
+
+# ---- mosaics
+
+run=0
+while [ "$run" -lt "$runs" ]; do
+    for blanks in none some; do
+        for program in $programs; do
+            case $program in
+            hipsd)
+                got=$("$bench" mosaic 16 mean "$blanks") || exit 1
+                echo "$blanks all $got" >>"$work/mosaic-times"
+                # With one processor no thread is started.
+                got=$(taskset -c 0 "$bench" mosaic 16 mean "$blanks") || exit 1
+                ;;
+            *) got=$("$work/mosaic" 16 "$program" "$blanks") || exit 1 ;;
+            esac
+            echo "$blanks $program $got" >>"$work/mosaic-times"
+        done
+    done
+    run=$((run + 1))
+done
+echo "a mosaic of 768 tiles, 16 bits (milliseconds):"
+awk '
+    # PROCESSOR WALL PATCH SUM, in nanoseconds for each of the 1,728 by 1,856 numbers
+    { sum = $NF; if (!($1 in sums)) { sums[$1] = sum; order[++keys] = $1 } else if (sums[$1] != sum) different = $1 }
+    { for (i = 3; i < NF; i++) { took = $i * 3207168 / 1000000; if (!(($1, $2, i) in least) || took < least[$1, $2, i]) least[$1, $2, i] = took } }
+    END {
+        if (different) { print "publication.sh: the programs made different mosaics, blanks " different; exit 1 }
+        for (k = 1; k <= keys; k++) {
+            b = order[k]
+            printf "  blanks %-5s on the wall: one thread %.0f, all %.0f, ratio %.2f; patch of one tile %.2f, whole by one thread / patch %.0f\n", b, least[b, "hipsd", 4], least[b, "all", 4], least[b, "hipsd", 4] / least[b, "all", 4], least[b, "hipsd", 5], least[b, "hipsd", 3] / least[b, "hipsd", 5]
+            if ((b, "plain", 3) in least)
+                printf "               processor time: one thread %.0f, plain C %.0f, C lanes %.0f; ratios %.2f and %.2f; patch in C %.2f\n", least[b, "hipsd", 3], least[b, "plain", 3], least[b, "lanes", 3], least[b, "hipsd", 3] / least[b, "plain", 3], least[b, "hipsd", 3] / least[b, "lanes", 3], least[b, "plain", 5]
+        }
+    }' "$work/mosaic-times" || exit 1
+
+# ---- journals
+
+run=0
+while [ "$run" -lt "$runs" ]; do
+    "$bench" journal 65536 >>"$work/journal-times" || exit 1
+    run=$((run + 1))
+done
+# NANOSECONDS-FOR-EACH KILOBYTES
+awk 'NR == 1 || $1 < least { least = $1 } $2 > held { held = $2 }
+    END { printf "65,536 edits of one leaf, each journal kept: %.3f s of processor time, at most %.0f MB held\n", least * 65536 / 1e9, held / 1000 }' "$work/journal-times"
 
 # ---- covers
 

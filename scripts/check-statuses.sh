@@ -1,6 +1,6 @@
 #!/bin/sh
 # Runs the built program as its users do, and compares its exit statuses and what it writes: where `run` answers something
-# else than 0, and where a word of the command line is not UTF-8.
+# else than 0, where a word of the command line is not UTF-8, and over the survey of a folder.
 #
 #     scripts/check-statuses.sh [PROGRAM]
 #
@@ -13,6 +13,10 @@ fi
 folder=$(mktemp -d) || exit 1
 trap 'rm -rf "$folder"' EXIT
 wrong=0
+
+# The program runs in a folder of its own, which is its shelf.
+case $program in /*) ;; *) program=$PWD/$program ;; esac
+mkdir "$folder/shelf" && cd "$folder/shelf" || exit 1
 
 # check STATUS OUTPUT INPUT WORD ..: OUTPUT and INPUT are formats of printf.
 check() {
@@ -39,6 +43,32 @@ check 1 "$usage" "$leaf" probe 4 1 3 "$(printf '0\377')"
 check 4 '' '\0\0\0\0' probe 4 1 3 0
 check 10 '' '' probe 4 1 3 0
 check 13 '' "$leaf" probe 4 1 3 768
+
+# A survey in the folder: without a description, with a wrong one, without leaves, with a file that isn't its own, and with a
+# leaf that is no FITS file.
+check 2 'conf absent\n' '' export
+describe() {
+    printf 'creator_did = ivo://example/P/one\nobs_title = Survey one\nhips_release_date = 2024-05-01T00:00Z\n'
+    printf 'hips_status = public master clonable\nhips_order = %s\nhips_tile_width = 2\n' "$1"
+    printf 'survey_bitpix = 16\nsurvey_blank = -32768\n'
+}
+describe 12 >survey.conf
+check 2 'conf 5 4\n' '' verify
+describe 4 >survey.conf
+check 0 'exported 2\n' '' export
+check 0 'verified 2\n' '' verify
+mkdir Norder3 && echo stray >Norder3/Allsky.fits && echo note >note.txt
+check 9 'differs Norder3/Allsky.fits\n' '' verify
+check 0 'exported 2\n' '' export
+check 0 'verified 2\n' '' verify
+files=$(find . -type f | LC_ALL=C sort | tr '\n' ' ')
+if [ "$files" != './Moc.fits ./note.txt ./properties ./survey.conf ' ]; then
+    echo "check-statuses: an export leaves $files" >&2
+    wrong=1
+fi
+mkdir -p Norder4/Dir0 && printf 'SIMPLE  = ' >Norder4/Dir0/Npix0.fits
+check 3 'tile Norder4/Dir0/Npix0.fits 1 header 1\n' '' export
+check 3 'tile Norder4/Dir0/Npix0.fits 1 header 1\n' '' verify
 
 # A full device refuses what is written: status 6.
 if [ -e /dev/full ]; then

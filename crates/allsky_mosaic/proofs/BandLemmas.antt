@@ -1,5 +1,5 @@
 -- Bands of 27 squares, one behind the other.
-use Rattle.std.proofs.Common.{◌≡◌, ℕ, ◌+◌, ◌-◌, ◌*◌, ◌/◌, ◌<◌, ◌≤◌, List, ◌++◌, length, sym, ap, subst, ◌∙◌, inl, inr, arith}
+use Rattle.std.proofs.Common.{◌≡◌, ℕ, ◌+◌, ◌-◌, ◌*◌, ◌/◌, ◌<◌, ◌≤◌, List, ◌++◌, length, length-append, sym, ap, subst, ◌∙◌, inl, inr, arith}
 use Rattle.std.specs.Prelude.{IsTrue}
 use Rattle.std.proofs.lemmas.Bool.{cases_lt}
 use Rattle.std.proofs.lemmas.Nat.{row_fits}
@@ -8,7 +8,8 @@ use Rattle.pyramid_model.specs.Shape.{PyramidShape, LeafMap}
 use Rattle.allsky_mosaic.specs.Mosaic.{side_of, place_pixel}
 use Rattle.allsky_mosaic.specs.Tiles.{IsSurvey}
 use Rattle.tile_pixels.specs.Stored.{stored_at}
-use Rattle.allsky_mosaic.specs.Cells.{band_number, ShowBands}
+use Rattle.tile_pixels.specs.Tile.{PixelTile}
+use Rattle.allsky_mosaic.specs.Cells.{band_number, ShowBands, AreBands}
 use Rattle.allsky_mosaic.proofs.Strips.{strip_room}
 use Rattle.allsky_mosaic.proofs.Appended.{stored_at-front, stored_at-back}
 
@@ -31,27 +32,40 @@ band_shows shape leaves depth n row band bytes survey is all b t col column b_in
     ∙ subst P (sym survey.n_is) all col t column col_in t_in column_in
     ∙ ap (λ (r : ℕ). place_pixel shape leaves (r * 27 + col) column (side - 1 - t)) (sym up)
 
--- one band more
-pub bands_more : (shape : PyramidShape) (leaves : LeafMap) (depth : PixelDepth) (n row up : ℕ) (raw next new : List ℕ) → IsSurvey depth n shape → IsTrue (is_bitpix depth.bitpix)
-    → length raw ≡ up * (27 * side_of n * side_of n) * (depth.bitpix / 8) → new ≡ raw ++ next → ShowBands shape leaves row up raw → ShowBands shape leaves (row - up) 1 next → ShowBands shape leaves row (up + 1) new
-bands_more shape leaves depth n row up raw next new survey known long is before this b t col column b_in t_in col_in column_in =
+-- bands behind others, those of the rows of places above theirs
+pub bands_joined : (shape : PyramidShape) (leaves : LeafMap) (depth : PixelDepth) (n row low high : ℕ) (first last all : List ℕ) → IsSurvey depth n shape → IsTrue (is_bitpix depth.bitpix)
+    → length first ≡ low * (27 * side_of n * side_of n) * (depth.bitpix / 8) → all ≡ first ++ last → ShowBands shape leaves row low first → ShowBands shape leaves (row - low) high last → ShowBands shape leaves row (low + high) all
+bands_joined shape leaves depth n row low high first last all survey known long is below above b t col column b_in t_in col_in column_in =
     let side : ℕ = side_of shape.n in
     let bits : ℕ = shape.depth.bitpix in
     let size : ℕ = 27 * side * side in
     let place : ℕ = (t * 27 + col) * side + column in
     let within : place < size = in_band side col t column col_in t_in column_in in
     let known_shape : IsTrue (is_bitpix bits) = rw survey.depth_is known in
-    let long_shape : length raw ≡ up * size * (bits / 8) = rw (survey.n_is, survey.depth_is) long in
+    let long_shape : length first ≡ low * size * (bits / 8) = rw (survey.n_is, survey.depth_is) long in
     ap (λ (zs : List ℕ). stored_at bits zs (b * size + place)) is
-    ∙ (elim (cases_lt b up) [
+    ∙ (elim (cases_lt b low) [
       | inl earlier ↦
-          let fits : b * size + size ≤ up * size = row_fits b size up size earlier (omega arith) in
-          stored_at-front bits (up * size) (b * size + place) raw next known_shape long_shape (omega arith) ∙ before b t col column earlier t_in col_in column_in
-      | inr here ↦
-          let same : b ≡ up = omega arith in
-          let none : 0 * size + place ≡ place = omega arith in
-          let rows : row - up - 0 ≡ row - b = omega arith in
-          ap (λ (k : ℕ). stored_at bits (raw ++ next) (k * size + place)) same ∙ stored_at-back bits (up * size) place raw next long_shape
-          ∙ ap (stored_at bits next) (sym none) ∙ this 0 t col column (omega arith) t_in col_in column_in
+          let fits : b * size + size ≤ low * size = row_fits b size low size earlier (omega arith) in
+          stored_at-front bits (low * size) (b * size + place) first last known_shape long_shape (omega arith) ∙ below b t col column earlier t_in col_in column_in
+      | inr later ↦
+          let up : ℕ = b - low in
+          let b_is : low + up ≡ b = omega arith in
+          let split : b * size + place ≡ low * size + (up * size + place) = ap (λ (k : ℕ). k * size + place) (sym b_is) ∙ omega arith in
+          let rows : row - low - up ≡ row - b = omega arith in
+          ap (stored_at bits (first ++ last)) split ∙ stored_at-back bits (low * size) (up * size + place) first last long_shape
+          ∙ above up t col column (omega arith) t_in col_in column_in
           ∙ ap (λ (r : ℕ). place_pixel shape leaves (r * 27 + col) column (side - 1 - t)) rows
     ])
+
+-- two runs of bands are one
+pub two_runs : (depth : PixelDepth) (n row low high : ℕ) (tiles : List (ℕ × PixelTile)) (first last all : List ℕ) → IsTrue (is_bitpix depth.bitpix) → all ≡ first ++ last
+    → AreBands depth n tiles row low first → AreBands depth n tiles (row - low) high last → AreBands depth n tiles row (low + high) all
+two_runs depth n row low high tiles first last all known is below above =
+    let long_first : length first ≡ low * (27 * side_of n * side_of n) * (depth.bitpix / 8) = below.long in
+    let long_last : length last ≡ high * (27 * side_of n * side_of n) * (depth.bitpix / 8) = above.long in
+    let both : length all ≡ length first + length last = ap length is ∙ length-append first last in
+    record {
+      long = omega arith;
+      shown = λ shape leaves survey show. bands_joined shape leaves depth n row low high first last all survey known below.long is (below.shown shape leaves survey show) (above.shown shape leaves survey show);
+    }

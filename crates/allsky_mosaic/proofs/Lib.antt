@@ -5,3 +5,5 @@ pub mod Squares
 pub mod Places
 pub mod BandLemmas
 pub mod MosaicLemmas
+pub mod SameCells
+pub mod PatchLemmas

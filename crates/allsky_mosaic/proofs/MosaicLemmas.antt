@@ -29,7 +29,7 @@ use Rattle.allsky_mosaic.specs.Cells.{ShowsSquare, ShowCells, ShowBands, pixel_o
 -- ---- where a number of a band stands in the mosaic
 
 -- number u of strip t, col of band b
-number_at : (shape : PyramidShape) (leaves : LeafMap) (b t col u : ℕ) → b < 29 → t < side_of shape.n → col < 27 → u < side_of shape.n
+pub number_at : (shape : PyramidShape) (leaves : LeafMap) (b t col u : ℕ) → b < 29 → t < side_of shape.n → col < 27 → u < side_of shape.n
     → mosaic_number shape leaves (b * (27 * side_of shape.n * side_of shape.n) + ((t * 27 + col) * side_of shape.n + u)) ≡ place_pixel shape leaves ((28 - b) * 27 + col) u (side_of shape.n - 1 - t)
 number_at shape leaves b t col u b_in t_in col_in u_in =
     let side : ℕ = side_of shape.n in

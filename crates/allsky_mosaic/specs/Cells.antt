@@ -1,13 +1,15 @@
 -- The cells of a mosaic, as its code makes them: squares of stored numbers, and bands of 27 squares side by side.
-use Rattle.std.specs.Prelude.{◌≡◌, ℕ, ◌+◌, ◌-◌, ◌*◌, ◌^◌, ◌<◌, List, ℤ, Option, Some, None}
+use Rattle.std.specs.Prelude.{◌≡◌, ℕ, ◌+◌, ◌-◌, ◌*◌, ◌/◌, ◌%◌, ◌^◌, ◌<◌, List, length, ℤ, Option, Some, None}
 use Rattle.healpix_nested.specs.Cells.{cell_count}
 use Rattle.healpix_nested.specs.Place.{z_order}
+use Rattle.parent_rule.specs.Depth.{PixelDepth}
 use Rattle.leaf_store.specs.Store.{value_at}
 use Rattle.pyramid_model.specs.Shape.{PyramidShape, LeafMap}
 use Rattle.pyramid_model.specs.Value.{value}
 use Rattle.tile_pixels.specs.Stored.{stored_at}
 use Rattle.tile_pixels.specs.Tile.{PixelTile, pixel_in}
 use Rattle.allsky_mosaic.specs.Mosaic.{place_pixel, side_of}
+use Rattle.allsky_mosaic.specs.Tiles.{IsSurvey}
 
 -- a square of 2^levels columns and lines shows a cell of order 3: each number is the value of the cell within it
 abbrev pub ShowsSquare : PyramidShape → LeafMap → ℕ → ℕ → (ℕ → ℕ → ℤ) → Type 0
@@ -39,3 +41,17 @@ ShowBands shape leaves row bands bytes = (b t col column : ℕ) → b < bands �
   where
     side : ℕ
     side = side_of shape.n
+
+-- the number of a mosaic in the square of a place, in a column of the square and its line t from the bottom
+abbrev pub number_in_place : ℕ → ℕ → List ℕ → ℕ → ℕ → ℕ → ℤ
+number_in_place bits side bytes place t column = stored_at bits bytes ((28 - place / 27) * (27 * side * side) + ((t * 27 + place % 27) * side + column))
+
+-- the square of a place shows what the mosaic of a survey has there
+abbrev pub ShowsPlace : PixelDepth → ℕ → PyramidShape → LeafMap → ℕ → List ℕ → Type 0
+ShowsPlace depth n shape leaves place bytes = (t column : ℕ) → t < side_of n → column < side_of n
+    → number_in_place depth.bitpix (side_of n) bytes place t column ≡ place_pixel shape leaves place column (side_of n - 1 - t)
+
+-- bytes that are so many bands, whichever survey's cells the tiles show
+pub record AreBands (depth : PixelDepth) (n : ℕ) (tiles : List (ℕ × PixelTile)) (row count : ℕ) (bytes : List ℕ) : Type 0 where
+  pub long : length bytes ≡ count * (27 * side_of n * side_of n) * (depth.bitpix / 8)
+  pub shown : (shape : PyramidShape) (leaves : LeafMap) → IsSurvey depth n shape → ShowCells shape leaves tiles → ShowBands shape leaves row count bytes

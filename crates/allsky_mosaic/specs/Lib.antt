@@ -1,3 +1,4 @@
 pub mod Mosaic
 pub mod Tiles
+pub mod Patch
 pub mod Cells

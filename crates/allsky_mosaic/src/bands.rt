@@ -3,7 +3,7 @@ ghost use Rattle.std.specs.Prelude.{◌≡◌, ◌≢◌, ℕ, ◌+◌, ◌-◌,
 ghost use Rattle.pyramid_model.specs.Shape.{PyramidShape, LeafMap};
 ghost use Rattle.allsky_mosaic.specs.Mosaic.{side_of, place_pixel};
 ghost use Rattle.allsky_mosaic.specs.Tiles.{AreOfOrder3, IsSurvey};
-ghost use Rattle.allsky_mosaic.specs.Cells.{ShowCells, ShowBands, band_number};
+ghost use Rattle.allsky_mosaic.specs.Cells.{ShowCells, AreBands, band_number};
 
 use crate::square::{blank_lines, side, write_tile};
 use leaf_store::Store;
@@ -33,9 +33,7 @@ pub fn band(
     requires greatest_n { n ≤ 9 }
     requires tiles { AreOfOrder3 depth n tiles.now }
     requires row { row < 29 }
-    ensures length { IfOk result (λ band. length band.items ≡ 27 * side_of n * side_of n * (depth.bitpix / 8)) }
-    ensures shown { IfOk result (λ band. (shape : PyramidShape) (leaves : LeafMap) → IsSurvey depth n shape → ShowCells shape leaves tiles.now
-        → ShowBands shape leaves row 1 band.items) }
+    ensures { IfOk result (λ band. AreBands depth n tiles.now row 1 band.items) }
 {
     let side = side(n);
     let mut band = blank_lines(alloc, depth, side, 27 * side)?;

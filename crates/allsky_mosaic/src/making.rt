@@ -1,14 +1,19 @@
-ghost use Rattle.std.specs.Prelude.{◌≡◌, ℕ, ◌+◌, ◌-◌, ◌*◌, ◌/◌, ◌^◌, ◌<◌, ◌≤◌, ◌↔◌, [], length, IfOk, IfSome, IsNone};
+ghost use Rattle.std.specs.Prelude.{◌≡◌, ℕ, ◌-◌, ◌<◌, ◌≤◌, ◌↔◌, [], vec_len, slice_index_or, IfOk, IfSome, IsNone};
 ghost use Rattle.pyramid_model.specs.Shape.{PyramidShape, LeafMap};
 ghost use Rattle.allsky_mosaic.specs.Mosaic.{side_of};
 ghost use Rattle.allsky_mosaic.specs.Tiles.{AreOfOrder3, IsSurvey, IsMosaic, ShowsCell, order_3, leaves_of};
-ghost use Rattle.allsky_mosaic.specs.Cells.{ShowCells, ShowBands};
+ghost use Rattle.allsky_mosaic.specs.Cells.{AreBands};
 
 use crate::bands::{ROWS, band};
 use leaf_store::Store;
 use parent_rule::Depth;
 use std::alloc::{AllocError, Global};
+use std::thread::{Threads, available_parallelism, map_indices};
 use tile_pixels::Tile;
+
+// Tiles have at least this many pixels where they are halved or copied by a thread for each row of places: it takes many
+// times as long as to start the threads.
+const PIXELS_OF_THREADS: usize = 1 << 20;
 
 /// The mosaic of the tiles of order 3, as the stored bytes of its image, bottom line first; `None` exactly where there is
 /// no tile. It is `27a` columns wide and `29a` lines high, where `a` is the width of a tile and at most 64; a wider tile is
@@ -18,7 +23,8 @@ use tile_pixels::Tile;
 /// # Errors
 ///
 /// `AllocError` where there is no memory for the mosaic.
-pub fn whole(
+pub fn whole<R: Threads + Sync>(
+    rt: &R,
     alloc: Global,
     depth: Depth,
     n: u8,
@@ -35,32 +41,100 @@ pub fn whole(
     if tiles.len() == 0 {
         return Ok(None);
     }
-    let raw = bands(alloc, depth, n, tiles, ROWS - 1, ROWS)?;
+    let raw = all_bands(rt, alloc, depth, n, tiles)?;
     Ok(Some(raw))
 }
 
-// The bands of that row of places and of so many rows up from it, the lowest first.
-fn bands(
+// All bands, the lowest first.
+fn all_bands<R: Threads + Sync>(
+    rt: &R,
     alloc: Global,
     depth: Depth,
     n: u8,
     tiles: &Store<Tile>,
-    row: u64,
-    count: u64,
 ) -> Result<Vec<u8>, AllocError>
     requires least_n { 1 ≤ n }
     requires greatest_n { n ≤ 9 }
     requires tiles { AreOfOrder3 depth n tiles.now }
-    requires row { row < 29 }
-    requires count { count ≤ row + 1 }
-    ensures length { IfOk result (λ raw. length raw.items ≡ count * (27 * side_of n * side_of n) * (depth.bitpix / 8)) }
-    ensures shown { IfOk result (λ raw. (shape : PyramidShape) (leaves : LeafMap) → IsSurvey depth n shape → ShowCells shape leaves tiles.now
-        → ShowBands shape leaves row count raw.items) }
+    ensures { IfOk result (λ raw. AreBands depth n tiles.now 28 29 raw.items) }
+{
+    if repay_threads(rt, tiles.len(), n) {
+        bands_by_many(rt, alloc, depth, n, tiles)
+    } else {
+        bands(alloc, depth, n, tiles)
+    }
+}
+
+// Whether some tiles repay more than one thread, and there are processors for it.
+fn repay_threads(rt: &impl Threads, tiles: usize, n: u8) -> bool
+    requires { n ≤ 9 }
+{
+    if tiles.saturating_mul(1 << (2 * n)) < PIXELS_OF_THREADS {
+        return false;
+    }
+    match available_parallelism(rt) {
+        Ok(count) => count.get() > 1,
+        Err(_) => true,
+    }
+}
+
+// The bands one after the other.
+fn bands(alloc: Global, depth: Depth, n: u8, tiles: &Store<Tile>) -> Result<Vec<u8>, AllocError>
+    requires least_n { 1 ≤ n }
+    requires greatest_n { n ≤ 9 }
+    requires tiles { AreOfOrder3 depth n tiles.now }
+    ensures { IfOk result (λ raw. AreBands depth n tiles.now 28 29 raw.items) }
 {
     let mut raw = Vec::new(alloc);
-    for up in 0..count {
-        let next = band(alloc, depth, n, tiles, row - up)?;
+    for up in 0..ROWS {
+        let next = band(alloc, depth, n, tiles, ROWS - 1 - up)?;
         raw.extend_from_slice(&next)?;
     }
     Ok(raw)
+}
+
+// The bands, each made by a thread of its own.
+fn bands_by_many<R: Threads + Sync>(
+    rt: &R,
+    alloc: Global,
+    depth: Depth,
+    n: u8,
+    tiles: &Store<Tile>,
+) -> Result<Vec<u8>, AllocError>
+    requires least_n { 1 ≤ n }
+    requires greatest_n { n ≤ 9 }
+    requires tiles { AreOfOrder3 depth n tiles.now }
+    ensures { IfOk result (λ raw. AreBands depth n tiles.now 28 29 raw.items) }
+{
+    let made = each_band(rt, alloc, depth, n, tiles)?;
+    let mut raw = Vec::new(alloc);
+    for next in &made {
+        match next {
+            Ok(band) => raw.extend_from_slice(band)?,
+            Err(_) => return Err(AllocError),
+        }
+    }
+    Ok(raw)
+}
+
+// Each band, the lowest first, or that there was no memory for it.
+fn each_band<R: Threads + Sync>(
+    rt: &R,
+    alloc: Global,
+    depth: Depth,
+    n: u8,
+    tiles: &Store<Tile>,
+) -> Result<Vec<Result<Vec<u8>, AllocError>>, AllocError>
+    requires least_n { 1 ≤ n }
+    requires greatest_n { n ≤ 9 }
+    requires tiles { AreOfOrder3 depth n tiles.now }
+    ensures count { IfOk result (λ made. vec_len made ≡ 29) }
+    ensures bands { IfOk result (λ made. (up : ℕ) (d : _) → up < 29 → IfOk (slice_index_or made.items up d) (λ band. AreBands depth n tiles.now (28 - up) 1 band.items)) }
+{
+    map_indices(
+        rt,
+        alloc,
+        ROWS as usize,
+        &|up| { band(alloc, depth, n, tiles, ROWS - 1 - up as u64) },
+    )
 }

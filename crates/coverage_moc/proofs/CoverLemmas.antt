@@ -64,7 +64,7 @@ four_agree test other q agree = same_bools (four test q) (four other q)
 
 -- ---- full cells
 
-full_at : (top : ℕ) (leaves : List ℕ) (k p : ℕ) → is_full top leaves k p ≡ true → (leaf : ℕ) → leaf < cell_count top → lies_under top leaf k p ≡ true → has leaves leaf ≡ true
+pub full_at : (top : ℕ) (leaves : List ℕ) (k p : ℕ) → is_full top leaves k p ≡ true → (leaf : ℕ) → leaf < cell_count top → lies_under top leaf k p ≡ true → has leaves leaf ≡ true
 unfolding is_full
 full_at top leaves k p full leaf below under =
     elim (or_cases (not (lies_under top leaf k p)) (has leaves leaf) (all_pass (λ leaf. not (lies_under top leaf k p) || has leaves leaf) (range_with_len 0 (cell_count top)) full leaf (in_range (cell_count top) leaf below))) [
@@ -72,7 +72,7 @@ full_at top leaves k p full leaf below under =
       | inr h ↦ h
     ]
 
-full_from : (top : ℕ) (leaves : List ℕ) (k p : ℕ) → ((leaf : ℕ) → leaf < cell_count top → lies_under top leaf k p ≡ true → has leaves leaf ≡ true) → is_full top leaves k p ≡ true
+pub full_from : (top : ℕ) (leaves : List ℕ) (k p : ℕ) → ((leaf : ℕ) → leaf < cell_count top → lies_under top leaf k p ≡ true → has leaves leaf ≡ true) → is_full top leaves k p ≡ true
 unfolding is_full
 full_from top leaves k p f = pass_all (λ leaf. not (lies_under top leaf k p) || has leaves leaf) (range_with_len 0 (cell_count top)) (λ leaf h. elim (cases_Bool (lies_under top leaf k p)) [
   | inl t ↦ or_right (not (lies_under top leaf k p)) (has leaves leaf) (f leaf (range_bound (cell_count top) leaf h) t)

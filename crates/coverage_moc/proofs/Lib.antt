@@ -8,3 +8,4 @@ pub mod CanonLemmas
 pub mod FileLemmas
 pub mod CountLemmas
 pub mod LeafLemmas
+pub mod PlainLemmas

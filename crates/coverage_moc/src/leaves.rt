@@ -110,8 +110,8 @@ fn put_own(order: u8, rows: &[u64], under: &mut Vec<u64>) -> Result<(), AllocErr
     Ok(())
 }
 
-// The least number of a cell of that order: a third of how many cells it has.
-fn first_number(order: u8) -> u64
+/// The least number of a cell of that order: a third of how many cells it has.
+pub(crate) fn first_number(order: u8) -> u64
     requires { order ≤ 11 }
     ensures number { result ≡ 4 * 4 ^ order }
     ensures at_most { result < 2 ^ 32 }

@@ -1,7 +1,7 @@
 //! The cover of a survey's leaves as a multi-order coverage map, and its file (MOC 1.1).
 //!
 //! `Cover::of` makes the cover of all leaves, `add` and `remove` change it by one leaf without going over the leaves, and
-//! `encode` and `decode` write and read the coverage file.
+//! `encode` and `decode` write and read the coverage file. `plain` is the definition as a slow program.
 #![tactic(auto)]
 
 mod cover;
@@ -12,6 +12,7 @@ mod leaves;
 mod merge;
 #[cfg(test)]
 mod outside_tests;
+pub mod plain;
 mod refusal;
 mod rows;
 #[cfg(test)]

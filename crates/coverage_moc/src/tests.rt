@@ -2,11 +2,12 @@
 ghost use Rattle.std.specs.Prelude.{◌≡◌, ◌<◌, ◌≤◌, ◌↔◌, IfOk, IsTrue, length, All};
 
 use crate::cover::keys;
-use crate::{Cover, CoverRefusal};
+use crate::{Cover, CoverRefusal, plain};
 use healpix_nested::cells;
 use leaf_store::Store;
 use parent_rule::{Depth, Steps};
 use std::alloc::{AllocError, Global};
+use std::process::Abort;
 use std::sync::Arc;
 use std::test::Fail;
 use tile_pixels::Tile;
@@ -148,6 +149,77 @@ fn covers_have_rows(rt: HostRuntime) -> Result<(), Fail> {
     }
     let four = cover_of(alloc, 4, &[0, 1, 2, 3])?;
     assert!(rt; has_rows(&without(alloc, &four, 4, 3)?, &[1024, 1025, 1026]));
+    Ok(())
+}
+
+// Leaves of an order that a linear congruence takes, one of so many.
+fn some_leaves(alloc: Global, top: u8, one_of: u32, seed: u32) -> Result<Vec<u64>, AllocError>
+    requires { top ≤ 11 }
+{
+    let mut state = seed;
+    let mut leaves = Vec::new(alloc);
+    for leaf in 0..cells(top) {
+        state = state.wrapping_mul(1664525).wrapping_add(1013904223);
+        if (state >> 16).is_multiple_of(one_of) {
+            leaves.push(leaf)?;
+        }
+    }
+    Ok(leaves)
+}
+
+// Whether the cover is that of these leaves by the plain program.
+fn is_plain(alloc: Global, cover: &Cover, top: u8, leaves: &[u64]) -> Result<bool, AllocError>
+    requires { top ≤ 11 }
+{
+    let rows = plain::cover(alloc, top, leaves)?;
+    Ok(has_rows(cover, &rows))
+}
+
+// A cover that is changed leaf by leaf is that of the plain program each time.
+fn check_changes(
+    rt: &impl Abort,
+    alloc: Global,
+    top: u8,
+    leaves: &[u64],
+    changes: &[u64],
+) -> Result<(), Fail>
+    requires { top ≤ 11 }
+{
+    let mut leaves = leaves.to_vec(alloc)?;
+    let mut cover = cover_of(alloc, top, &leaves)?;
+    assert!(rt; is_plain(alloc, &cover, top, &leaves)?, "of {leaves:?}");
+    for leaf in changes {
+        if leaves.contains(leaf) {
+            cover = without(alloc, &cover, top, *leaf)?;
+            leaves.retain(|other| other != leaf);
+        } else {
+            cover = with(alloc, &cover, top, *leaf)?;
+            leaves.push(*leaf)?;
+        }
+        assert!(rt; is_plain(alloc, &cover, top, &leaves)?, "after {leaf}");
+    }
+    Ok(())
+}
+
+// An order, one leaf of how many is there, one of how many is changed, and a seed.
+static DRAWS: [(u8, u32, u32, u32); 6] = [
+    (0, 2, 2, 1),
+    (1, 1, 4, 2),
+    (1, 2, 4, 3),
+    (2, 1, 16, 4),
+    (2, 5, 16, 5),
+    (3, 1, 256, 6),
+];
+
+#[test]
+fn covers_are_those_of_the_plain_program(rt: HostRuntime) -> Result<(), Fail> {
+    let alloc = rt.alloc();
+    for (top, one_of, changed, seed) in DRAWS {
+        assert!(rt; top <= 11);
+        let leaves = some_leaves(alloc, top, one_of, seed)?;
+        let changes = some_leaves(alloc, top, changed, seed + 100)?;
+        check_changes(&rt, alloc, top, &leaves, &changes)?;
+    }
     Ok(())
 }
 

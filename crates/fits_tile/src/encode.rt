@@ -1,9 +1,10 @@
 //! Writing tile files and the files of images.
-ghost use Rattle.std.specs.Prelude.{◌≡◌, ◌+◌, ◌*◌, ◌/◌, ◌≤◌, ◌++◌, IfOk, length, drop};
+ghost use Rattle.std.specs.Prelude.{◌≡◌, ◌+◌, ◌*◌, ◌/◌, ◌≤◌, ◌∷◌, [], ◌++◌, IfOk, length, drop};
 ghost use Rattle.fits_header.specs.Cards.{whole_blocks};
-ghost use Rattle.fits_header.specs.FitsFile.{in_blocks, fits_file};
+ghost use Rattle.fits_header.specs.FitsFile.{header_text, in_blocks, fits_file};
+ghost use Rattle.fits_header.specs.WrittenCards.{end_card};
 ghost use Rattle.tile_pixels.specs.Stored.{numbers_from};
-ghost use Rattle.fits_tile.specs.TileFile.{data_len, tile_file, image_file};
+ghost use Rattle.fits_tile.specs.TileFile.{data_len, tile_cards, tile_file, image_file};
 
 use crate::cards::{image_cards, tile_cards};
 use fits_header::{BLOCK_LEN, Card, whole_blocks, write_cards};
@@ -20,7 +21,19 @@ pub fn encode_into(tile: &Tile, cell: Cell, conf: &Conf, out: &mut [u8]) -> usiz
     ensures len { result ≡ 2880 + whole_blocks (data_len conf.now.shape) }
     ensures written { out.new ≡ tile_file conf.now cell.order cell.npix tile.now.numbers ++ drop result out.old }
 {
-    write_file(&tile_cards(conf, cell), tile.raw(), out)
+    let start = encode_cards(cell, conf, out);
+    start + write_data(tile.raw(), &mut out[start..])
+}
+
+/// Writes the header of a tile file at the front of `out`: its cards, and spaces up to the end of the block. The tile's
+/// stored bytes and zero bytes up to the end of their last block, behind it, make the file. It says how many bytes that
+/// took: 2,880. The rest stays.
+pub fn encode_cards(cell: Cell, conf: &Conf, out: &mut [u8]) -> usize
+    requires { 2880 ≤ length out.old }
+    ensures len { result ≡ 2880 }
+    ensures written { out.new ≡ header_text (tile_cards conf.now cell.order cell.npix ++ end_card ∷ []) ++ drop result out.old }
+{
+    write_cards(&tile_cards(conf, cell), out)
 }
 
 /// The file of an image with the scale, the zero and the depth of the survey: `width` columns and `height` lines of the

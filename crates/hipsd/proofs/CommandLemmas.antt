@@ -9,7 +9,7 @@ use Rattle.std.proofs.lemmas.Fmt.{decimal_digit, decimal_nonempty, first_decimal
 use Rattle.hipsd.specs.Command.{Asks, IsProbe, IsCommand, words_of}
 use Rattle.hipsd.specs.declared.command.Probe.{Probe}
 use Rattle.hipsd.specs.declared.command.Command.{Command}
-use Rattle.hipsd.specs.declared.command.Command.TheVariants.{Probe as ProbeCommand}
+use Rattle.hipsd.specs.declared.command.Command.TheVariants.{Probe as ProbeCommand, Export, Verify}
 
 own : IsNumeralModel (AllDigits 10) (digits_value 10)
 own = numerals_by_value (AllDigits 10) tells_digits
@@ -74,6 +74,8 @@ pub no_command : (top n order npix : List ℕ)
     → ((asked : Probe) → ¬ Asks (codes "probe" ∷ top ∷ n ∷ order ∷ npix ∷ []) (ProbeCommand asked))
     → ¬ IsCommand (codes "probe" ∷ top ∷ n ∷ order ∷ npix ∷ [])
 no_command top n order npix none (ProbeCommand asked, asks) = none asked asks
+no_command top n order npix none (Export, asks) = let e = asks.spelled in cc
+no_command top n order npix none (Verify, asks) = let e = asks.spelled in cc
 
 -- words ask for one probe only
 pub same_probe : (words : List (List ℕ)) (a b : Probe) → Asks words (ProbeCommand a) → Asks words (ProbeCommand b) → a ≡ b
@@ -91,6 +93,34 @@ same_probe words a b asks_a asks_b =
     let same_npix : a.npix ≡ b.npix = decimal_injective a.npix b.npix (omega arith) (omega arith) npix in
     λ i. record { top = same_top i; n = same_n i; order = same_order i; npix = same_npix i }
 
+-- the first letter of the first word
+abbrev first_letter : List (List ℕ) → ℕ
+first_letter [] = 0
+first_letter (word ∷ words) = get_or word 0 0
+
+abbrev letter_of : Command → ℕ
+letter_of (ProbeCommand asked) = 112
+letter_of Export = 101
+letter_of Verify = 118
+
+first_letter-words_of : (command : Command) → first_letter (words_of command) ≡ letter_of command
+first_letter-words_of (ProbeCommand asked) = refl
+first_letter-words_of Export = refl
+first_letter-words_of Verify = refl
+
+-- commands of the same words begin with the same letter
+same_letter : (words : List (List ℕ)) (a b : Command) → Asks words a → Asks words b → letter_of a ≡ letter_of b
+same_letter words a b asks_a asks_b =
+    sym (first_letter-words_of a) ∙ ap first_letter (sym asks_a.spelled ∙ asks_b.spelled) ∙ first_letter-words_of b
+
 -- and for one command only
 pub same_command : (words : List (List ℕ)) (a b : Command) → Asks words a → Asks words b → a ≡ b
 same_command words (ProbeCommand a) (ProbeCommand b) asks_a asks_b = ap (λ p. ProbeCommand p) (same_probe words a b asks_a asks_b)
+same_command words Export Export asks_a asks_b = refl
+same_command words Verify Verify asks_a asks_b = refl
+same_command words (ProbeCommand a) Export asks_a asks_b = let e : ◌≡◌ {A = ℕ} 112 101 = same_letter words _ _ asks_a asks_b in absurd (omega arith)
+same_command words (ProbeCommand a) Verify asks_a asks_b = let e : ◌≡◌ {A = ℕ} 112 118 = same_letter words _ _ asks_a asks_b in absurd (omega arith)
+same_command words Export (ProbeCommand b) asks_a asks_b = let e : ◌≡◌ {A = ℕ} 101 112 = same_letter words _ _ asks_a asks_b in absurd (omega arith)
+same_command words Export Verify asks_a asks_b = let e : ◌≡◌ {A = ℕ} 101 118 = same_letter words _ _ asks_a asks_b in absurd (omega arith)
+same_command words Verify (ProbeCommand b) asks_a asks_b = let e : ◌≡◌ {A = ℕ} 118 112 = same_letter words _ _ asks_a asks_b in absurd (omega arith)
+same_command words Verify Export asks_a asks_b = let e : ◌≡◌ {A = ℕ} 118 101 = same_letter words _ _ asks_a asks_b in absurd (omega arith)

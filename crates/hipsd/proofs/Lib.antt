@@ -4,3 +4,4 @@ pub mod LeavesLemmas
 pub mod MergingLemmas
 pub mod PieceLemmas
 pub mod ReadLemmas
+pub mod ShelfLemmas

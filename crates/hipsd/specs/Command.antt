@@ -1,9 +1,9 @@
 -- What the words of a command line ask for. Numbers are plain decimals, without a sign and without leading zeros.
-use Rattle.std.specs.Prelude.{◌≡◌, ℕ, ◌^◌, ◌<◌, ◌≤◌, List, [], ◌∷◌, map, codes, decimal, String, string_bytes}
+use Rattle.std.specs.Prelude.{◌≡◌, ℕ, ◌^◌, ◌<◌, ◌≤◌, Bool, true, false, List, [], ◌∷◌, map, codes, decimal, String, string_bytes, ⊤}
 use Rattle.std.specs.declared.alloc.Global.{Global}
 use Rattle.hipsd.specs.declared.command.Probe.{Probe}
 use Rattle.hipsd.specs.declared.command.Command.{Command}
-use Rattle.hipsd.specs.declared.command.Command.TheVariants.{Probe as ProbeCommand}
+use Rattle.hipsd.specs.declared.command.Command.TheVariants.{Probe as ProbeCommand, Export, Verify}
 
 -- the bytes of each word
 abbrev pub texts : List (String Global) → List (List ℕ)
@@ -21,9 +21,13 @@ pub record IsProbe (asked : Probe) : Type 0 where
 -- the words that ask for a command
 abbrev pub words_of : Command → List (List ℕ)
 words_of (ProbeCommand asked) = codes "probe" ∷ decimal asked.top ∷ decimal asked.n ∷ decimal asked.order ∷ decimal asked.npix ∷ []
+words_of Export = codes "export" ∷ []
+words_of Verify = codes "verify" ∷ []
 
 abbrev pub IsInRange : Command → Type 0
 IsInRange (ProbeCommand asked) = IsProbe asked
+IsInRange Export = ⊤
+IsInRange Verify = ⊤
 
 -- the words ask for this command
 pub record Asks (words : List (List ℕ)) (command : Command) : Type 0 where
@@ -33,3 +37,21 @@ pub record Asks (words : List (List ℕ)) (command : Command) : Type 0 where
 -- the words are a row of the table of commands
 abbrev pub IsCommand : List (List ℕ) → Type 0
 IsCommand words = (command : Command) × Asks words command
+
+-- ---- what a command looks at
+
+abbrev pub reads_source : Command → Bool
+reads_source (ProbeCommand asked) = true
+reads_source Export = false
+reads_source Verify = false
+
+abbrev pub opens_shelf : Command → Bool
+opens_shelf (ProbeCommand asked) = false
+opens_shelf Export = true
+opens_shelf Verify = true
+
+-- only `export` writes files
+abbrev pub writes_files : Command → Bool
+writes_files (ProbeCommand asked) = false
+writes_files Export = true
+writes_files Verify = false

@@ -4,3 +4,4 @@ pub mod Reading
 pub mod Probe
 pub mod Merging
 pub mod Run
+pub mod Survey

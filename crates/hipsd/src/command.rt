@@ -21,6 +21,10 @@ pub struct Probe {
 pub enum Command {
     /// One tile of the leaves that are read.
     Probe(Probe),
+    /// The survey's files are put on the shelf.
+    Export,
+    /// The shelf is compared with the survey.
+    Verify,
 }
 
 /// The command that the words ask for; `None` exactly where they are no row of the table of commands.
@@ -33,6 +37,19 @@ pub fn read_command(words: &[String]) -> Option<Command>
             let probe = read_probe(top.as_str(), n.as_str(), order.as_str(), npix.as_str())?;
             Some(Command::Probe(probe))
         }
+        [name] => read_name(name.as_str()),
+        _ => None,
+    }
+}
+
+// The command that its name alone asks for.
+fn read_name(name: &str) -> Option<Command>
+    ensures asked { IfSome result (Asks (name.now ∷ [])) }
+    ensures none { IfNone result (¬ IsCommand (name.now ∷ [])) }
+{
+    match name {
+        "export" => Some(Command::Export),
+        "verify" => Some(Command::Verify),
         _ => None,
     }
 }

@@ -1,6 +1,7 @@
 //! `hipsd`: a server for HiPS sky maps.
 //!
-//! `run` is the whole program over the ends that it is given; `main` makes the real ones. The command of today is `probe`.
+//! `run` is the whole program over the ends that it is given; `main` makes the real ones. The commands of today are `probe`,
+//! `export` and `verify`.
 #![tactic(auto)]
 
 ghost use Rattle.std.specs.Prelude.{◌≡◌, ◌⊎◌, ◌≤◌, IfOk, MatchResult};
@@ -11,6 +12,7 @@ ghost use Rattle.hipsd.specs.declared.command.Command.TheVariants.{Probe as Prob
 ghost use Rattle.hipsd.specs.Command.{texts, Asks, IsCommand};
 
 mod command;
+mod exporting;
 mod fault;
 mod leaves;
 mod merging;
@@ -19,17 +21,23 @@ mod merging_tests;
 mod output;
 mod probe;
 mod records;
+mod refusing;
 mod run;
 #[cfg(test)]
+mod survey_tests;
+#[cfg(test)]
 mod tests;
+mod verifying;
 
 use parent_rule::Steps;
 use run::run;
 use std::alloc::Global;
 use std::io::{BufReader, BufWriter, ErrorKind};
 use std::process::ExitCode;
+use std::rt::Runtime;
+use std::thread::Threads;
 use std::{env, io};
-use survey_link::{MemDoor, MemShelf, OpenGate, StreamSink, StreamSource};
+use survey_link::{FolderShelf, MemDoor, OpenGate, StreamSink, StreamSource};
 
 /// The status where there is no memory for the words or the ends.
 const NO_MEMORY: u8 = 11;
@@ -49,8 +57,11 @@ fn words(alloc: Global, args: io::Result<env::Args>) -> io::Result<Vec<String>> 
     Ok(words)
 }
 
-// Runs the words over standard input and output, and passes the status on.
-fn run_words(rt: &HostRuntime, words: &[String]) -> io::Result<u8>
+// Runs the words over standard input and output and the current folder, and passes the status on.
+fn run_words<R>(rt: &R, words: &[String]) -> io::Result<u8>
+where
+    R: Runtime + AllocGlobal + Threads + Sync,
+    R::Reader: Drop,
     ensures usage { ¬ IsCommand (texts words.now) → IfOk result (λ status. (status ≡ 1) ⊎ (status ≡ 6)) }
     ensures usage_only { IfOk result (λ status. status ≡ 1 → ¬ IsCommand (texts words.now)) }
     ensures probe_range { (asked : AskedProbe) → Asks (texts words.now) (ProbeCommand asked)
@@ -59,7 +70,7 @@ fn run_words(rt: &HostRuntime, words: &[String]) -> io::Result<u8>
     let alloc = rt.alloc();
     let mut source = StreamSource::new(BufReader::new(alloc, rt.reader())?);
     let mut sink = StreamSink::new(BufWriter::new(alloc, io::writer(rt))?);
-    let mut shelf = MemShelf::new(alloc, Vec::new(alloc));
+    let mut shelf = FolderShelf::here(rt.clone()?);
     let mut doors: Vec<MemDoor> = Vec::new(alloc);
     let gate = OpenGate::new();
     let mut steps = Steps::new();
@@ -76,7 +87,11 @@ fn run_words(rt: &HostRuntime, words: &[String]) -> io::Result<u8>
 }
 
 // Runs the command line.
-fn run_here(rt: &HostRuntime) -> io::Result<u8> {
+fn run_here<R>(rt: &R) -> io::Result<u8>
+where
+    R: Runtime + AllocGlobal + Threads + Sync,
+    R::Reader: Drop,
+{
     run_words(rt, &words(rt.alloc(), env::args(rt))?)
 }
 

@@ -1,21 +1,26 @@
 //! The whole program, over whatever ends it is given.
-ghost use Rattle.std.specs.Prelude.{◌≡◌, ◌≢◌, ◌⊎◌, ℕ, ◌≤◌, List, Some};
+ghost use Rattle.std.specs.Prelude.{◌≡◌, ◌≢◌, ◌⊎◌, ℕ, ◌≤◌, List, Some, false};
 ghost use Rattle.std.specs.Io.KnownBytes.{Appends, IsAtEnd};
 ghost use Rattle.survey_link.specs.Link.{Rises, AppendsPrefix};
 ghost use Rattle.healpix_nested.specs.Cells.{cell_count};
 ghost use Rattle.hipsd.specs.declared.command.Probe.{Probe as AskedProbe};
-ghost use Rattle.hipsd.specs.declared.command.Command.TheVariants.{Probe as ProbeCommand};
-ghost use Rattle.hipsd.specs.Command.{texts, Asks, IsCommand, IsProbe};
+ghost use Rattle.hipsd.specs.declared.command.Command.{Command as AskedCommand};
+ghost use Rattle.hipsd.specs.declared.command.Command.TheVariants.{Probe as ProbeCommand, Export, Verify};
+ghost use Rattle.hipsd.specs.Command.{texts, Asks, IsCommand, IsProbe, reads_source, opens_shelf, writes_files};
 ghost use Rattle.hipsd.specs.Probe.{probe_answer, probe_steps};
 ghost use Rattle.hipsd.specs.Merging.{steps_after};
 ghost use Rattle.hipsd.specs.Reading.{ReadsToTheEnd};
 ghost use Rattle.hipsd.specs.Run.{usage_text, EndsBy};
+ghost use Rattle.hipsd.specs.Survey.{RunsExport, RunsVerify};
 
 use crate::command::{Command, Probe, read_command};
+use crate::exporting::run_export;
 use crate::output::write_out;
 use crate::probe::probe;
+use crate::verifying::run_verify;
 use parent_rule::Steps;
 use std::alloc::Global;
+use std::thread::Threads;
 use survey_link::{Door, Gate, Shelf, Sink, Source};
 
 /// Runs the command that the words ask for, over these ends, and answers its status.
@@ -24,8 +29,11 @@ use survey_link::{Door, Gate, Shelf, Sink, Source};
 /// |---|---|
 /// | 0 | the command is done |
 /// | 1 | the words are no row of the table of commands; `usage: hipsd COMMAND` and LF are written |
+/// | 2 | the shelf has no `survey.conf`, and `conf absent` and LF are written; or this has a fault: `conf LINE KIND` and LF |
+/// | 3 | the file of a leaf is refused: `tile PATH FAULT` and LF are written; or there are too many: `leaves N` and LF |
 /// | 4 | `probe`: the input ends within a record |
-/// | 5, 6 | the source's, the sink's count of faults rose |
+/// | 5, 6, 7 | the source's, the sink's, the shelf's count of faults rose |
+/// | 9 | `verify`: the shelf differs from the survey |
 /// | 10 | `probe`: no leaf lies at or under the asked tile |
 /// | 11 | there was no memory |
 /// | 12 | `probe`: the input goes on after 65,536 records |
@@ -43,7 +51,7 @@ pub fn run<R, S, K, H, D, G>(
     steps: &mut Steps,
 ) -> u8
 where
-    R: AllocGlobal,
+    R: AllocGlobal + Threads + Sync,
     S: Source,
     K: Sink,
     H: Shelf,
@@ -86,9 +94,22 @@ where
     ensures probe_counted { (asked : AskedProbe) (input : List ℕ) → Asks (texts words.now) (ProbeCommand asked)
         → S.left source.old ≡ Some input → result ≡ 0 → steps.new ≡ steps_after (probe_steps asked input) steps.old }
 
+    // The survey on the shelf.
+    ensures export { Asks (texts words.now) Export → RunsExport (H.files shelf.old) (H.files shelf.new) result
+        (K.held sink.old) (K.held sink.new) (K.handed_on sink.old) (K.handed_on sink.new) }
+    ensures verify { Asks (texts words.now) Verify → RunsVerify (H.files shelf.old) result
+        (K.held sink.old) (K.held sink.new) (K.handed_on sink.old) (K.handed_on sink.new) }
+
+    // What a command doesn't use stays.
+    ensures source { (command : AskedCommand) → Asks (texts words.now) command → reads_source command ≡ false → source.new ≡ source.old }
+    ensures shelf { (command : AskedCommand) → Asks (texts words.now) command → opens_shelf command ≡ false → shelf.new ≡ shelf.old }
+    ensures files { (command : AskedCommand) → Asks (texts words.now) command → writes_files command ≡ false
+        → H.files shelf.new ≡ H.files shelf.old }
+    ensures usage_shelf { ¬ IsCommand (texts words.now) → shelf.new ≡ shelf.old }
+
     ensures read_fault { result ≡ 5 → Rises (S.faults source.old) (S.faults source.new) }
     ensures write_fault { result ≡ 6 → Rises (K.faults sink.old) (K.faults sink.new) }
-    ensures shelf { shelf.new ≡ shelf.old }
+    ensures shelf_fault { result ≡ 7 → Rises (H.faults shelf.old) (H.faults shelf.new) }
     ensures doors { doors.new ≡ doors.old }
     ensures steps_never_fall { steps.old ≤ steps.new }
 {
@@ -96,6 +117,8 @@ where
         None => usage(sink),
         Some(command) => match command {
             Command::Probe(asked) => run_probe(rt.alloc(), &asked, source, sink, steps),
+            Command::Export => run_export(rt, sink, shelf, gate, steps),
+            Command::Verify => run_verify(rt, sink, shelf, gate, steps),
         },
     }
 }
@@ -137,6 +160,7 @@ fn run_probe<S: Source, K: Sink>(
         → steps.new ≡ steps_after (probe_steps asked.now input) steps.old }
     ensures end { result ≡ 0 → IsAtEnd (S.left source.new) }
     ensures not_usage { result ≢ 1 }
+    ensures not_shelf { result ≢ 7 }
     ensures read_fault { result ≡ 5 → Rises (S.faults source.old) (S.faults source.new) }
     ensures write_fault { result ≡ 6 → Rises (K.faults sink.old) (K.faults sink.new) }
     ensures steps_never_fall { steps.old ≤ steps.new }

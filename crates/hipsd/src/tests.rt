@@ -2,10 +2,12 @@
 use crate::run::run;
 use crate::words;
 use parent_rule::Steps;
-use std::alloc::Global;
+use std::alloc::{AllocError, Global};
 use std::env;
 use std::io::{self, ErrorKind};
+use std::sync::Wait;
 use std::test::Fail;
+use std::thread::Threads;
 use survey_link::{MemDoor, MemShelf, MemSink, MemSource, OpenGate};
 
 const USAGE: &[u8] = b"usage: hipsd COMMAND\n";
@@ -25,25 +27,24 @@ fn unhex(alloc: Global, text: &str) -> Result<Vec<u8>, Fail> {
     Ok(bytes)
 }
 
-// A list of one number.
-fn one(alloc: Global, number: u64) -> Result<Vec<u64>, Fail> {
-    let mut list = Vec::new(alloc);
-    list.push(number)?;
-    Ok(list)
-}
-
-// Runs a command line over a source and a sink, and answers its status.
-fn run_over(
-    rt: &HostRuntime,
-    line: &str,
-    source: &mut MemSource,
-    sink: &mut MemSink,
-) -> Result<u8, Fail> {
-    let alloc = rt.alloc();
+// The words of a command line.
+fn split(alloc: Global, line: &str) -> Result<Vec<String>, AllocError> {
     let mut words = Vec::new(alloc);
     for word in line.split_whitespace() {
         words.push(String::from_str(alloc, word)?)?;
     }
+    Ok(words)
+}
+
+// Runs a command line over a source and a sink, and answers its status.
+fn run_over<R: AllocGlobal + Threads + Wait + Sync>(
+    rt: &R,
+    line: &str,
+    source: &mut MemSource,
+    sink: &mut MemSink,
+) -> Result<u8, AllocError> {
+    let alloc = rt.alloc();
+    let words = split(alloc, line)?;
     let mut shelf = MemShelf::new(alloc, Vec::new(alloc));
     let mut doors: Vec<MemDoor> = Vec::new(alloc);
     let gate = OpenGate::new();
@@ -53,157 +54,164 @@ fn run_over(
     ))
 }
 
+// A row is a run: the command line, the input, in pieces of how many bytes, and the read that fails; the room for the output,
+// and the write that fails; the status, and the output in hexadecimal digits or `usage`. A `|` stands between them.
+fn field(row: &str, at: usize) -> &str {
+    row.split('|').nth(at).unwrap_or("")
+}
+
+fn number(text: &str) -> usize {
+    text.parse::<usize>().unwrap_or(0)
+}
+
+// The number of the call that fails, where one does.
+fn fails(alloc: Global, text: &str) -> Result<Vec<u64>, AllocError> {
+    let mut list = Vec::new(alloc);
+    if let Ok(call) = text.parse::<u64>() {
+        list.push(call)?;
+    }
+    Ok(list)
+}
+
+fn source_of(alloc: Global, row: &str) -> Result<MemSource, Fail> {
+    let input = unhex(alloc, field(row, 1))?;
+    let fails = fails(alloc, field(row, 3))?;
+    Ok(MemSource::new(input, number(field(row, 2)).max(1), fails))
+}
+
+fn sink_of(alloc: Global, row: &str) -> Result<MemSink, AllocError> {
+    MemSink::new(alloc, number(field(row, 4)), fails(alloc, field(row, 5))?)
+}
+
+// Whether the sink holds that output.
+fn holds(alloc: Global, sink: &MemSink, output: &str) -> Result<bool, Fail> {
+    if output == "usage" {
+        return Ok(sink.bytes() == USAGE);
+    }
+    Ok(sink.bytes() == unhex(alloc, output)?.as_slice())
+}
+
+// Whether the run ends so.
+fn goes<R: AllocGlobal + Threads + Wait + Sync>(rt: &R, row: &str) -> Result<bool, Fail> {
+    let alloc = rt.alloc();
+    let mut source = source_of(alloc, row)?;
+    let mut sink = sink_of(alloc, row)?;
+    let status = run_over(rt, field(row, 0), &mut source, &mut sink)?;
+    Ok(usize::from(status) == number(field(row, 6)) && holds(alloc, &sink, field(row, 7))?)
+}
+
+static PROBES: &str = "\
+probe 4 1 3 0|0000000000000000 0001 0002 0003 0005|100|-|100|-|0|8000 8000 0003 8000
+probe 4 1 4 0|0000000000000000 0001 0002 0003 0005|100|-|100|-|0|0001 0002 0003 0005
+probe 4 1 3 0||100|-|100|-|10|
+probe 4 1 3 0|0000000000000000 0001 0002 0003 00|100|-|100|-|4|
+probe 4 1 3 0|0000000000000C00 00|100|-|100|-|13|
+probe 4 1 3 768||100|-|100|-|13|
+probe 4 1 3 768|0000000000000000 0001 0002 0003 0005|100|-|100|-|13|
+probe 5 1 3 0|0000000000000000 0001 0001 0002 0002 0000000000000001 0001 0001 0002 0002 0000000000000002 0001 0001 0001 0002 0000000000000003 0001 0001 0001 0002|100|-|100|-|0|8000 8000 0002 8000
+probe 4 1 3 0|0000000000000001 0007 0007 0007 0007|100|-|100|-|0|0007 8000 8000 8000
+probe 4 1 3 0|0000000000000000 0001 0002 0003 0005 0000000000000000 0009 0009 0009 0009|100|-|100|-|0|8000 8000 0009 8000
+probe 4 1 3 0|0000000000000004 0007 0007 0007 0007 0000000000000000 0001 0002 0003 0005|100|-|100|-|0|8000 8000 0003 8000
+probe 4 1 3 0|0000000000000004 0007 0007 0007 0007|100|-|100|-|10|
+probe 4 1 3 0|0000000000000004 0007 0007 0007 00|100|-|100|-|4|
+probe 4 1 3 0|0000000000000000 FFFF FFFE 8000 8000|100|-|100|-|0|8000 8000 FFFF 8000
+";
+
+// In pieces of some bytes.
+static PIECES: &str = "\
+probe 4 1 3 0|0000000000000000 0001 0002 0003 0005|1|-|100|-|0|8000 8000 0003 8000
+probe 4 1 3 0|0000000000000000 0001 0002 0003 0005|2|-|100|-|0|8000 8000 0003 8000
+probe 4 1 3 0|0000000000000000 0001 0002 0003 0005|3|-|100|-|0|8000 8000 0003 8000
+probe 4 1 3 0|0000000000000000 0001 0002 0003 0005|7|-|100|-|0|8000 8000 0003 8000
+";
+
+// With little room, and where a write or the flush after it fails.
+static FULL: &str = "\
+probe 4 1 3 0|0000000000000000 0001 0002 0003 0005|100|-|100|0|6|
+probe 4 1 3 0|0000000000000000 0001 0002 0003 0005|100|-|100|1|6|8000 8000 0003 8000
+probe 4 1 3 0|0000000000000000 0001 0002 0003 0005|100|-|3|100|6|8000 80
+probe 4 1 3 0|0000000000000000 0001 0002 0003 0005|100|-|0|100|6|
+";
+
+// The source fails at its first read, so these read nothing.
+static UNREAD: &str = "\
+|0000000000000000 0001 0002 0003 0005|100|0|100|-|1|usage
+probe|0000000000000000 0001 0002 0003 0005|100|0|100|-|1|usage
+sessions|0000000000000000 0001 0002 0003 0005|100|0|100|-|1|usage
+probe 4 1 5 0|0000000000000000 0001 0002 0003 0005|100|0|100|-|1|usage
+probe 4 1 3 768|0000000000000000 0001 0002 0003 0005|100|0|100|-|13|
+";
+
 #[test]
 fn answers_probe(rt: HostRuntime) -> Result<(), Fail> {
-    let alloc = rt.alloc();
-    for (line, input, status, output) in [
-        ("probe 4 1 3 0", LEAF_0, 0, TILE_0),
-        ("probe 4 1 4 0", LEAF_0, 0, "0001 0002 0003 0005"),
-        ("probe 4 1 3 0", "", 10, ""),
-        ("probe 4 1 3 0", "0000000000000000 0001 0002 0003 00", 4, ""),
-        ("probe 4 1 3 0", "0000000000000C00 00", 13, ""),
-        ("probe 4 1 3 768", "", 13, ""),
-        ("probe 4 1 3 768", LEAF_0, 13, ""),
-        (
-            "probe 5 1 3 0",
-            "0000000000000000 0001 0001 0002 0002 0000000000000001 0001 0001 0002 0002 \
-             0000000000000002 0001 0001 0001 0002 0000000000000003 0001 0001 0001 0002",
-            0,
-            "8000 8000 0002 8000",
-        ),
-        (
-            "probe 4 1 3 0",
-            "0000000000000001 0007 0007 0007 0007",
-            0,
-            "0007 8000 8000 8000",
-        ),
-        (
-            "probe 4 1 3 0",
-            "0000000000000000 0001 0002 0003 0005 0000000000000000 0009 0009 0009 0009",
-            0,
-            "8000 8000 0009 8000",
-        ),
-        (
-            "probe 4 1 3 0",
-            "0000000000000004 0007 0007 0007 0007 0000000000000000 0001 0002 0003 0005",
-            0,
-            TILE_0,
-        ),
-        (
-            "probe 4 1 3 0",
-            "0000000000000004 0007 0007 0007 0007",
-            10,
-            "",
-        ),
-        ("probe 4 1 3 0", "0000000000000004 0007 0007 0007 00", 4, ""),
-        (
-            "probe 4 1 3 0",
-            "0000000000000000 FFFF FFFE 8000 8000",
-            0,
-            "8000 8000 FFFF 8000",
-        ),
-    ] {
-        let mut source = MemSource::new(unhex(alloc, input)?, 100, Vec::new(alloc));
-        let mut sink = MemSink::new(alloc, 100, Vec::new(alloc))?;
-        let ended = run_over(&rt, line, &mut source, &mut sink)?;
-        assert_eq!(rt; ended, status, "{line} over {input}");
-        assert_eq!(rt;
-            sink.bytes(),
-            unhex(alloc, output)?.as_slice(),
-            "{line} over {input}"
-        );
+    for table in [PROBES, PIECES, FULL, UNREAD] {
+        for row in table.lines() {
+            assert!(rt; goes(&rt, row)?, "{row}");
+        }
     }
     Ok(())
 }
 
-#[test]
-fn reads_pieces_and_fails_where_the_source_does(rt: HostRuntime) -> Result<(), Fail> {
+// The status where that read fails of one of a leaf in pieces of three bytes, and whether the output is that of the status.
+fn with_failing_read<R: AllocGlobal + Threads + Wait + Sync>(
+    rt: &R,
+    call: u64,
+) -> Result<(u8, bool), Fail> {
     let alloc = rt.alloc();
-    for piece in [1, 2, 3, 7, 100] {
-        let mut source = MemSource::new(unhex(alloc, LEAF_0)?, piece, Vec::new(alloc));
-        let mut sink = MemSink::new(alloc, 100, Vec::new(alloc))?;
-        let ended = run_over(&rt, "probe 4 1 3 0", &mut source, &mut sink)?;
-        assert_eq!(rt; ended, 0, "in pieces of {piece}");
-        assert_eq!(rt;
-            sink.bytes(),
-            unhex(alloc, TILE_0)?.as_slice(),
-            "in pieces of {piece}"
-        );
-    }
+    let failing = Vec::from_slice(alloc, &[call])?;
+    let mut source = MemSource::new(unhex(alloc, LEAF_0)?, 3, failing);
+    let mut sink = MemSink::new(alloc, 100, Vec::new(alloc))?;
+    let status = run_over(rt, "probe 4 1 3 0", &mut source, &mut sink)?;
+    let output = if status == 0 { TILE_0 } else { "" };
+    Ok((status, holds(alloc, &sink, output)?))
+}
+
+#[test]
+fn fails_where_the_source_does(rt: HostRuntime) -> Result<(), Fail> {
     let mut reads = 0;
     for call in 0..20 {
-        let mut source = MemSource::new(unhex(alloc, LEAF_0)?, 3, one(alloc, call)?);
-        let mut sink = MemSink::new(alloc, 100, Vec::new(alloc))?;
-        let ended = run_over(&rt, "probe 4 1 3 0", &mut source, &mut sink)?;
-        if ended == 0 {
-            assert_eq!(rt; sink.bytes(), unhex(alloc, TILE_0)?.as_slice());
+        let (status, is_output) = with_failing_read(&rt, call)?;
+        assert!(rt; is_output, "where read {call} fails");
+        if status == 0 {
             reads = call;
             break;
         }
-        assert_eq!(rt; ended, 5, "where read {call} fails");
-        assert!(rt; sink.bytes().is_empty(), "where read {call} fails");
+        assert!(rt; status == 5, "where read {call} fails");
     }
     assert!(rt; reads > 3);
     Ok(())
 }
 
-#[test]
-fn fails_where_the_sink_does(rt: HostRuntime) -> Result<(), Fail> {
-    let alloc = rt.alloc();
-    for (room, call, taken) in [(100, 0, 0), (100, 1, 8), (3, 100, 3), (0, 100, 0)] {
-        let mut source = MemSource::new(unhex(alloc, LEAF_0)?, 100, Vec::new(alloc));
-        let mut sink = MemSink::new(alloc, room, one(alloc, call)?)?;
-        let ended = run_over(&rt, "probe 4 1 3 0", &mut source, &mut sink)?;
-        assert_eq!(rt; ended, 6, "with room {room}, where call {call} fails");
-        assert_eq!(rt;
-            Some(sink.bytes()),
-            unhex(alloc, TILE_0)?.get(..taken),
-            "with room {room}, where call {call} fails"
-        );
+// So many records of a leaf, and more behind them.
+fn records(alloc: Global, count: u32, more: &[u8]) -> Result<Vec<u8>, Fail> {
+    let record = unhex(alloc, LEAF_0)?;
+    let mut input = Vec::new(alloc);
+    for _record in 0..count {
+        input.extend_from_slice(&record)?;
     }
-    Ok(())
+    input.extend_from_slice(more)?;
+    Ok(input)
 }
 
-// The source fails at its first read, so these read nothing.
-#[test]
-fn looks_at_no_input_where_none_is_asked_for(rt: HostRuntime) -> Result<(), Fail> {
+// Whether probe over that input ends so.
+fn probes<R: AllocGlobal + Threads + Wait + Sync>(
+    rt: &R,
+    input: Vec<u8>,
+    status: u8,
+    output: &str,
+) -> Result<bool, Fail> {
     let alloc = rt.alloc();
-    for (line, status, output) in [
-        ("", 1, USAGE),
-        ("probe", 1, USAGE),
-        ("session", 1, USAGE),
-        ("probe 4 1 5 0", 1, USAGE),
-        ("probe 4 1 3 768", 13, b"".as_slice()),
-    ] {
-        let mut source = MemSource::new(unhex(alloc, LEAF_0)?, 100, one(alloc, 0)?);
-        let mut sink = MemSink::new(alloc, 100, Vec::new(alloc))?;
-        let ended = run_over(&rt, line, &mut source, &mut sink)?;
-        assert_eq!(rt; ended, status, "at {line}");
-        assert_eq!(rt; sink.bytes(), output, "at {line}");
-    }
-    Ok(())
+    let mut source = MemSource::new(input, 100, Vec::new(alloc));
+    let mut sink = MemSink::new(alloc, 100, Vec::new(alloc))?;
+    let ended = run_over(rt, "probe 4 1 3 0", &mut source, &mut sink)?;
+    Ok(ended == status && holds(alloc, &sink, output)?)
 }
 
 #[test]
 fn reads_65_536_records_at_most(rt: HostRuntime) -> Result<(), Fail> {
     let alloc = rt.alloc();
-    let record = unhex(alloc, LEAF_0)?;
-    for (more, status, output) in [("", 0, TILE_0), ("00", 12, "")] {
-        let mut input = Vec::new(alloc);
-        for _record in 0..65_536 {
-            input.extend_from_slice(&record)?;
-        }
-        input.extend_from_slice(&unhex(alloc, more)?)?;
-        let mut source = MemSource::new(input, 100, Vec::new(alloc));
-        let mut sink = MemSink::new(alloc, 100, Vec::new(alloc))?;
-        let ended = run_over(&rt, "probe 4 1 3 0", &mut source, &mut sink)?;
-        assert_eq!(rt; ended, status, "with {more} more");
-        assert_eq!(rt;
-            sink.bytes(),
-            unhex(alloc, output)?.as_slice(),
-            "with {more} more"
-        );
-    }
+    assert!(rt; probes(&rt, records(alloc, 65_536, b"")?, 0, TILE_0)?);
+    assert!(rt; probes(&rt, records(alloc, 65_536, b"\0")?, 12, "")?);
     Ok(())
 }
 

@@ -37,7 +37,27 @@ fn first_head(
     Ok(frame.head(&mut src))
 }
 
-const STOPS: [(&[u8], Stop); 27] = [
+// Whether the first head of the bytes is answered by that.
+fn stops(alloc: Global, bytes: &[u8], piece: usize, stop: Stop) -> Result<bool, AllocError>
+    requires { 0 < piece }
+{
+    match first_head(alloc, bytes, piece)? {
+        Ok(_) => Ok(false),
+        Err(found) => Ok(found == stop),
+    }
+}
+
+// Whether the first head of the bytes asks for that.
+fn asks(alloc: Global, bytes: &[u8], piece: usize, request: &Request) -> Result<bool, AllocError>
+    requires { 0 < piece }
+{
+    match first_head(alloc, bytes, piece)? {
+        Ok(found) => Ok(found == *request),
+        Err(_) => Ok(false),
+    }
+}
+
+static STOPS: [(&[u8], Stop); 27] = [
     (b"", Stop::End),
     (b"GET /prop", Stop::Cut),
     (b"GET / HTTP/1.1\r\nHost: a\r\n\r", Stop::Cut),
@@ -109,9 +129,9 @@ const STOPS: [(&[u8], Stop); 27] = [
 
 #[test]
 fn refuses_what_no_server_may_read(rt: HostRuntime) -> Result<(), Fail> {
-    for (bytes, stop) in STOPS {
-        let text = shown(bytes);
-        assert_eq!(rt; first_head(rt.alloc(), bytes, 7)?, Err(stop), "{text}");
+    for (bytes, stop) in &STOPS {
+        let text = shown(*bytes);
+        assert!(rt; stops(rt.alloc(), *bytes, 7, *stop)?, "{text}");
     }
     Ok(())
 }
@@ -127,7 +147,7 @@ const GET: Request = Request {
 
 const CLOSE: Request = Request { close: true, ..GET };
 
-const REQUESTS: [(&[u8], Request); 18] = [
+static REQUESTS: [(&[u8], Request); 18] = [
     (b"GET / HTTP/1.1\r\nHost:\r\n\r\n", GET),
     (b"GET / HTTP/1.0\r\n\r\n", CLOSE),
     (
@@ -227,14 +247,14 @@ const REQUESTS: [(&[u8], Request); 18] = [
 
 #[test]
 fn reads_what_a_head_asks_for(rt: HostRuntime) -> Result<(), Fail> {
-    for (bytes, request) in REQUESTS {
-        let text = shown(bytes);
-        assert_eq!(rt; first_head(rt.alloc(), bytes, 1000)?, Ok(request), "{text}");
+    for (bytes, request) in &REQUESTS {
+        let text = shown(*bytes);
+        assert!(rt; asks(rt.alloc(), *bytes, 1000, request)?, "{text}");
     }
     Ok(())
 }
 
-const PATHS: [(&[u8], Option<&[u8]>); 15] = [
+static PATHS: [(&[u8], Option<&[u8]>); 15] = [
     (b"/", Some(b"")),
     (b"/properties", Some(b"properties")),
     (b"/%4Doc.fits?x=1", Some(b"Moc.fits")),
@@ -270,31 +290,19 @@ fn has_path(alloc: Global, target: &[u8], path: Option<&[u8]>) -> Result<bool, A
 
 #[test]
 fn decodes_the_path_of_a_target(rt: HostRuntime) -> Result<(), Fail> {
-    for (target, path) in PATHS {
-        let text = shown(target);
-        assert!(rt; has_path(rt.alloc(), target, path)?, "{text}");
+    for (target, path) in &PATHS {
+        let text = shown(*target);
+        assert!(rt; has_path(rt.alloc(), *target, *path)?, "{text}");
     }
     Ok(())
 }
 
-// Each row: the head's start, what is repeated in it how often, its end, and the answer.
-const LIMITS: [(&[u8], &[u8], usize, &[u8], Result<Request, Stop>); 4] = [
-    (b"GET / HTTP/1.0\r\nX: ", b"x", 8169, b"\r\n\r\n", Ok(CLOSE)),
-    (
-        b"GET / HTTP/1.0\r\nX: ",
-        b"x",
-        8170,
-        b"\r\n\r\n",
-        Err(Stop::Refuse(431)),
-    ),
-    (b"GET / HTTP/1.0\r\n", b"X: y\r\n", 64, b"\r\n", Ok(CLOSE)),
-    (
-        b"GET / HTTP/1.0\r\n",
-        b"X: y\r\n",
-        65,
-        b"\r\n",
-        Err(Stop::Refuse(400)),
-    ),
+// Each row: the head's start, what is repeated in it how often, its end, and the code of its refusal, 0 where it is read.
+static LIMITS: [(&[u8], &[u8], usize, &[u8], u16); 4] = [
+    (b"GET / HTTP/1.0\r\nX: ", b"x", 8169, b"\r\n\r\n", 0),
+    (b"GET / HTTP/1.0\r\nX: ", b"x", 8170, b"\r\n\r\n", 431),
+    (b"GET / HTTP/1.0\r\n", b"X: y\r\n", 64, b"\r\n", 0),
+    (b"GET / HTTP/1.0\r\n", b"X: y\r\n", 65, b"\r\n", 400),
 ];
 
 fn repeated(
@@ -312,17 +320,24 @@ fn repeated(
     Ok(bytes)
 }
 
+// Whether the head is refused by that code, or read where it is 0.
+fn answers(alloc: Global, head: &[u8], piece: usize, code: u16) -> Result<bool, AllocError>
+    requires { 0 < piece }
+{
+    if code == 0 {
+        asks(alloc, head, piece, &CLOSE)
+    } else {
+        stops(alloc, head, piece, Stop::Refuse(code))
+    }
+}
+
 #[test]
 fn reads_up_to_the_limits(rt: HostRuntime) -> Result<(), Fail> {
     let alloc = rt.alloc();
-    for (start, piece, count, end, answer) in LIMITS {
-        let head = repeated(alloc, start, piece, count, end)?;
-        assert_eq!(rt;
-            first_head(alloc, head.as_slice(), 1000)?,
-            answer,
-            "{count}"
-        );
-        assert_eq!(rt; first_head(alloc, head.as_slice(), 1)?, answer, "{count}");
+    for (start, piece, count, end, code) in &LIMITS {
+        let head = repeated(alloc, *start, *piece, *count, *end)?;
+        assert!(rt; answers(alloc, head.as_slice(), 1000, *code)?, "{count}");
+        assert!(rt; answers(alloc, head.as_slice(), 1, *code)?, "{count}");
     }
     Ok(())
 }
@@ -369,12 +384,14 @@ fn gives(frame: &mut Frame, src: &mut MemSource, method: Method, path: &[u8], bo
     head && body
 }
 
-// Which of the three requests are given, and the answer after them, where the calls with these numbers fail.
-fn pipeline(
+// Whether so many of the three requests are given, and that is the answer after them, where the calls with these numbers fail.
+fn pipes(
     alloc: Global,
     piece: usize,
     fails: &[u64],
-) -> Result<([bool; 3], Option<Stop>), AllocError>
+    count: u32,
+    end: Stop,
+) -> Result<bool, AllocError>
     requires { 0 < piece }
 {
     let mut frame = Frame::new(alloc, 5)?;
@@ -382,42 +399,57 @@ fn pipeline(
     let first = gives(&mut frame, &mut src, Method::Put, b"a", b"hello");
     let second = gives(&mut frame, &mut src, Method::Post, b"b", b"");
     let third = gives(&mut frame, &mut src, Method::Get, b"c", b"");
-    Ok(([first, second, third], frame.head(&mut src).err()))
+    let given = first == (count > 0) && second == (count > 1) && third == (count > 2);
+    match frame.head(&mut src) {
+        Ok(_) => return Ok(false),
+        Err(stop) => return Ok(given && stop == end),
+    }
+}
+
+// How many of the three requests are given where the call with that number fails: the first has 52 bytes, the second 29, the
+// third 19.
+fn given_before(call: u64) -> u32 {
+    if call > 99 {
+        3
+    } else if call > 80 {
+        2
+    } else if call > 51 {
+        1
+    } else {
+        0
+    }
 }
 
 #[test]
 fn reads_a_pipeline_in_any_pieces(rt: HostRuntime) -> Result<(), Fail> {
     let alloc = rt.alloc();
     for piece in [1, 2, 3, 7, 1000] {
-        let (given, end) = pipeline(alloc, piece, &[])?;
-        assert_eq!(rt; given, [true, true, true], "{piece}");
-        assert_eq!(rt; end, Some(Stop::End), "{piece}");
+        assert!(rt; pipes(alloc, piece, &[], 3, Stop::End)?, "{piece}");
     }
-    // The first request has 52 bytes, the second 29, the third 19.
     for call in 0..101 {
-        let (given, end) = pipeline(alloc, 1, &[call])?;
-        assert_eq!(rt; given, [call > 51, call > 80, call > 99], "{call}");
-        assert_eq!(rt; end, Some(Stop::ReadFault), "{call}");
+        let went = pipes(alloc, 1, &[call], given_before(call), Stop::ReadFault)?;
+        assert!(rt; went, "{call}");
     }
     Ok(())
 }
 
-// The body of the first request of the bytes.
+// Whether the first request of the bytes has that body; `None`: whether it is cut.
 fn first_body(
     alloc: Global,
     bytes: &[u8],
     piece: usize,
-) -> Result<Result<Vec<u8>, Stop>, AllocError>
+    body: Option<&[u8]>,
+) -> Result<bool, AllocError>
     requires { 0 < piece }
 {
     let mut frame = Frame::new(alloc, 600_000)?;
     let mut src = source(alloc, bytes, piece, &[])?;
-    if let Err(stop) = frame.head(&mut src) {
-        return Ok(Err(stop));
+    if frame.head(&mut src).is_err() {
+        return Ok(false);
     }
     match frame.body(&mut src) {
-        Ok(body) => Ok(Ok(Vec::from_slice(alloc, body)?)),
-        Err(stop) => Ok(Err(stop)),
+        Ok(found) => return Ok(body == Some(found)),
+        Err(stop) => return Ok(body.is_none() && stop == Stop::Cut),
     }
 }
 
@@ -430,29 +462,39 @@ fn reads_bodies_as_large_as_a_tile(rt: HostRuntime) -> Result<(), Fail> {
     let whole = repeated(alloc, head, b"x", 529_920, b"GET")?;
     let short = repeated(alloc, head, b"x", 529_919, b"")?;
     for piece in [1, 8191, 1_000_000] {
-        let read = first_body(alloc, whole.as_slice(), piece)?;
-        assert!(rt; read.is_ok_and(|read| read == body), "{piece}");
-        let read = first_body(alloc, short.as_slice(), piece)?;
-        assert!(rt; read.is_err_and(|stop| stop == Stop::Cut), "{piece}");
+        let reads = first_body(alloc, whole.as_slice(), piece, Some(body.as_slice()))?;
+        assert!(rt; reads, "{piece}");
+        assert!(rt;
+            first_body(alloc, short.as_slice(), piece, None)?,
+            "{piece}"
+        );
     }
     Ok(())
 }
+
+// Whether the next connection, of these bytes, gives `PUT /a` with that body.
+fn gives_first(
+    frame: &mut Frame,
+    alloc: Global,
+    bytes: &[u8],
+    body: &[u8],
+) -> Result<bool, AllocError>
+    requires { AwaitsHead frame.old.turn }
+{
+    let mut src = source(alloc, bytes, 99, &[])?;
+    Ok(gives(frame, &mut src, Method::Put, b"a", body))
+}
+
+const CUT: &[u8] = b"PUT /a HTTP/1.0\r\nContent-Length: 5\r\n\r\nhell";
 
 #[test]
 fn serves_one_connection_after_another(rt: HostRuntime) -> Result<(), Fail> {
     let alloc = rt.alloc();
     let mut frame = Frame::new(alloc, 5)?;
-    let mut cut = source(
-        alloc,
-        b"PUT /a HTTP/1.0\r\nContent-Length: 5\r\n\r\nhell",
-        99,
-        &[],
-    )?;
-    assert!(rt; !gives(&mut frame, &mut cut, Method::Put, b"a", b"hell"));
+    assert!(rt; !gives_first(&mut frame, alloc, CUT, b"hell")?);
     frame.clear();
     assert!(rt; frame.path().is_none());
-    let mut whole = source(alloc, PIPELINE, 99, &[])?;
-    assert!(rt; gives(&mut frame, &mut whole, Method::Put, b"a", b"hello"));
+    assert!(rt; gives_first(&mut frame, alloc, PIPELINE, b"hello")?);
     Ok(())
 }
 
@@ -495,7 +537,7 @@ const TEXT: Reply = Reply {
     ..PLAIN
 };
 
-const REPLIES: [(Reply, &[u8], &[u8]); 21] = [
+static REPLIES: [(Reply, &[u8], &[u8]); 21] = [
     (
         Reply {
             kind: Kind::Fits,
@@ -689,63 +731,63 @@ const REPLIES: [(Reply, &[u8], &[u8]); 21] = [
 
 #[test]
 fn writes_replies(rt: HostRuntime) -> Result<(), Fail> {
-    for (reply, body, bytes) in REPLIES {
-        let text = shown(bytes);
-        assert!(rt; writes(rt.alloc(), &reply, body, bytes)?, "{text}");
+    for (reply, body, bytes) in &REPLIES {
+        let text = shown(*bytes);
+        assert!(rt; writes(rt.alloc(), reply, *body, *bytes)?, "{text}");
     }
     Ok(())
 }
 
-// A way to write a reply.
-#[derive(Clone, Copy, Debug)]
-enum Way {
-    // The body fits beside the head.
-    Short,
-    Long,
-    Parts,
-    Continue,
+// Whether a reply whose body fits beside its head is written, one with a long body, one by parts, or what comes before a body.
+fn write_by(way: &str, sink: &mut MemSink, long: &[u8]) -> bool {
+    match way {
+        "short" => write_reply(sink, &Reply { length: 3, ..TEXT }, b"abc").is_ok(),
+        "long" => write_long(sink, long),
+        "parts" => write_by_parts(sink),
+        _ => write_continue(sink).is_ok(),
+    }
 }
 
-// Whether a reply is written by a sink whose call with that number fails, and how many bytes the sink holds.
-fn written(alloc: Global, way: Way, call: u64) -> Result<(Result<(), Failed>, usize), AllocError> {
+fn write_long(sink: &mut MemSink, long: &[u8]) -> bool {
+    let length = long.len() as u64;
+    write_reply(sink, &Reply { length, ..TEXT }, long).is_ok()
+}
+
+fn write_by_parts(sink: &mut MemSink) -> bool {
+    let reply = Reply { length: 6, ..TEXT };
+    write_reply_parts(sink, &reply, [b"ab", b"c", b"def"]).is_ok()
+}
+
+// Whether a reply is written or not by a sink whose call with that number fails, and the sink then holds so many bytes.
+fn written(
+    alloc: Global,
+    way: &str,
+    call: u64,
+    goes_well: bool,
+    held: usize,
+) -> Result<bool, AllocError> {
     let mut sink = MemSink::new(alloc, 3000, Vec::from_slice(alloc, &[call])?)?;
-    let long = Vec::from_elem(alloc, b'x', 2000)?;
-    let answer = match way {
-        Way::Short => write_reply(&mut sink, &Reply { length: 3, ..TEXT }, b"abc"),
-        Way::Long => write_reply(
-            &mut sink,
-            &Reply {
-                length: 2000,
-                ..TEXT
-            },
-            long.as_slice(),
-        ),
-        Way::Parts => write_reply_parts(
-            &mut sink,
-            &Reply { length: 6, ..TEXT },
-            [b"ab", b"c", b"def"],
-        ),
-        Way::Continue => write_continue(&mut sink),
-    };
-    Ok((answer, sink.bytes().len()))
+    let long = repeated(alloc, b"", b"x", 2000, b"")?;
+    let went = write_by(way, &mut sink, long.as_slice());
+    Ok(went == goes_well && sink.bytes().len() == held)
 }
 
-// How many bytes each writes.
-const WAYS: [(Way, usize); 4] = [
-    (Way::Short, 67),
-    (Way::Long, 2067),
-    (Way::Parts, 70),
-    (Way::Continue, 25),
+// How many bytes each way writes.
+static WAYS: [(&str, usize); 4] = [
+    ("short", 67),
+    ("long", 2067),
+    ("parts", 70),
+    ("continue", 25),
 ];
 
 // All goes out by the first call, and is handed on by the second.
 #[test]
 fn writes_by_one_call_and_flushes(rt: HostRuntime) -> Result<(), Fail> {
     let alloc = rt.alloc();
-    for (way, length) in WAYS {
-        assert_eq!(rt; written(alloc, way, 0)?, (Err(Failed), 0), "{way:?}");
-        assert_eq!(rt; written(alloc, way, 1)?, (Err(Failed), length), "{way:?}");
-        assert_eq!(rt; written(alloc, way, 2)?, (Ok(()), length), "{way:?}");
+    for (way, length) in &WAYS {
+        assert!(rt; written(alloc, *way, 0, false, 0)?, "{way}");
+        assert!(rt; written(alloc, *way, 1, false, *length)?, "{way}");
+        assert!(rt; written(alloc, *way, 2, true, *length)?, "{way}");
     }
     Ok(())
 }

@@ -3,13 +3,13 @@ ghost use Rattle.std.specs.Prelude.{◌≡◌, ◌<◌, IfOk, All};
 ghost use Rattle.std.specs.Map.{keys_of};
 ghost use Rattle.healpix_nested.specs.Cells.{cell_count};
 
+use crate::tiles::small_tile;
 use coverage_moc::Cover;
 use leaf_store::Store;
-use parent_rule::{Depth, Steps};
+use parent_rule::Depth;
 use std::alloc::Global;
 use std::io;
 use std::io::ErrorKind;
-use std::sync::Arc;
 use std::time::CpuClock;
 use tile_pixels::Tile;
 
@@ -60,7 +60,8 @@ pub fn time_cover(rt: &HostRuntime, count: u64, apart: u64) -> io::Result<CoverT
 fn leaves(alloc: Global, count: u64, apart: u64) -> io::Result<Store<Tile>>
     ensures { IfOk result (λ store. All (λ leaf. leaf < cell_count 11) (keys_of store)) }
 {
-    let tile = small_tile(alloc)?;
+    let depth = Depth::new(16, 0).ok_or(io::Error::from(ErrorKind::InvalidData))?;
+    let tile = small_tile(alloc, depth)?;
     let mut store = Store::new(alloc);
     for i in 0..count {
         let leaf = leaf_of(i.saturating_mul(apart))?;
@@ -77,20 +78,4 @@ fn leaf_of(number: u64) -> io::Result<u64>
         return Err(io::Error::from(ErrorKind::InvalidInput));
     }
     Ok(number)
-}
-
-// A tile of two columns and two lines.
-fn small_tile(alloc: Global) -> io::Result<Arc<Tile>> {
-    let depth = Depth::new(16, 0).ok_or(io::Error::from(ErrorKind::InvalidData))?;
-    if depth.bytes() != 2 {
-        return Err(io::Error::from(ErrorKind::InvalidData));
-    }
-    let tile = Tile::from_bytes(
-        alloc,
-        &[0, 1, 0, 2, 0, 3, 0, 4],
-        depth,
-        1,
-        &mut Steps::new(),
-    )?;
-    Ok(Arc::new(alloc, tile)?)
 }

@@ -6,26 +6,36 @@
 //!   is made, and a sum of the bytes of the tile. The numbers are those of bench/lanes.c.
 //! - `level` with the same words is a level of 192 merges: the processor time of `level_serial`, its time by the clock on the
 //!   wall, that of `level_parallel`, and a sum of the bytes of the tiles. The numbers are those of bench/level.c.
+//! - `mosaic` with the same words is the mosaic of 768 tiles: the processor time of `whole` for each number of the mosaic, its
+//!   time by the clock on the wall, the processor time of `patch` where one tile was replaced, and a sum of the bytes of both. The
+//!   numbers are those of bench/mosaic.c.
 //! - `cover COUNT APART` is `Cover::of` of so many leaves of order 11: the processor time for each leaf, then that of adding one
 //!   leaf more, and the number of rows.
+//! - `journal COUNT` is so many edits of one leaf, where each journal on the way is kept: the processor time for each edit, and
+//!   the most kilobytes that the process held.
 #![tactic(auto)]
 
 mod cover;
 mod hundredths;
+mod journal;
 mod level;
 mod merge;
+mod mosaic;
 mod tiles;
 
 use cover::time_cover;
 use hundredths::Hundredths;
+use journal::time_journal;
 use level::{LevelTimes, TILES, time_level};
 use merge::{time_halve, time_merge};
+use mosaic::{MosaicTimes, NUMBERS, time_mosaic};
 use parent_rule::Depth;
 use std::{env, io};
 use tiles::{PIXELS, depth, sixteenths};
 
-const USAGE: &str = "survey_bench merge|halve|level 8|16|32|64 mean|median none|some|half
-survey_bench cover COUNT APART";
+const USAGE: &str = "survey_bench merge|halve|level|mosaic 8|16|32|64 mean|median none|some|half
+survey_bench cover COUNT APART
+survey_bench journal COUNT";
 
 fn main(rt: HostRuntime) -> io::Result<()> {
     let mut words = Vec::new(rt.alloc());
@@ -42,6 +52,10 @@ fn main(rt: HostRuntime) -> io::Result<()> {
                     let times = time_level(&rt, rt.alloc(), depth, blanks)?;
                     return print_level(&rt, times);
                 }
+                if what.as_str() == "mosaic" {
+                    let times = time_mosaic(&rt, rt.alloc(), depth, blanks)?;
+                    return print_mosaic(&rt, times);
+                }
                 return of_tiles(&rt, what.as_str(), depth, blanks);
             }
         }
@@ -52,6 +66,11 @@ fn main(rt: HostRuntime) -> io::Result<()> {
                 apart.parse::<u64>(),
             ) {
                 return of_leaves(&rt, count, apart);
+            }
+        }
+        [what, count] => {
+            if let ("journal", Ok(count)) = (what.as_str(), count.parse::<u32>()) {
+                return of_journals(&rt, count);
             }
         }
         _ => {}
@@ -90,5 +109,20 @@ fn of_leaves(rt: &HostRuntime, count: u64, apart: u64) -> io::Result<()> {
     let times = time_cover(rt, count, apart)?;
     let of = Hundredths::of(times.of, u128::from(count.max(1)));
     println!(rt; "{of} {} {}", times.add, times.rows)?;
+    Ok(())
+}
+
+fn print_mosaic(rt: &HostRuntime, times: MosaicTimes) -> io::Result<()> {
+    let processor = Hundredths::of(times.processor, NUMBERS);
+    let wall = Hundredths::of(times.wall, NUMBERS);
+    let patch = Hundredths::of(times.patch, NUMBERS);
+    println!(rt; "{processor} {wall} {patch} {}", times.sum)?;
+    Ok(())
+}
+
+fn of_journals(rt: &HostRuntime, count: u32) -> io::Result<()> {
+    let times = time_journal(rt, count)?;
+    let edit = Hundredths::of(times.processor, u128::from(count.max(1)));
+    println!(rt; "{edit} {}", times.held)?;
     Ok(())
 }

@@ -6,6 +6,7 @@ use parent_rule::{Combine, Depth, Steps};
 use std::alloc::Global;
 use std::io;
 use std::io::ErrorKind;
+use std::sync::Arc;
 use tile_pixels::Tile;
 
 /// A tile has `2^N` columns and lines.
@@ -72,6 +73,27 @@ pub fn child(alloc: Global, depth: Depth, blanks: u32, seed: u32) -> io::Result<
         return Err(io::Error::from(ErrorKind::InvalidData));
     }
     Ok(Tile::from_bytes(alloc, &raw, depth, N, &mut Steps::new())?)
+}
+
+/// A tile of two columns and two lines of 16 bits.
+///
+/// # Errors
+///
+/// Where there is no memory for it, or the depth has other bits.
+pub fn small_tile(alloc: Global, depth: Depth) -> io::Result<Arc<Tile>>
+    ensures { IfOk result (λ tile. HasShape tile.value depth 1) }
+{
+    if depth.bytes() != 2 {
+        return Err(io::Error::from(ErrorKind::InvalidData));
+    }
+    let tile = Tile::from_bytes(
+        alloc,
+        &[0, 1, 0, 2, 0, 3, 0, 4],
+        depth,
+        1,
+        &mut Steps::new(),
+    )?;
+    Ok(Arc::new(alloc, tile)?)
 }
 
 /// A sum of bytes in which each place counts, carried on from `sum`.

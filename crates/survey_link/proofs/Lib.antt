@@ -1,5 +1,6 @@
 pub mod Copied
 pub mod Doors
+pub mod Folders
 pub mod FourParts
 pub mod Paths
 pub mod Prefixes

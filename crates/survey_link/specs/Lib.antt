@@ -5,3 +5,5 @@ pub mod Memory
 pub mod Files
 pub mod Stream
 pub mod Faults
+pub mod ShelfPath
+pub mod Folder

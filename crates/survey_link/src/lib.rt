@@ -7,7 +7,11 @@
 mod calls;
 mod door;
 mod faults;
+mod file_fault;
+mod folder;
+mod folder_shelf;
 mod gate;
+mod here;
 mod mem_door;
 mod mem_shelf;
 mod mem_sink;
@@ -15,6 +19,7 @@ mod mem_source;
 mod null_sink;
 mod parts;
 mod shelf;
+mod shelf_path;
 mod sink;
 mod source;
 mod stream;
@@ -22,6 +27,7 @@ mod sure_source;
 
 pub use door::Door;
 pub use faults::{DoorFault, Failed, LinkFault};
+pub use folder_shelf::FolderShelf;
 pub use gate::{Gate, OpenGate};
 pub use mem_door::MemDoor;
 pub use mem_shelf::MemShelf;

@@ -1,5 +1,8 @@
 //! Each form once, through the trait it meets.
 ghost use Rattle.std.specs.Prelude.{◌<◌, length};
+ghost use Rattle.survey_link.specs.Link.{parts_bytes};
+
+mod folder_shelf;
 
 use super::*;
 use std::alloc::{AllocError, Global};
@@ -27,8 +30,36 @@ fn drain<S: Source>(
     Ok((all, failed))
 }
 
+const TEXT: &[u8] = b"0123456789";
+
+// Whether all the text comes, after so many reads that fail.
+fn gives_all<S: Source>(
+    alloc: Global,
+    source: &mut S,
+    buf: &mut [u8],
+    failed: u32,
+) -> Result<bool, AllocError>
+    requires { 0 < length buf.old }
+{
+    let (all, count) = drain(alloc, source, buf)?;
+    Ok(all.as_slice() == TEXT && count == failed)
+}
+
+fn gives_all_in_pieces(
+    alloc: Global,
+    piece: usize,
+    fails: &[u64],
+    failed: u32,
+) -> Result<bool, AllocError>
+    requires { 0 < piece }
+{
+    let fails = Vec::from_slice(alloc, fails)?;
+    let mut source = MemSource::new(Vec::from_slice(alloc, TEXT)?, piece, fails);
+    gives_all(alloc, &mut source, &mut [0; 8], failed)
+}
+
 // Each row: how many bytes a read gives at most, the reads that fail, and how many fail before the end.
-const PIECES: [(usize, &[u64], u32); 5] = [
+static PIECES: [(usize, &[u64], u32); 5] = [
     (1, &[], 0),
     (2, &[0, 1], 2),
     (3, &[2], 1),
@@ -39,88 +70,109 @@ const PIECES: [(usize, &[u64], u32); 5] = [
 #[test]
 fn a_source_gives_all_in_pieces(rt: HostRuntime) -> Result<(), Fail> {
     let alloc = rt.alloc();
-    let text = b"0123456789";
-    for (piece, fails, failed) in PIECES {
-        assert!(rt; piece > 0);
-        let bytes = Vec::from_slice(alloc, text)?;
-        let mut source = MemSource::new(bytes, piece, Vec::from_slice(alloc, fails)?);
-        let found = drain(alloc, &mut source, &mut [0; 8])?;
-        assert_eq!(rt; found.0.as_slice(), text.as_slice(), "{piece}");
-        assert_eq!(rt; found.1, failed, "{piece}");
+    for (piece, fails, failed) in &PIECES {
+        assert!(rt; *piece > 0);
+        assert!(rt;
+            gives_all_in_pieces(alloc, *piece, *fails, *failed)?,
+            "{piece}"
+        );
     }
-    let mut sure = SureSource::new(Vec::from_slice(alloc, text)?);
-    let found = drain(alloc, &mut sure, &mut [0; 4])?;
-    assert_eq!(rt; found.0.as_slice(), text.as_slice());
+    let mut sure = SureSource::new(Vec::from_slice(alloc, TEXT)?);
+    assert!(rt; gives_all(alloc, &mut sure, &mut [0; 4], 0)?);
     Ok(())
 }
 
-// Whether all the bytes are written, and what the flush after them answers.
-fn write_and_flush<K: Sink>(
-    sink: &mut K,
-    bytes: &[u8],
-) -> (Result<(), Failed>, Result<(), Failed>) {
-    let whole = write_whole(sink, bytes);
-    (whole, sink.flush())
+// Whether all the bytes are written, and whether the flush after them goes well.
+fn write_and_flush<K: Sink>(sink: &mut K, bytes: &[u8]) -> (bool, bool) {
+    let whole = write_whole(sink, bytes).is_ok();
+    (whole, sink.flush().is_ok())
 }
 
-// Each row: the room of the sink, the call that fails, what writing `abcdef` answers, what the flush after it, and what the
-// sink holds.
-const WRITES: [(usize, u64, (Result<(), Failed>, Result<(), Failed>), &[u8]); 4] = [
-    (8, 9, (Ok(()), Ok(())), b"abcdef"),
-    (8, 1, (Ok(()), Err(Failed)), b"abcdef"),
-    (8, 0, (Err(Failed), Ok(())), b""),
-    (4, 9, (Err(Failed), Ok(())), b"abcd"),
+// Whether writing `abcdef` into a sink with that room goes so, where that call fails.
+fn writes(
+    alloc: Global,
+    room: usize,
+    fails: u64,
+    answers: (bool, bool),
+    held: &[u8],
+) -> Result<bool, AllocError> {
+    let mut sink = MemSink::new(alloc, room, Vec::from_slice(alloc, &[fails])?)?;
+    let (whole, flushed) = write_and_flush(&mut sink, b"abcdef");
+    Ok(whole == answers.0 && flushed == answers.1 && sink.bytes() == held)
+}
+
+// Each row: the room of the sink, the call that fails, whether `abcdef` is written, whether the flush after it goes well, and
+// what the sink holds.
+static WRITES: [(usize, u64, bool, bool, &[u8]); 4] = [
+    (8, 9, true, true, b"abcdef"),
+    (8, 1, true, false, b"abcdef"),
+    (8, 0, false, true, b""),
+    (4, 9, false, true, b"abcd"),
 ];
 
 #[test]
 fn a_sink_takes_what_it_has_room_for(rt: HostRuntime) -> Result<(), Fail> {
-    let alloc = rt.alloc();
-    for (room, fails, answers, held) in WRITES {
-        let mut sink = MemSink::new(alloc, room, vec![in alloc; fails]?)?;
-        assert_eq!(rt;
-            write_and_flush(&mut sink, b"abcdef"),
-            answers,
-            "{room} {fails}"
-        );
-        assert_eq!(rt; sink.bytes(), held, "{room} {fails}");
+    for (room, fails, whole, flushed, held) in &WRITES {
+        let went = writes(rt.alloc(), *room, *fails, (*whole, *flushed), *held)?;
+        assert!(rt; went, "{room} {fails}");
     }
-    let answers = write_and_flush(&mut NullSink::new(), b"abcdef");
-    assert_eq!(rt; answers, (Ok(()), Ok(())));
+    let (whole, flushed) = write_and_flush(&mut NullSink::new(), b"abcdef");
+    assert!(rt; whole && flushed);
     Ok(())
 }
 
-// Puts, reads and removes files: how many there are at most, what stands at `b`, and how many are left.
-fn keep_files<H: Shelf>(
-    alloc: Global,
-    shelf: &mut H,
-) -> Result<(usize, Option<Vec<u8>>, usize), LinkFault> {
+fn put_three<H: Shelf>(shelf: &mut H) -> Result<(), LinkFault> {
     shelf.put("b", b"1")?;
     shelf.put("a/c", b"22")?;
-    shelf.put("b", b"333")?;
-    let most = shelf.list(alloc)?.len();
-    let found = shelf.get(alloc, "b")?;
+    shelf.put("b", b"333")
+}
+
+fn count<H: Shelf>(alloc: Global, shelf: &mut H) -> Result<usize, LinkFault> {
+    Ok(shelf.list(alloc)?.len())
+}
+
+// Whether these bytes stand at the path.
+fn holds<H: Shelf>(
+    alloc: Global,
+    shelf: &mut H,
+    path: &str,
+    bytes: &[u8],
+) -> Result<bool, LinkFault> {
+    match shelf.get(alloc, path)? {
+        Some(found) => Ok(found.as_slice() == bytes),
+        None => Ok(false),
+    }
+}
+
+fn lacks<H: Shelf>(alloc: Global, shelf: &mut H, path: &str) -> Result<bool, LinkFault> {
+    Ok(shelf.get(alloc, path)?.is_none())
+}
+
+// Puts, reads and removes files by eight calls: whether two are listed, `333` stands at `b`, and one is left.
+fn keep_files<H: Shelf>(alloc: Global, shelf: &mut H) -> Result<bool, LinkFault> {
+    put_three(shelf)?;
+    let listed = count(alloc, shelf)? == 2;
+    let held = holds(alloc, shelf, "b", b"333")?;
     shelf.remove("b")?;
     shelf.remove("b")?;
-    let left = shelf.list(alloc)?.len();
-    Ok((most, found, left))
+    let left = count(alloc, shelf)? == 1;
+    Ok(listed && held && left)
+}
+
+fn fails_at(alloc: Global, call: u64) -> Result<bool, AllocError> {
+    let mut shelf = MemShelf::new(alloc, Vec::from_slice(alloc, &[call])?);
+    Ok(matches!(keep_files(alloc, &mut shelf), Err(LinkFault::Failed)))
 }
 
 #[test]
 fn files_lie_on_a_shelf(rt: HostRuntime) -> Result<(), Fail> {
     let alloc = rt.alloc();
     for call in 0..8 {
-        let mut shelf = MemShelf::new(alloc, vec![in alloc; call]?);
-        let kept = keep_files(alloc, &mut shelf);
-        assert!(rt;
-            kept.is_err_and(|fault| fault == LinkFault::Failed),
-            "{call}"
-        );
+        assert!(rt; fails_at(alloc, call)?, "{call}");
     }
     let mut shelf = MemShelf::new(alloc, Vec::new(alloc));
-    let (most, found, left) = keep_files(alloc, &mut shelf)?;
-    assert_eq!(rt; (most, left), (2, 1));
-    assert!(rt; found.is_some_and(|bytes| bytes.as_slice() == b"333".as_slice()));
-    assert!(rt; shelf.get(alloc, "b")?.is_none());
+    assert!(rt; keep_files(alloc, &mut shelf)?);
+    assert!(rt; lacks(alloc, &mut shelf, "b")?);
     Ok(())
 }
 
@@ -130,33 +182,47 @@ fn ends(alloc: Global, bytes: &[u8]) -> Result<(MemSource, MemSink), AllocError>
     Ok((source, sink))
 }
 
-// Writes a greeting to the next connection and gives it back; whether one came.
-fn greet<D: Door>(door: &mut D) -> Result<bool, DoorFault> {
-    match door.accept()? {
-        None => Ok(false),
-        Some((input, mut output)) => {
+// A door through which two connections come, whose second call fails.
+fn two_come(alloc: Global) -> Result<MemDoor, AllocError> {
+    let mut connections = Vec::new(alloc);
+    connections.push(ends(alloc, b"one")?)?;
+    connections.push(ends(alloc, b"two")?)?;
+    MemDoor::new(alloc, connections, Vec::from_slice(alloc, &[1])?)
+}
+
+// Writes a greeting to the next connection and gives it back; what came, in a word.
+fn greet<D: Door>(door: &mut D) -> &'static str {
+    match door.accept() {
+        Err(DoorFault::Failed) => "failed",
+        Err(DoorFault::OutOfMemory) => "out of memory",
+        Ok(None) => "none",
+        Ok(Some((input, mut output))) => {
             let _ = write_whole(&mut output, b"hi");
             door.done(input, output);
-            Ok(true)
+            "one"
         }
     }
 }
 
+// Whether the connection that was given back there was greeted.
+fn is_greeted(door: &MemDoor, i: usize) -> bool {
+    match door.given(i) {
+        Some((_, sink)) => sink.bytes() == b"hi".as_slice(),
+        None => false,
+    }
+}
+
+static COMES: [&str; 4] = ["one", "failed", "one", "none"];
+
 #[test]
 fn connections_come_through_a_door(rt: HostRuntime) -> Result<(), Fail> {
     let alloc = rt.alloc();
-    let mut connections = Vec::new(alloc);
-    connections.push(ends(alloc, b"one")?)?;
-    connections.push(ends(alloc, b"two")?)?;
-    let mut door = MemDoor::new(alloc, connections, vec![in alloc; 1]?)?;
-    for answer in [Ok(true), Err(DoorFault::Failed), Ok(true), Ok(false)] {
-        assert_eq!(rt; greet(&mut door), answer);
+    let mut door = two_come(alloc)?;
+    for comes in &COMES {
+        assert!(rt; greet(&mut door) == *comes, "{comes}");
     }
-    assert_eq!(rt; door.faults(), 1);
-    for i in 0..2 {
-        let given = door.given(i).ok_or("not given back")?;
-        assert_eq!(rt; given.1.bytes(), b"hi".as_slice(), "{i}");
-    }
+    assert!(rt; door.faults() == 1);
+    assert!(rt; is_greeted(&door, 0) && is_greeted(&door, 1));
     assert!(rt; door.given(2).is_none());
     let (input, output) = ends(alloc, b"three")?;
     door.done(input, output);
@@ -252,55 +318,69 @@ impl Read for Bumpy {
 #[test]
 fn streams_of_the_outside(rt: HostRuntime) -> Result<(), Fail> {
     let alloc = rt.alloc();
-    let bytes: &[u8] = b"hello";
-    let (all, failed) = drain(alloc, &mut StreamSource::new(bytes), &mut [0; 2])?;
-    assert_eq!(rt; all.as_slice(), b"hello".as_slice());
-    assert_eq!(rt; failed, 0);
-    assert_eq!(rt; StreamSource::new(Broken).read(&mut [0; 2]), Err(Failed));
+    assert!(rt; gives_all(alloc, &mut StreamSource::new(TEXT), &mut [0; 2], 0)?);
+    assert!(rt; StreamSource::new(Broken).read(&mut [0; 2]).is_err());
     let mut buf = [0; 2];
     let mut bumpy = StreamSource::new(Bumpy::new(alloc));
-    assert_eq!(rt; bumpy.read(&mut buf), Ok(1));
-    assert_eq!(rt; buf, [b'x', 0]);
+    assert!(rt; bumpy.read(&mut buf).is_ok_and(|count| count == 1));
+    assert!(rt; buf[0] == b'x' && buf[1] == 0);
     Ok(())
+}
+
+// Writes both ways and flushes.
+fn greet_world<K: Sink>(sink: &mut K) -> Result<(), Failed> {
+    write_whole(sink, b"hello")?;
+    write_all_parts(sink, [b", ", b"", b"world", b"!"])?;
+    sink.flush()
 }
 
 #[test]
-fn streams_to_the_outside(rt: HostRuntime) -> Result<(), Fail> {
-    let alloc = rt.alloc();
-    let mut bumpy = Bumpy::new(alloc);
-    let mut sink = StreamSink::new(&mut bumpy);
-    assert_eq!(rt; write_whole(&mut sink, b"hello"), Ok(()));
-    assert_eq!(rt;
-        write_all_parts(&mut sink, [b", ", b"", b"world", b"!"]),
-        Ok(())
-    );
-    assert_eq!(rt; sink.flush(), Ok(()));
-    assert_eq!(rt; bumpy.taken.as_slice(), b"hello, world!".as_slice());
-    assert_eq!(rt; bumpy.flushes, 1);
+fn streams_to_the_outside(rt: HostRuntime) {
+    let mut bumpy = Bumpy::new(rt.alloc());
+    assert!(rt; greet_world(&mut StreamSink::new(&mut bumpy)).is_ok());
+    assert!(rt; bumpy.taken.as_slice() == b"hello, world!".as_slice());
+    assert!(rt; bumpy.flushes == 1);
     let mut broken = StreamSink::new(Broken);
-    assert_eq!(rt; write_whole(&mut broken, b"hello"), Err(Failed));
-    assert_eq!(rt; broken.write_parts([b"", b"h", b"", b""]), Err(Failed));
-    assert_eq!(rt; broken.flush(), Err(Failed));
-    Ok(())
+    assert!(rt; write_whole(&mut broken, b"hello").is_err());
+    assert!(rt; broken.write_parts([b"", b"h", b"", b""]).is_err());
+    assert!(rt; broken.flush().is_err());
 }
 
-// Each row: the room of the sink, the call that fails, the parts, what the first call takes, and what stands in the end.
-const PARTS: [(usize, u64, [&[u8]; 4], Result<usize, Failed>, &[u8]); 5] = [
-    (16, 9, [b"ab", b"", b"cde", b"f"], Ok(6), b"abcdef"),
-    (4, 9, [b"ab", b"", b"cde", b"f"], Ok(4), b"abcd"),
-    (2, 9, [b"ab", b"", b"cde", b"f"], Ok(2), b"ab"),
-    (9, 0, [b"ab", b"", b"cde", b"f"], Err(Failed), b""),
-    (9, 9, [b"", b"", b"", b"f"], Ok(1), b"f"),
+// Whether the sink takes so many bytes of the parts by one call, `None` where it fails, and then holds these.
+fn takes_parts(
+    alloc: Global,
+    room: usize,
+    fails: u64,
+    parts: [&[u8]; 4],
+    taken: Option<usize>,
+    held: &[u8],
+) -> Result<bool, AllocError>
+    requires { 0 < length (parts_bytes parts) }
+{
+    let mut sink = MemSink::new(alloc, room, Vec::from_slice(alloc, &[fails])?)?;
+    Ok(sink.write_parts(parts).ok() == taken && sink.bytes() == held)
+}
+
+// Each row: the room of the sink, the call that fails, what the first call takes of the parts, and what the sink holds.
+static PARTS: [(usize, u64, Option<usize>, &[u8]); 4] = [
+    (16, 9, Some(6), b"abcdef"),
+    (4, 9, Some(4), b"abcd"),
+    (2, 9, Some(2), b"ab"),
+    (9, 0, None, b""),
 ];
 
 #[test]
 fn parts_go_out_in_one_call(rt: HostRuntime) -> Result<(), Fail> {
     let alloc = rt.alloc();
-    for (room, fails, parts, taken, held) in PARTS {
-        let mut sink = MemSink::new(alloc, room, vec![in alloc; fails]?)?;
-        assert_eq!(rt; sink.write_parts(parts), taken, "{room} {fails}");
-        assert_eq!(rt; sink.bytes(), held, "{room} {fails}");
+    for (room, fails, taken, held) in &PARTS {
+        let parts: [&[u8]; 4] = [b"ab", b"", b"cde", b"f"];
+        assert!(rt;
+            takes_parts(alloc, *room, *fails, parts, *taken, *held)?,
+            "{room} {fails}"
+        );
     }
-    assert_eq!(rt; NullSink::new().write_parts([b"a", b"bc", b"", b""]), Ok(3));
+    assert!(rt; takes_parts(alloc, 9, 9, [b"", b"", b"", b"f"], Some(1), b"f")?);
+    let taken = NullSink::new().write_parts([b"a", b"bc", b"", b""]);
+    assert!(rt; taken.is_ok_and(|count| count == 3));
     Ok(())
 }

@@ -1,14 +1,14 @@
 -- No two paths have one spelling.
-use Rattle.std.proofs.Common.{◌≡◌, ◌≢◌, ℕ, List, ◌++◌, get_or, codes, Option, None, Some, MatchOption, refl, sym, ◌∙◌, ap, eqb, eq-eqb, false, arith}
+use Rattle.std.proofs.Common.{◌≡◌, ◌≢◌, ℕ, ◌<◌, ◌≤◌, List, ◌++◌, get_or, codes, Option, None, Some, MatchOption, refl, sym, ◌∙◌, ap, eqb, eq-eqb, false, arith}
 use Rattle.std.proofs.lemmas.Bool.{false≢true}
 use Rattle.std.proofs.lemmas.Fmt.{decimal_digit}
-use Rattle.healpix_nested.specs.Cells.{NestedCell}
+use Rattle.healpix_nested.specs.Cells.{NestedCell, IsCell}
 use Rattle.tile_path.specs.declared.path.Path.{Path}
 use Rattle.tile_path.specs.declared.path.Path.TheVariants.{Properties, Moc, Allsky, Tile}
 use Rattle.tile_path.specs.Numbers.{EndsNumber, HasNumber}
 use Rattle.tile_path.specs.Spelling.{IsTile, IsPath, tile_spelling, catalogue_spelling, spelling}
 use Rattle.tile_path.proofs.NumberLemmas.{same_number}
-use Rattle.tile_path.proofs.TileLemmas.{IsNoTile, folder_part, has_order, same_tile}
+use Rattle.tile_path.proofs.TileLemmas.{IsNoTile, folder_part, order_number, has_order, same_tile}
 
 abbrev first_byte : List ℕ → ℕ
 first_byte bytes = get_or bytes 0 0
@@ -98,3 +98,22 @@ only_catalogue_tile text None none order npix tile e = absurd (none order npix t
 only_catalogue_tile text (Some cell) read order npix tile e =
     let same = same_catalogue_tile cell.order cell.npix order npix read.0 tile (read.1 ∙ sym e) in
     λ k. Some (record { order = same.0 k; npix = same.1 k })
+
+-- ---- orders above those of tiles
+
+-- a text that begins with an order up to 11 is not the spelling of a deeper cell
+no_deep : (text : List ℕ) (order : ℕ) (rest : List ℕ) (cell : NestedCell) → order ≤ 11 → HasNumber text (codes "Norder") order rest → cell.order ≤ 20 → 11 < cell.order
+    → text ≡ spelling (Tile cell) → ⊥
+no_deep text order rest cell low has known deep e =
+    let deep_has : HasNumber (spelling (Tile cell)) (codes "Norder") cell.order (folder_part cell.npix (codes ".fits")) = order_number cell.order cell.npix (codes ".fits") (omega arith) in
+    let moved : HasNumber (spelling (Tile cell)) (codes "Norder") order rest = rw (← e) has in
+    let same = same_number (spelling (Tile cell)) (codes "Norder") order cell.order rest (folder_part cell.npix (codes ".fits")) moved deep_has in
+    let is : order ≡ cell.order = same.0 in
+    omega arith
+
+pub no_deep_path : (path : Path) (cell : NestedCell) → IsPath path → IsCell cell.order cell.npix → 11 < cell.order → spelling path ≢ spelling (Tile cell)
+no_deep_path Properties cell is known deep e = differ 112 78 (ap first_byte e) refl
+no_deep_path Moc cell is known deep e = differ 77 78 (ap first_byte e) refl
+no_deep_path Allsky cell is known deep e = no_deep (spelling Allsky) 3 (codes "/Allsky.fits") cell (omega arith) allsky_has known.known_order deep e
+no_deep_path (Tile a) cell is known deep e =
+    no_deep (spelling (Tile a)) a.order (folder_part a.npix (codes ".fits")) cell is.order_at_most_11 (has_order a.order a.npix (codes ".fits") is) known.known_order deep e

@@ -59,13 +59,16 @@ spelling_parts : (order npix : ℕ) (suffix : List ℕ) → tile_spelling order 
 spelling_parts order npix suffix =
     regrouped (codes "Norder") (decimal order) (codes "/Dir") (decimal (folder_number npix)) (codes "/Npix") (decimal npix) suffix
 
-pub has_order : (order npix : ℕ) (suffix : List ℕ) → IsTile order npix
-    → HasNumber (tile_spelling order npix suffix) (codes "Norder") order (folder_part npix suffix)
-has_order order npix suffix tile = record {
+pub order_number : (order npix : ℕ) (suffix : List ℕ) → order < 2 ^ 64 → HasNumber (tile_spelling order npix suffix) (codes "Norder") order (folder_part npix suffix)
+order_number order npix suffix small = record {
   is = spelling_parts order npix suffix;
-  in_range = omega (arith, tile.order_at_most_11);
+  in_range = small;
   ends = λ range. omega (arith, range.0);
 }
+
+pub has_order : (order npix : ℕ) (suffix : List ℕ) → IsTile order npix
+    → HasNumber (tile_spelling order npix suffix) (codes "Norder") order (folder_part npix suffix)
+has_order order npix suffix tile = order_number order npix suffix (omega (arith, tile.order_at_most_11))
 
 pub has_folder : (order npix : ℕ) (suffix : List ℕ) → IsTile order npix
     → HasNumber (folder_part npix suffix) (codes "/Dir") (folder_number npix) (npix_part npix suffix)

@@ -1,6 +1,8 @@
 -- Laws of the spellings, each the whole contract of a function of `laws`.
-use Rattle.std.specs.Prelude.{◌≡◌, ◌≢◌, ℕ}
+use Rattle.std.specs.Prelude.{◌≡◌, ◌≢◌, ℕ, ◌<◌}
+use Rattle.healpix_nested.specs.Cells.{IsCell, NestedCell}
 use Rattle.tile_path.specs.declared.path.Path.{Path}
+use Rattle.tile_path.specs.declared.path.Path.TheVariants.{Tile}
 use Rattle.tile_path.specs.Spelling.{IsTile, IsPath, spelling, catalogue_spelling}
 
 -- two paths with one spelling are one path
@@ -16,3 +18,8 @@ CatalogueSpellingsDiffer = (order npix order' npix' : ℕ) → IsTile order npix
 abbrev pub CatalogueTilesAreNoPaths : Type 0
 CatalogueTilesAreNoPaths = (path : Path) (order npix : ℕ) → IsPath path → IsTile order npix →
     spelling path ≢ catalogue_spelling order npix
+
+-- no path is spelled as the tile of a cell of an order above 11 would be
+abbrev pub DeepTilesAreNoPaths : Type 0
+DeepTilesAreNoPaths = (path : Path) (cell : NestedCell) → IsPath path → IsCell cell.order cell.npix → 11 < cell.order →
+    spelling path ≢ spelling (Tile cell)

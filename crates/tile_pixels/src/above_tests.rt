@@ -10,7 +10,7 @@ use std::test::Fail;
 
 // The kinds of rows: none blank, blank at both ends, in runs, at random, everywhere, numbers at the ends of their type,
 // and numbers beside the blank one, whose mean it is.
-const KINDS: [&str; 7] = [
+static KINDS: [&str; 7] = [
     "full",
     "both ends",
     "runs",
@@ -65,18 +65,15 @@ fn row(
 }
 
 // Stores the row above two rows both ways, and compares.
-fn agrees(
-    rt: &impl Abort,
-    depth: Depth,
-    top: &[u8],
-    bottom: &[u8],
-    count: usize,
-    kinds: (&str, &str),
-) {
+fn agrees(depth: Depth, top: &[u8], bottom: &[u8], count: usize) -> bool {
     let width = depth.bytes();
     let _bitpix = depth.bitpix();
-    assert!(rt; count <= 256 && width <= 8);
-    assert!(rt; top.len() == 2 * count * width && bottom.len() == 2 * count * width);
+    if count > 256 || width > 8 {
+        return false;
+    }
+    if top.len() != 2 * count * width || bottom.len() != 2 * count * width {
+        return false;
+    }
     let mut numbers = [0; 1280];
     let numbers = &mut numbers[..5 * count];
     let mut fast = [1; 2048];
@@ -85,25 +82,19 @@ fn agrees(
     let plain = &mut plain[..count * width];
     store_row_above(depth, top, bottom, count, numbers, fast);
     store_plain(depth, top, bottom, count, numbers, plain);
-    assert!(rt;
-        &*fast == &*plain,
-        "{depth:?}, {count} numbers, above {kinds:?}"
-    );
+    &*fast == &*plain
 }
 
 // Combines two rows of numbers both ways, and compares.
-fn halves_agree(
-    rt: &impl Abort,
-    depth: Depth,
-    top: &[u8],
-    bottom: &[u8],
-    count: usize,
-    kinds: (&str, &str),
-) {
+fn halves_agree(depth: Depth, top: &[u8], bottom: &[u8], count: usize) -> bool {
     let width = depth.bytes();
     let _bitpix = depth.bitpix();
-    assert!(rt; count <= 256 && width <= 8);
-    assert!(rt; top.len() == 2 * count * width && bottom.len() == 2 * count * width);
+    if count > 256 || width > 8 {
+        return false;
+    }
+    if top.len() != 2 * count * width || bottom.len() != 2 * count * width {
+        return false;
+    }
     let mut upper = [0; 512];
     let upper = &mut upper[..2 * count];
     let mut lower = [0; 512];
@@ -116,38 +107,60 @@ fn halves_agree(
     let plain = &mut plain[..count];
     combine_rows(upper, lower, depth, fast);
     mean_rows(upper, lower, depth, plain);
-    assert!(rt;
-        &*fast == &*plain,
-        "{depth:?}, {count} numbers, above {kinds:?}"
-    );
+    &*fast == &*plain
+}
+
+// Whether the kernels agree with the plain program on rows of two kinds, by both rules.
+fn kinds_agree(
+    alloc: Global,
+    mean: Depth,
+    count: usize,
+    of_top: usize,
+    of_bottom: usize,
+) -> Result<bool, Fail> {
+    let places = count.saturating_mul(2);
+    let top = row(alloc, of_top, places, mean, 1)?;
+    let bottom = row(alloc, of_bottom, places, mean, 2)?;
+    let median = mean.with(Combine::Median);
+    Ok(
+        agrees(mean, &top, &bottom, count)
+            && halves_agree(mean, &top, &bottom, count)
+            && agrees(median, &top, &bottom, count)
+            && halves_agree(median, &top, &bottom, count),
+    )
+}
+
+static COUNTS: [usize; 7] = [0, 1, 7, 8, 9, 65, 256];
+
+// Each row: the bits of a number, and the blank one.
+static DEPTHS: [(u8, i64); 8] = [
+    (8, 255),
+    (8, 7),
+    (16, -32768),
+    (16, 0),
+    (32, -2147483648),
+    (32, -5),
+    (64, i64::MIN),
+    (64, 3),
+];
+
+// Whether they agree on rows of all kinds.
+fn all_agree(rt: &impl Abort, alloc: Global, depth: Depth, count: usize) -> Result<(), Fail> {
+    for (i, of_top) in KINDS.iter().enumerate() {
+        for (j, of_bottom) in KINDS.iter().enumerate() {
+            let agree = kinds_agree(alloc, depth, count, i, j)?;
+            assert!(rt; agree, "{count} numbers, {of_top} above {of_bottom}");
+        }
+    }
+    Ok(())
 }
 
 #[test]
 fn kernels_agree_with_the_plain_program(rt: HostRuntime) -> Result<(), Fail> {
-    let alloc = rt.alloc();
-    let depths = [
-        (8, 255),
-        (8, 7),
-        (16, -32768),
-        (16, 0),
-        (32, -2147483648),
-        (32, -5),
-        (64, i64::MIN),
-        (64, 3),
-    ];
-    for (bitpix, blank) in depths {
-        let mean = Depth::new(bitpix, blank).ok_or("no depth")?;
-        for count in [0, 1, 7, 8, 9, 65, 256] {
-            for (kind, of_top) in KINDS.iter().enumerate() {
-                let top = row(alloc, kind, 2 * count, mean, 1)?;
-                for (kind, of_bottom) in KINDS.iter().enumerate() {
-                    let bottom = row(alloc, kind, 2 * count, mean, 2)?;
-                    for depth in [mean, mean.with(Combine::Median)] {
-                        agrees(&rt, depth, &top, &bottom, count, (of_top, of_bottom));
-                        halves_agree(&rt, depth, &top, &bottom, count, (of_top, of_bottom));
-                    }
-                }
-            }
+    for (bitpix, blank) in &DEPTHS {
+        let depth = Depth::new(*bitpix, *blank).ok_or("no depth")?;
+        for count in &COUNTS {
+            all_agree(&rt, rt.alloc(), depth, *count)?;
         }
     }
     Ok(())

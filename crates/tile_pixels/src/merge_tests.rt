@@ -1,13 +1,22 @@
-//! Tiles merged, as tables. The numbers are in the order in which they are stored: the bottom line first.
-ghost use Rattle.std.specs.Prelude.{◌≤◌, IfOk};
+//! Tiles merged, as a table. The numbers are in the order in which they are stored: the bottom line first.
+ghost use Rattle.std.specs.Prelude.{◌≤◌, IfOk, IfSome};
 ghost use Rattle.tile_pixels.specs.Tile.{HasShape};
 
 use crate::Tile;
 use parent_rule::{Combine, Depth, Permit, Steps};
-use std::alloc::Global;
+use std::alloc::{AllocError, Global};
 use std::test::Fail;
 
 const B: i16 = -32768;
+
+// The numbers of 16 bits in a text; `B` is the blank one.
+fn numbers(alloc: Global, text: &str) -> Result<Vec<i16>, AllocError> {
+    let mut numbers = Vec::new(alloc);
+    for word in text.split_whitespace() {
+        numbers.push(word.parse::<i16>().unwrap_or(B))?;
+    }
+    Ok(numbers)
+}
 
 // A tile of numbers of 16 bits.
 fn tile(alloc: Global, depth: Depth, n: u8, numbers: &[i16]) -> Result<Tile, Fail>
@@ -25,118 +34,112 @@ fn tile(alloc: Global, depth: Depth, n: u8, numbers: &[i16]) -> Result<Tile, Fai
     Ok(Tile::from_bytes(alloc, &bytes, depth, n, &mut Steps::new())?)
 }
 
-// The stored numbers of a tile of 16 bits.
-fn stored(alloc: Global, tile: &Tile) -> Result<Vec<i16>, Fail> {
-    let mut numbers = Vec::new(alloc);
+// Whether the tile has these numbers.
+fn has(tile: &Tile, numbers: &[i16]) -> bool {
+    let mut at = 0usize;
     for bytes in tile.raw().chunks_exact(2) {
-        if let [high, low] = *bytes {
-            numbers.push(i16::from_be_bytes([high, low]))?;
+        let is_same = match (bytes, numbers.get(at)) {
+            ([high, low], Some(number)) => i16::from_be_bytes([*high, *low]) == *number,
+            _ => false,
+        };
+        if !is_same {
+            return false;
         }
+        at = at.saturating_add(1);
     }
-    Ok(numbers)
+    at == numbers.len()
 }
 
-fn permit() -> Permit {
-    Permit::issue(2, 5, &mut Steps::new())
+// A row: the rule, n, the four children, of which one that isn't there is `-`, and the tile above them, a `|` between them.
+fn field(row: &str, at: usize) -> &str {
+    row.split('|').nth(at).unwrap_or("")
 }
+
+fn child(alloc: Global, depth: Depth, n: u8, text: &str) -> Result<Option<Tile>, Fail>
+    requires least_n { 1 ≤ n }
+    requires greatest_n { n ≤ 9 }
+{
+    if text == "-" {
+        return Ok(None);
+    }
+    let numbers = numbers(alloc, text)?;
+    Ok(Some(tile(alloc, depth, n, &numbers)?))
+}
+
+fn children(alloc: Global, depth: Depth, n: u8, row: &str) -> Result<Vec<Option<Tile>>, Fail>
+    requires least_n { 1 ≤ n }
+    requires greatest_n { n ≤ 9 }
+{
+    let mut tiles = Vec::new(alloc);
+    for at in 2..6 {
+        tiles.push(child(alloc, depth, n, field(row, at))?)?;
+    }
+    Ok(tiles)
+}
+
+// The child of that number, where it is there.
+fn at(tiles: &[Option<Tile>], i: usize, depth: Depth, n: u8) -> Option<&Tile>
+    ensures { IfSome result (λ tile. HasShape tile.now depth n) }
+{
+    match tiles.get(i) {
+        Some(Some(tile)) => {
+            if tile.depth() == depth && tile.n() == n {
+                return Some(tile);
+            }
+            return None;
+        }
+        _ => return None,
+    }
+}
+
+// The tile above the children.
+fn merged(alloc: Global, depth: Depth, n: u8, tiles: &[Option<Tile>]) -> Result<Tile, AllocError>
+    requires least_n { 1 ≤ n }
+    requires greatest_n { n ≤ 9 }
+{
+    Tile::merge(
+        alloc,
+        Permit::issue(2, 5, &mut Steps::new()),
+        depth,
+        n,
+        at(tiles, 0, depth, n),
+        at(tiles, 1, depth, n),
+        at(tiles, 2, depth, n),
+        at(tiles, 3, depth, n),
+    )
+}
+
+fn depth_of(is_median: bool) -> Option<Depth> {
+    let mean = Depth::new(16, i64::from(B))?;
+    if is_median {
+        Some(mean.with(Combine::Median))
+    } else {
+        Some(mean)
+    }
+}
+
+// Whether the children of the row are merged into the tile above them.
+fn merges(alloc: Global, row: &str) -> Result<bool, Fail> {
+    let depth = depth_of(field(row, 0) == "median").ok_or("no depth")?;
+    let n = if field(row, 1) == "2" { 2 } else { 1 };
+    let tiles = children(alloc, depth, n, row)?;
+    let above = merged(alloc, depth, n, &tiles)?;
+    Ok(has(&above, &numbers(alloc, field(row, 6))?))
+}
+
+static ROWS: &str = "\
+mean|1|1 2 3 5|-|-|-|B B 3 B
+mean|1|-|7 7 7 B|-|-|7 B B B
+mean|1|-|-|7 7 7 B|-|B B B 7
+mean|1|-|-|-|7 7 7 B|B 7 B B
+mean|2|0 1 2 3 4 5 6 7 8 9 10 11 12 13 14 15|100 101 102 103 104 105 106 107 108 109 110 111 112 113 114 115|200 201 202 203 204 205 206 207 208 209 210 211 212 213 214 215|300 301 302 303 304 305 306 307 308 309 310 311 312 313 314 315|103 105 303 305 111 113 311 313 3 5 203 205 11 13 211 213
+median|2|0 1 2 3 4 5 6 7 8 9 10 11 12 13 14 15|100 101 102 103 104 105 106 107 108 109 110 111 112 113 114 115|200 201 202 203 204 205 206 207 208 209 210 211 212 213 214 215|300 301 302 303 304 305 306 307 308 309 310 311 312 313 314 315|101 103 301 303 109 111 309 311 1 3 201 203 9 11 209 211
+";
 
 #[test]
-fn merges_one_child(rt: HostRuntime) -> Result<(), Fail> {
-    let alloc = rt.alloc();
-    let depth = Depth::new(16, i64::from(B)).ok_or("no depth")?;
-    let mixed = tile(alloc, depth, 1, &[1, 2, 3, 5])?;
-    let seven = tile(alloc, depth, 1, &[7, 7, 7, B])?;
-    let top_left = Tile::merge(alloc, permit(), depth, 1, Some(&mixed), None, None, None)?;
-    assert_eq!(rt;
-        stored(alloc, &top_left)?.as_slice(),
-        [B, B, 3, B].as_slice(),
-        "child 0 alone"
-    );
-    let bottom_left = Tile::merge(alloc, permit(), depth, 1, None, Some(&seven), None, None)?;
-    assert_eq!(rt;
-        stored(alloc, &bottom_left)?.as_slice(),
-        [7, B, B, B].as_slice(),
-        "child 1 alone"
-    );
-    let top_right = Tile::merge(alloc, permit(), depth, 1, None, None, Some(&seven), None)?;
-    assert_eq!(rt;
-        stored(alloc, &top_right)?.as_slice(),
-        [B, B, B, 7].as_slice(),
-        "child 2 alone"
-    );
-    let bottom_right = Tile::merge(alloc, permit(), depth, 1, None, None, None, Some(&seven))?;
-    assert_eq!(rt;
-        stored(alloc, &bottom_right)?.as_slice(),
-        [B, 7, B, B].as_slice(),
-        "child 3 alone"
-    );
-    Ok(())
-}
-
-#[test]
-fn merges_four_children(rt: HostRuntime) -> Result<(), Fail> {
-    let alloc = rt.alloc();
-    let mean = Depth::new(16, i64::from(B)).ok_or("no depth")?;
-    let cases = [
-        (
-            mean,
-            [
-                103, 105, 303, 305, 111, 113, 311, 313, 3, 5, 203, 205, 11, 13, 211, 213,
-            ],
-        ),
-        (
-            mean.with(Combine::Median),
-            [
-                101, 103, 301, 303, 109, 111, 309, 311, 1, 3, 201, 203, 9, 11, 209, 211,
-            ],
-        ),
-    ];
-    for (depth, wanted) in cases {
-        let c0 = tile(
-            alloc,
-            depth,
-            2,
-            &[0, 1, 2, 3, 4, 5, 6, 7, 8, 9, 10, 11, 12, 13, 14, 15],
-        )?;
-        let c1 = tile(
-            alloc,
-            depth,
-            2,
-            &[
-                100, 101, 102, 103, 104, 105, 106, 107, 108, 109, 110, 111, 112, 113, 114, 115,
-            ],
-        )?;
-        let c2 = tile(
-            alloc,
-            depth,
-            2,
-            &[
-                200, 201, 202, 203, 204, 205, 206, 207, 208, 209, 210, 211, 212, 213, 214, 215,
-            ],
-        )?;
-        let c3 = tile(
-            alloc,
-            depth,
-            2,
-            &[
-                300, 301, 302, 303, 304, 305, 306, 307, 308, 309, 310, 311, 312, 313, 314, 315,
-            ],
-        )?;
-        let above = Tile::merge(
-            alloc,
-            permit(),
-            depth,
-            2,
-            Some(&c0),
-            Some(&c1),
-            Some(&c2),
-            Some(&c3),
-        )?;
-        assert_eq!(rt;
-            stored(alloc, &above)?.as_slice(),
-            wanted.as_slice(),
-            "{depth:?}"
-        );
+fn merges_children(rt: HostRuntime) -> Result<(), Fail> {
+    for line in ROWS.lines() {
+        assert!(rt; merges(rt.alloc(), line)?, "{line}");
     }
     Ok(())
 }

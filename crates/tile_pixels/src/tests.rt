@@ -1,7 +1,7 @@
 //! Tiles of each depth, and a block halved.
 ghost use Rattle.std.specs.Prelude.{◌≡◌, IfOk};
 
-use crate::Tile;
+use crate::{Block, Tile};
 use parent_rule::{Depth, Steps};
 use std::alloc::Global;
 use std::test::Fail;
@@ -17,53 +17,59 @@ fn two_by_two(alloc: Global, raw: &[u8], depth: Depth, steps: &mut Steps) -> Res
     Ok(Tile::from_bytes(alloc, raw, depth, 1, steps)?)
 }
 
-const OF_8_BITS: [u8; 4] = [0x00, 0xff, 0x80, 0x01];
+static OF_8_BITS: [u8; 4] = [0x00, 0xff, 0x80, 0x01];
 
-const OF_16_BITS: [u8; 8] = [0xff, 0xff, 0x80, 0x00, 0x00, 0x01, 0x7f, 0xff];
+static OF_16_BITS: [u8; 8] = [0xff, 0xff, 0x80, 0x00, 0x00, 0x01, 0x7f, 0xff];
 
-const OF_32_BITS: [u8; 16] = [
+static OF_32_BITS: [u8; 16] = [
     0xff, 0xff, 0xff, 0xfe, 0x80, 0x00, 0x00, 0x00, 0x00, 0x00, 0x00, 0x01, 0x7f, 0xff, 0xff, 0xff,
 ];
 
-const OF_64_BITS: [u8; 32] = [
+static OF_64_BITS: [u8; 32] = [
     0xff, 0xff, 0xff, 0xff, 0xff, 0xff, 0xff, 0xfe, 0x80, 0x00, 0x00, 0x00, 0x00, 0x00, 0x00, 0x00,
     0x00, 0x00, 0x00, 0x00, 0x00, 0x00, 0x00, 0x01, 0x7f, 0xff, 0xff, 0xff, 0xff, 0xff, 0xff, 0xff,
 ];
 
-// The numbers in the order in which they are stored: the bottom line first.
+// Whether these are the numbers of the tile, in the order in which they are stored: the bottom line first.
+fn tile_has(tile: &Tile, stored: [i64; 4]) -> bool {
+    if tile.n() != 1 {
+        return false;
+    }
+    let [bottom_left, bottom_right, top_left, top_right] = stored;
+    tile.get(0, 1) == bottom_left
+        && tile.get(1, 1) == bottom_right
+        && tile.get(0, 0) == top_left
+        && tile.get(1, 0) == top_right
+}
+
+fn block_has(block: &Block, stored: [i64; 4]) -> bool {
+    if block.side() != 2 {
+        return false;
+    }
+    let [bottom_left, bottom_right, top_left, top_right] = stored;
+    block.get(0, 1) == bottom_left
+        && block.get(1, 1) == bottom_right
+        && block.get(0, 0) == top_left
+        && block.get(1, 0) == top_right
+}
+
+// Whether the bytes are read as a tile of these numbers, and that as a block of them.
+fn reads(alloc: Global, bitpix: u8, raw: &[u8], stored: [i64; 4]) -> Result<bool, Fail> {
+    let depth = Depth::new(bitpix, 7).ok_or("no depth")?;
+    let mut steps = Steps::new();
+    let tile = two_by_two(alloc, raw, depth, &mut steps)?;
+    let block = tile.block(alloc)?;
+    let is_kept = steps.count() == 1 && tile.depth() == depth && tile.raw() == raw;
+    Ok(is_kept && tile_has(&tile, stored) && block_has(&block, stored))
+}
+
 #[test]
 fn reads_each_depth(rt: HostRuntime) -> Result<(), Fail> {
-    let cases: [(u8, &[u8], [i64; 4]); 4] = [
-        (8, &OF_8_BITS, [0, 255, 128, 1]),
-        (16, &OF_16_BITS, [-1, -32768, 1, 32767]),
-        (32, &OF_32_BITS, [-2, -2147483648, 1, 2147483647]),
-        (64, &OF_64_BITS, [-2, i64::MIN, 1, i64::MAX]),
-    ];
-    for (bitpix, raw, stored) in cases {
-        let depth = Depth::new(bitpix, 7).ok_or("no depth")?;
-        let mut steps = Steps::new();
-        let tile = two_by_two(rt.alloc(), raw, depth, &mut steps)?;
-        assert_eq!(rt; steps.count(), 1);
-        assert_eq!(rt; tile.n(), 1);
-        assert_eq!(rt; tile.depth(), depth);
-        assert_eq!(rt; tile.raw(), raw);
-        let block = tile.block(rt.alloc())?;
-        assert_eq!(rt; block.side(), 2);
-        let from_tile = [
-            tile.get(0, 1),
-            tile.get(1, 1),
-            tile.get(0, 0),
-            tile.get(1, 0),
-        ];
-        assert_eq!(rt; from_tile, stored, "a tile of {bitpix} bits");
-        let from_block = [
-            block.get(0, 1),
-            block.get(1, 1),
-            block.get(0, 0),
-            block.get(1, 0),
-        ];
-        assert_eq!(rt; from_block, stored, "the block of {bitpix} bits");
-    }
+    let alloc = rt.alloc();
+    assert!(rt; reads(alloc, 8, &OF_8_BITS, [0, 255, 128, 1])?);
+    assert!(rt; reads(alloc, 16, &OF_16_BITS, [-1, -32768, 1, 32767])?);
+    assert!(rt; reads(alloc, 32, &OF_32_BITS, [-2, -2147483648, 1, 2147483647])?);
+    assert!(rt; reads(alloc, 64, &OF_64_BITS, [-2, i64::MIN, 1, i64::MAX])?);
     Ok(())
 }
 
@@ -74,7 +80,7 @@ fn halves_a_block(rt: HostRuntime) -> Result<(), Fail> {
     let tile = two_by_two(rt.alloc(), &raw, depth, &mut Steps::new())?;
     let mut block = tile.block(rt.alloc())?;
     block.halve(depth);
-    assert_eq!(rt; block.side(), 1);
-    assert_eq!(rt; block.get(0, 0), 3);
+    assert!(rt; block.side() == 1);
+    assert!(rt; block.get(0, 0) == 3);
     Ok(())
 }

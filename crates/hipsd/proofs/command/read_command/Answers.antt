@@ -6,10 +6,10 @@ pub returns-in_err-probe-in-len5-clause-none : goal.returns-in_err-probe-in-len5
 returns-in_err-probe-in-len5-clause-none c =
     let words =
     items_from_reads c.args.words.now
-    (c.name-item.result ∷ c.top-item.result ∷ c.n-item.result ∷ c.order-item.result ∷ c.npix-item.result ∷ [])
+    (c.name-item-then-words-lt6.result ∷ c.top-item.result ∷ c.n-item.result ∷ c.order-item.result ∷ c.npix-item.result ∷ [])
     (omega arith)
-    (c.name-item.is, (c.top-item.is, (c.n-item.is, (c.order-item.is, (c.npix-item.is, tt))))) in
-    let name : string_bytes c.name-item.result ≡ codes "probe" = search rules in
+    (c.name-item-then-words-lt6.is, (c.top-item.is, (c.n-item.is, (c.order-item.is, (c.npix-item.is, tt))))) in
+    let name : string_bytes c.name-item-then-words-lt6.result ≡ codes "probe" = search rules in
     rw (
       c.from_residual.ensures,
       words,
@@ -25,10 +25,10 @@ pub returns-in_ok-probe-in-len5-clause-asked : goal.returns-in_ok-probe-in-len5-
 returns-in_ok-probe-in-len5-clause-asked c =
     let words =
     items_from_reads c.args.words.now
-    (c.name-item.result ∷ c.top-item.result ∷ c.n-item.result ∷ c.order-item.result ∷ c.npix-item.result ∷ [])
+    (c.name-item-then-words-lt6.result ∷ c.top-item.result ∷ c.n-item.result ∷ c.order-item.result ∷ c.npix-item.result ∷ [])
     (omega arith)
-    (c.name-item.is, (c.top-item.is, (c.n-item.is, (c.order-item.is, (c.npix-item.is, tt))))) in
-    let name : string_bytes c.name-item.result ≡ codes "probe" = search rules in
+    (c.name-item-then-words-lt6.is, (c.top-item.is, (c.n-item.is, (c.order-item.is, (c.npix-item.is, tt))))) in
+    let name : string_bytes c.name-item-then-words-lt6.result ≡ codes "probe" = search rules in
     rw (
       words,
       name,

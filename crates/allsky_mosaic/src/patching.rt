@@ -1,0 +1,146 @@
+//! A mosaic after some tiles of order 3 have changed.
+ghost use Rattle.std.specs.Prelude.{◌≡◌, ◌≢◌, ℕ, ◌+◌, ◌-◌, ◌*◌, ◌/◌, ◌<◌, ◌≤◌, ◌↔◌, [], length, All, Contains, IfOk, IfSome, IsNone};
+ghost use Rattle.pyramid_model.specs.Shape.{PyramidShape, LeafMap};
+ghost use Rattle.tile_pixels.specs.Stored.{stored_at};
+ghost use Rattle.allsky_mosaic.specs.Mosaic.{side_of, place_pixel};
+ghost use Rattle.allsky_mosaic.specs.Tiles.{AreOfOrder3, IsSurvey, IsMosaic, ShowsCell, order_3, leaves_of};
+ghost use Rattle.allsky_mosaic.specs.Patch.{WasMosaic};
+ghost use Rattle.allsky_mosaic.specs.Cells.{ShowCells, ShowsPlace, band_number, number_in_place};
+
+use crate::bands::{COLUMNS, ROWS, write_cell};
+use crate::square::{blank_lines, side, write_square};
+use leaf_store::Store;
+use parent_rule::Depth;
+use std::alloc::{AllocError, Global};
+use tile_pixels::Tile;
+
+/// The mosaic of the tiles of order 3, as `whole` makes it, by the mosaic that there was before some of them changed: the
+/// squares of the touched cells are made anew, and all others are copied. `touched` has each cell whose tile has changed, in
+/// whatever order, and may have others. `None` exactly where there is no tile now.
+///
+/// # Errors
+///
+/// `AllocError` where there is no memory for the mosaic.
+pub fn patch(
+    alloc: Global,
+    depth: Depth,
+    n: u8,
+    old: &[u8],
+    touched: &[u64],
+    tiles: &Store<Tile>,
+) -> Result<Option<Vec<u8>>, AllocError>
+    requires least_n { 1 ≤ n }
+    requires greatest_n { n ≤ 9 }
+    requires touched { All (λ cell. cell < 768) touched.now }
+    requires tiles { AreOfOrder3 depth n tiles.now }
+    requires old { WasMosaic depth n touched.now tiles.now old.now }
+    ensures none { IfOk result (λ found. IsNone found ↔ (tiles.now ≡ [])) }
+    ensures mosaic { IfOk result (λ found. IfSome found (λ raw. IsMosaic depth n (order_3 depth n) (leaves_of tiles.now) raw.items)) }
+    ensures survey { IfOk result (λ found. IfSome found (λ raw. (shape : PyramidShape) (leaves : LeafMap) → IsSurvey depth n shape
+        → ((cell : ℕ) → cell < 768 → ShowsCell shape leaves tiles.now cell) → IsMosaic depth n shape leaves raw.items)) }
+{
+    if tiles.len() == 0 {
+        return Ok(None);
+    }
+    let side = side(n);
+    let blank = blank_lines(alloc, depth, side, side)?;
+    let mut raw = Vec::with_capacity(alloc, old.len())?;
+    raw.extend_from_slice(old)?;
+    patch_cells(alloc, depth, n, touched, tiles, &blank, &mut raw)?;
+    Ok(Some(raw))
+}
+
+// Makes the squares of the touched cells anew.
+fn patch_cells(
+    alloc: Global,
+    depth: Depth,
+    n: u8,
+    touched: &[u64],
+    tiles: &Store<Tile>,
+    blank: &[u8],
+    raw: &mut [u8],
+) -> Result<(), AllocError>
+    requires least_n { 1 ≤ n }
+    requires greatest_n { n ≤ 9 }
+    requires touched { All (λ cell. cell < 768) touched.now }
+    requires tiles { AreOfOrder3 depth n tiles.now }
+    requires square { length blank.now ≡ side_of n * side_of n * (depth.bitpix / 8) }
+    requires blank { (place : ℕ) → place < side_of n * side_of n → stored_at depth.bitpix blank.now place ≡ depth.blank }
+    requires raw { length raw.old ≡ 29 * (27 * side_of n * side_of n) * (depth.bitpix / 8) }
+    ensures { IfOk result (λ _. (shape : PyramidShape) (leaves : LeafMap) → IsSurvey depth n shape → ShowCells shape leaves tiles.now
+        → ((place : ℕ) → place < 783 → (Contains touched.now place → ⊥) → ShowsPlace depth n shape leaves place raw.old)
+        → (place : ℕ) → place < 783 → ShowsPlace depth n shape leaves place raw.new) }
+{
+    for cell in touched {
+        patch_cell(alloc, depth, n, *cell, tiles, blank, raw)?;
+    }
+    Ok(())
+}
+
+// Makes the square of a cell anew: of its tile, or blank. The others stay.
+fn patch_cell(
+    alloc: Global,
+    depth: Depth,
+    n: u8,
+    cell: u64,
+    tiles: &Store<Tile>,
+    blank: &[u8],
+    raw: &mut [u8],
+) -> Result<(), AllocError>
+    requires least_n { 1 ≤ n }
+    requires greatest_n { n ≤ 9 }
+    requires cell { cell < 768 }
+    requires tiles { AreOfOrder3 depth n tiles.now }
+    requires square { length blank.now ≡ side_of n * side_of n * (depth.bitpix / 8) }
+    requires blank { (place : ℕ) → place < side_of n * side_of n → stored_at depth.bitpix blank.now place ≡ depth.blank }
+    requires raw { length raw.old ≡ 29 * (27 * side_of n * side_of n) * (depth.bitpix / 8) }
+    ensures shown { IfOk result (λ _. (shape : PyramidShape) (leaves : LeafMap) → IsSurvey depth n shape → ShowCells shape leaves tiles.now
+        → ShowsPlace depth n shape leaves cell raw.new) }
+    ensures kept { IfOk result (λ _. (place t column : ℕ) → place < 783 → place ≢ cell → t < side_of n → column < side_of n
+        → number_in_place depth.bitpix (side_of n) raw.new place t column ≡ number_in_place depth.bitpix (side_of n) raw.old place t column) }
+{
+    let row = cell / COLUMNS;
+    let length = raw.len() / ROWS as usize;
+    let start = (ROWS - 1 - row) as usize * length;
+    patch_band(
+        alloc,
+        depth,
+        n,
+        row,
+        cell % COLUMNS,
+        tiles,
+        blank,
+        &mut raw[start..start + length],
+    )?;
+    Ok(())
+}
+
+// The same within the band of the cell's row of places.
+fn patch_band(
+    alloc: Global,
+    depth: Depth,
+    n: u8,
+    row: u64,
+    col: u64,
+    tiles: &Store<Tile>,
+    blank: &[u8],
+    band: &mut [u8],
+) -> Result<(), AllocError>
+    requires least_n { 1 ≤ n }
+    requires greatest_n { n ≤ 9 }
+    requires row { row < 29 }
+    requires col { col < 27 }
+    requires tiles { AreOfOrder3 depth n tiles.now }
+    requires square { length blank.now ≡ side_of n * side_of n * (depth.bitpix / 8) }
+    requires blank { (place : ℕ) → place < side_of n * side_of n → stored_at depth.bitpix blank.now place ≡ depth.blank }
+    requires band { length band.old ≡ 27 * side_of n * side_of n * (depth.bitpix / 8) }
+    ensures shown { IfOk result (λ _. (shape : PyramidShape) (leaves : LeafMap) → IsSurvey depth n shape → ShowCells shape leaves tiles.now
+        → (t column : ℕ) → t < side_of n → column < side_of n
+        → band_number depth.bitpix (side_of n) band.new col t column ≡ place_pixel shape leaves (row * 27 + col) column (side_of n - 1 - t)) }
+    ensures kept { (t other column : ℕ) → t < side_of n → other < 27 → other ≢ col → column < side_of n
+        → band_number depth.bitpix (side_of n) band.new other t column ≡ band_number depth.bitpix (side_of n) band.old other t column }
+{
+    write_square(depth, side(n), col as usize, blank, band);
+    write_cell(alloc, depth, n, tiles, row, col, band)?;
+    Ok(())
+}

@@ -1,0 +1,13 @@
+pub mod Lists
+pub mod Locality
+pub mod Orders
+pub mod Placing
+pub mod Chain
+pub mod Results
+pub mod Edits
+pub mod Pyramids
+pub mod FileLemmas
+pub mod Changing
+pub mod Mosaics
+pub mod Paths
+pub mod Over

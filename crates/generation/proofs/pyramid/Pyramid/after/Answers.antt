@@ -1,0 +1,33 @@
+use Rattle.std.proofs.Common.{◌≡◌, subst, sym, ap}
+use Rattle.std.specs.Prelude.{List, ℕ}
+use Rattle.tile_pixels.specs.Tile.{PixelTile}
+use Rattle.generation.specs.Files.{leaf_map}
+use Rattle.generation.specs.Kept.{AllKept, SameBut, levels_of}
+use Rattle.generation.proofs.Pyramids.{fits_shape, kept_after}
+use Rattle.generation.proofs.pyramid.Pyramid.after.Goals as goal
+
+pub levels_above-requires-clause-numbers : goal.levels_above-requires-clause-numbers
+levels_above-requires-clause-numbers g c κs within =
+    fits_shape c.self.inside.shape c.args.changes.leaves (rw (← c.self.view_is) at c.requires.fits) c.requires.tiles
+
+pub levels_above-requires-clause-before : goal.levels_above-requires-clause-before
+levels_above-requires-clause-before g c κs within =
+    let shape = c.self.inside.shape in
+    let new = c.args.changes.leaves in
+    let same : SameBut c.args.changes.touched.items c.self.inside.leaves new = rw (← c.self.view_is) at c.requires.same in
+    let kept : AllKept shape (leaf_map new) c.args.changes.touched.items c.self.inside.levels.items =
+    kept_after shape c.self.inside.leaves new c.args.changes.touched.items c.self.invariant.known
+    (fits_shape shape new (rw (← c.self.view_is) at c.requires.fits) c.requires.tiles) same c.self.inside.levels.items c.self.invariant.levels_are in
+    subst (λ touched. AllKept shape (leaf_map new) touched c.deref.result.now) (sym c.deref-2.ensures.value)
+    (subst (λ levels. AllKept shape (leaf_map new) c.args.changes.touched.items levels) (sym c.deref.ensures.value) kept)
+
+pub invariant_of-result : goal.invariant_of-result
+invariant_of-result g c =
+    let fits = rw (← c.self.view_is) at c.requires.fits in
+    record {
+      known = c.self.invariant.known;
+      fits = fits;
+      numbers = fits_shape c.self.inside.shape c.args.changes.leaves fits c.requires.tiles;
+      tiles = c.requires.tiles;
+      levels_are = c.in_ok-levels.ensures.levels;
+    }

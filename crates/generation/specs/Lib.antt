@@ -1,0 +1,7 @@
+pub mod Generation
+pub mod Files
+pub mod Steps
+pub mod Served
+pub mod Kept
+pub mod Placed
+pub mod Changes

@@ -1,0 +1,100 @@
+-- What `export` and `verify` find on a shelf, what they leave there, and what they write.
+use Rattle.std.specs.Prelude.{◌≡◌, ◌⊎◌, ℕ, List, [], ◌∷◌, ◌++◌, Option, Some, None, Result, Ok, Err, IsOkAnd, codes, decimal, ⊤}
+use Rattle.std.specs.Result.{result_err}
+use Rattle.std.specs.FinMap.{len}
+use Rattle.std.specs.Io.KnownBytes.{Appends}
+use Rattle.survey_link.specs.Link.{AppendsPrefix}
+use Rattle.survey_link.specs.Shelf.{ShelfFiles}
+use Rattle.generation.specs.Files.{files, leaf_map}
+use Rattle.shelf_io.specs.Opening.{OpenedSurvey, opening, IsRefusedBy}
+use Rattle.shelf_io.specs.Survey.{Replaces, OthersStay, IsVerdict, CountsFiles}
+use Rattle.shelf_io.specs.Texts.{load_text, verdict_text}
+use Rattle.shelf_io.specs.declared.refusal.LoadRefusal.{LoadRefusal}
+use Rattle.shelf_io.specs.declared.refusal.LoadRefusal.TheVariants.{NoConf, Conf, Tile, TooMany, ShelfFault, OutOfMemory}
+use Rattle.shelf_io.specs.declared.verdict.Verdict.{Verdict}
+use Rattle.shelf_io.specs.declared.verdict.Verdict.TheVariants.{Same, Differs}
+
+-- ---- what is found on the shelf, and what is left there
+
+abbrev pub files_of : OpenedSurvey → ShelfFiles
+files_of survey = files survey.conf (leaf_map survey.leaves)
+
+-- the shelf had the files of this survey, and so many were put in place of all that a survey can have
+abbrev pub IsExportOf : ShelfFiles → Option ShelfFiles → ℕ → OpenedSurvey → Type 0
+IsExportOf old new count survey = (count ≡ len (files_of survey)) × Replaces (files_of survey) (Some old) new
+
+-- an export, where the shelf tells its files: of the survey that they open as; or they open as none, and stay. A shelf that
+-- fails, or want of memory, may stop it midway: all files stay that no survey can have
+abbrev pub IsExport : Option ShelfFiles → Option ShelfFiles → Result ℕ LoadRefusal → Type 0
+IsExport None new outcome = ⊤
+IsExport (Some old) new (Ok count) = IsOkAnd (opening old) (IsExportOf old new count)
+IsExport (Some old) new (Err ShelfFault) = OthersStay (Some old) new
+IsExport (Some old) new (Err OutOfMemory) = OthersStay (Some old) new
+IsExport (Some old) new (Err refusal) = (result_err (opening old) ≡ Some refusal) × (new ≡ Some old)
+
+-- the verdict compares these files with those of the survey
+abbrev pub IsVerdictOn : ShelfFiles → Verdict → OpenedSurvey → Type 0
+IsVerdictOn found verdict survey = IsVerdict (files_of survey) found verdict × CountsFiles (files_of survey) verdict
+
+-- a comparison, where the shelf tells its files: with the survey that they open as; or they open as none
+abbrev pub IsComparison : Option ShelfFiles → Result Verdict LoadRefusal → Type 0
+IsComparison None outcome = ⊤
+IsComparison (Some found) (Ok verdict) = IsOkAnd (opening found) (IsVerdictOn found verdict)
+IsComparison (Some found) (Err refusal) = IsRefusedBy (result_err (opening found)) refusal
+
+-- ---- what is written of it
+
+-- a text as a line
+abbrev pub line_of : List ℕ → List ℕ
+line_of text = text ++ 10 ∷ []
+
+-- the bytes were written and all that the sink holds was handed on
+pub record IsWritten (bytes : List ℕ) (held held' handed' : Option (List ℕ)) : Type 0 where
+  pub appended : Appends held held' bytes
+  pub handed_on : handed' ≡ held'
+
+-- nothing was written
+pub record IsSilent (held held' handed handed' : Option (List ℕ)) : Type 0 where
+  pub kept : held' ≡ held
+  pub handed_on : handed' ≡ handed
+
+-- the line was written, and the status is the command's own; or the sink failed at it, or there was no memory for it
+abbrev pub Says : ℕ → List ℕ → ℕ → Option (List ℕ) → Option (List ℕ) → Option (List ℕ) → Option (List ℕ) → Type 0
+Says own line status held held' handed handed' = ((status ≡ own) × IsWritten line held held' handed')
+    ⊎ (((status ≡ 6) × AppendsPrefix held held' line) ⊎ ((status ≡ 11) × IsSilent held held' handed handed'))
+
+-- why the shelf wasn't opened: by 2 its description, by 3 its leaves
+abbrev pub SaysWhy : LoadRefusal → ℕ → Option (List ℕ) → Option (List ℕ) → Option (List ℕ) → Option (List ℕ) → Type 0
+SaysWhy NoConf = Says 2 (line_of (load_text NoConf))
+SaysWhy (Conf fault) = Says 2 (line_of (load_text (Conf fault)))
+SaysWhy (Tile cell fault) = Says 3 (line_of (load_text (Tile cell fault)))
+SaysWhy (TooMany leaves) = Says 3 (line_of (load_text (TooMany leaves)))
+SaysWhy ShelfFault = λ status held held' handed handed'. (status ≡ 7) × IsSilent held held' handed handed'
+SaysWhy OutOfMemory = λ status held held' handed handed'. (status ≡ 11) × IsSilent held held' handed handed'
+
+abbrev pub export_text : ℕ → List ℕ
+export_text count = codes "exported " ++ decimal count
+
+abbrev pub SaysExport : Result ℕ LoadRefusal → ℕ → Option (List ℕ) → Option (List ℕ) → Option (List ℕ) → Option (List ℕ) → Type 0
+SaysExport (Ok count) = Says 0 (line_of (export_text count))
+SaysExport (Err refusal) = SaysWhy refusal
+
+abbrev pub verdict_status : Verdict → ℕ
+verdict_status (Same count) = 0
+verdict_status (Differs path) = 9
+
+abbrev pub SaysVerdict : Result Verdict LoadRefusal → ℕ → Option (List ℕ) → Option (List ℕ) → Option (List ℕ) → Option (List ℕ) → Type 0
+SaysVerdict (Ok verdict) = Says (verdict_status verdict) (line_of (verdict_text verdict))
+SaysVerdict (Err refusal) = SaysWhy refusal
+
+-- ---- whole runs
+
+-- `export`, over the files before and after, with its status, what the sink holds before and after, and what was handed on
+abbrev pub RunsExport : Option ShelfFiles → Option ShelfFiles → ℕ → Option (List ℕ) → Option (List ℕ) → Option (List ℕ) → Option (List ℕ) → Type 0
+RunsExport old new status held held' handed handed' =
+    (outcome : Result ℕ LoadRefusal) × (IsExport old new outcome × SaysExport outcome status held held' handed handed')
+
+-- `verify`, over the files
+abbrev pub RunsVerify : Option ShelfFiles → ℕ → Option (List ℕ) → Option (List ℕ) → Option (List ℕ) → Option (List ℕ) → Type 0
+RunsVerify found status held held' handed handed' =
+    (outcome : Result Verdict LoadRefusal) × (IsComparison found outcome × SaysVerdict outcome status held held' handed handed')

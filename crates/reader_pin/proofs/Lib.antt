@@ -1,0 +1,2 @@
+pub mod SoloLemmas
+pub mod AloneLemmas

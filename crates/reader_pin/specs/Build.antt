@@ -1,0 +1,25 @@
+-- What is built for a publication: the generation of all edits of a state.
+use Rattle.std.specs.Prelude.{◌≡◌, ℕ, ◌≤◌, length, take, IfOk}
+use Rattle.dirty_plan.specs.Dirty.{work, steps_after}
+use Rattle.edit_journal.specs.Leaves.{leaves_of}
+use Rattle.generation.specs.Generation.{GenerationContent}
+use Rattle.generation.specs.Steps.{touched}
+use Rattle.survey_core.specs.State.{StateContent, state_edits}
+use Rattle.reader_pin.specs.declared.build.Built.{Built}
+
+abbrev pub whole_generation : StateContent → GenerationContent
+whole_generation state = record {
+  conf = state.conf;
+  prefix = length (state_edits state);
+  leaves = leaves_of state.opening (take (length (state_edits state)) (state_edits state));
+}
+
+-- how many cells lie over the leaves of the edits from the state's tip on
+abbrev pub build_work : StateContent → ℕ
+build_work state = work state.conf.shape.top state.conf.shape.low (touched (state_edits state) state.tip (length (state_edits state)))
+
+-- the generation was built of the state, or there was no memory; the steps, so many before, rose by at most that work
+pub record Builds (state : StateContent) (before : ℕ) (built : Built) : Type 0 where
+  pub generation : IfOk built.generation (λ generation. generation ≡ whole_generation state)
+  pub steps : built.steps ≤ steps_after before (build_work state)
+  pub never_falls : before ≤ built.steps

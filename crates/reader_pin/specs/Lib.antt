@@ -1,0 +1,6 @@
+pub mod Board
+pub mod Laws
+pub mod Answers
+pub mod Build
+pub mod Next
+pub mod Solo

@@ -1,0 +1,27 @@
+//! The state that a board holds.
+ghost use Rattle.std.specs.Prelude.{◌≡◌};
+
+use survey_core::State;
+
+/// None, the last state seen, or one before it. A state that is the last one is kept once.
+#[derive(Drop)]
+pub(crate) enum Held {
+    Nothing,
+    Last,
+    Earlier(State),
+}
+
+impl Held {
+    ghost use Rattle.reader_pin.specs.Solo.{held_behind};
+
+    /// What is held once that state isn't the last one any more.
+    pub(crate) fn behind(self, last: State) -> Held
+        ensures { result ≡ held_behind last self }
+    {
+        match self {
+            Held::Nothing => Held::Nothing,
+            Held::Last => Held::Earlier(last),
+            Held::Earlier(state) => Held::Earlier(state),
+        }
+    }
+}

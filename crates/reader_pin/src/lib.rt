@@ -1,0 +1,21 @@
+//! Boards: what a connection sees of a survey, and how it changes it.
+//!
+//! A `Board` shows a history of states, the last of them, and one that it holds; edits and publications are steps of that
+//! history. `Solo` is the board of a survey that nobody else changes.
+#![tactic(auto)]
+
+mod answer;
+mod board;
+mod build;
+mod held;
+pub mod laws;
+mod mark;
+mod next;
+mod solo;
+#[cfg(test)]
+mod tests;
+
+pub use answer::{Accepted, BoardBatch, BoardRefusal, Published};
+pub use board::Board;
+pub use build::Built;
+pub use solo::Solo;

@@ -1,0 +1,191 @@
+//! The board of a survey that nobody else changes.
+ghost use Rattle.std.specs.Prelude.{◌≡◌, ℕ, ◌*◌, ◌<◌, ◌≤◌, [], map, length, All, option_map, IfOk, IfErr, OnOk, OnErr};
+ghost use Rattle.edit_journal.specs.Edit.{edit_of, leaf_of};
+ghost use Rattle.edit_journal.specs.Leaves.{FitsEdit, leaves_of};
+ghost use Rattle.edit_journal.specs.Faults.{has_leaf};
+ghost use Rattle.dirty_plan.specs.Dirty.{steps_after};
+ghost use Rattle.survey_core.specs.History.{edits_at, IsStep, IsHistory};
+ghost use Rattle.survey_core.specs.State.{state_edits, survey_state};
+ghost use Rattle.reader_pin.specs.Board.{Stays, Happens, Publishes, last_seen, state_in, edit_count, holding_last, holding_none, publish_work};
+ghost use Rattle.reader_pin.specs.Build.{Builds, whole_generation};
+ghost use Rattle.reader_pin.specs.Answers.{Accepts, AcceptsAll, TellsRefusal, TellsBatchRefusal, TellsPublished};
+
+use crate::answer::{Accepted, BoardBatch, BoardRefusal, Published};
+use crate::board::Board;
+use crate::build::Built;
+use crate::held::Held;
+use crate::mark::Mark;
+use crate::next::{after_batch, after_edit, after_generation};
+use edit_journal::Edit;
+use generation::Generation;
+use parent_rule::Steps;
+use std::alloc::{AllocError, Global};
+use std::marker::Model;
+use std::mem::replace;
+use std::sync::Wait;
+use survey_core::State;
+
+/// The board of a survey that nobody else changes: it owns the survey's newest state, and every step of the history that it
+/// has seen is its own event. So it never waits, each fault is the newest state's, and a publication publishes all edits.
+#[derive(Drop)]
+pub struct Solo {
+    alloc: Global,
+    last: State,
+    seen: Vec<Mark>,
+    held: Held,
+}
+
+impl Model for Solo {
+    ghost use Rattle.reader_pin.specs.Board.{BoardContent};
+    ghost use Rattle.reader_pin.specs.Solo.{solo_content, IsSolo};
+
+    ghost Value = { BoardContent };
+
+    ghost view = { λ s. solo_content s.last s.seen.items s.held };
+
+    ghost invariant = { λ s. IsSolo s.last s.seen.items s.held };
+}
+
+impl Solo {
+    ghost use Rattle.reader_pin.specs.Board.{last_seen};
+    ghost use Rattle.reader_pin.specs.Solo.{opened, after_event, IsAlone};
+
+    /// The board of a survey whose first state this is.
+    ///
+    /// # Errors
+    ///
+    /// `AllocError` where there is no memory for what the board keeps of its history.
+    pub fn new(alloc: Global, state: State) -> Result<Solo, AllocError>
+        requires first { state.batches ≡ [] }
+        ensures { IfOk result (λ board. board ≡ opened state) }
+    {
+        let mut seen = Vec::new(alloc);
+        seen.push(Mark::of(&state))?;
+        Ok(Solo {
+            alloc,
+            last: state,
+            seen,
+            held: Held::Nothing,
+        })
+    }
+
+    /// Where the memory of the next state comes from.
+    fn alloc(&self) -> Global {
+        self.alloc
+    }
+
+    /// Goes on to the state after an event. What it keeps of the state takes its memory before.
+    fn go_on(&mut self, next: State) -> Result<(), AllocError>
+        requires conf { next.conf ≡ self.old.conf }
+        requires opening { next.opening ≡ self.old.opening }
+        requires step { IsStep self.old.opening (last_seen self.old) (survey_state next) }
+        ensures went { OnOk result (self.new ≡ after_event (survey_state next) self.old) }
+        ensures legal { IsHistory self.new.opening self.new.history }
+        ensures stayed { OnErr result (self.new ≡ self.old) }
+    {
+        self.seen.push(Mark::of(&next))?;
+        let last = replace(&mut self.last, next);
+        let held = replace(&mut self.held, Held::Nothing);
+        self.held = held.behind(last);
+        Ok(())
+    }
+
+    /// Publishes the generation of all edits, which aren't all published.
+    fn publish_built(
+        &mut self,
+        generation: Result<Generation, AllocError>,
+    ) -> Result<Published, AllocError>
+        requires unpublished { (last_seen self.old).tip < edit_count (last_seen self.old) }
+        requires whole { IfOk generation (λ generation. generation ≡ whole_generation (state_in self.old (last_seen self.old))) }
+        ensures published { IfOk result (λ published. published ≡ Published.New (edit_count (last_seen self.old))) }
+        ensures event { OnOk result (Happens (Publishes (edit_count (last_seen self.old))) self.old self.new) }
+        ensures edits { OnOk result (edits_at (last_seen self.new) ≡ edits_at (last_seen self.old)) }
+        ensures unchanged { OnErr result (self.new ≡ self.old) }
+    {
+        let last = self.last();
+        let edits = last.edits();
+        let next = after_generation(self.alloc(), last, generation?)?;
+        self.go_on(next)?;
+        Ok(Published::New(edits))
+    }
+}
+
+impl Board for Solo {
+    ghost use Rattle.reader_pin.specs.Solo.{IsAlone};
+
+    ghost content = { λ board. board };
+
+    /// There are no newer states.
+    fn pin(&mut self) {
+        let _legal = self.last();
+    }
+
+    fn last(&self) -> &State
+        ensures last { result.now ≡ state_in self.now (last_seen self.now) }
+        ensures legal { IsHistory self.now.opening self.now.history }
+        ensures alone { IsAlone self.now }
+    {
+        &self.last
+    }
+
+    fn hold(&mut self) {
+        self.held = Held::Last;
+    }
+
+    fn held(&self) -> Option<&State> {
+        match &self.held {
+            Held::Nothing => None,
+            Held::Last => Some(&self.last),
+            Held::Earlier(state) => Some(state),
+        }
+    }
+
+    fn release(&mut self) {
+        self.held = Held::Nothing;
+    }
+
+    fn edit<R: Wait>(&mut self, _rt: &R, edit: Edit) -> Result<Accepted, BoardRefusal> {
+        match after_edit(self.last(), edit) {
+            Ok((next, accepted)) => {
+                self.go_on(next)?;
+                Ok(accepted)
+            }
+            Err(refusal) => Err(refusal),
+        }
+    }
+
+    fn batch<R: Wait>(&mut self, _rt: &R, edits: Vec<Edit>) -> Result<u32, BoardBatch> {
+        match after_batch(self.last(), edits) {
+            Ok((next, count)) => {
+                self.go_on(next)?;
+                Ok(count)
+            }
+            Err(refusal) => Err(refusal),
+        }
+    }
+
+    /// Publishes all edits, by one generation at most.
+    fn publish_by<R: Wait, F: Fn(&State, Steps) -> Built>(
+        &mut self,
+        _rt: &R,
+        build: &F,
+        steps: Steps,
+    ) -> (Result<Published, AllocError>, Steps)
+        requires callable { (state : _) (before : _) → F.pre build.now state before }
+        requires builds { (state : _) (before : _) (built : _) → F.post build.now state before built → Builds state.now before built }
+        ensures published { IfOk result.0 (TellsPublished self.old self.new) }
+        ensures unchanged { OnErr result.0 (Stays self.old self.new) }
+        ensures steps { OnOk result.0 (result.1 ≤ steps_after steps (2 * publish_work self.old self.new)) }
+        ensures once { OnOk result.0 (result.1 ≤ steps_after steps (publish_work self.old self.new)) }
+        ensures never_falls { steps ≤ result.1 }
+    {
+        let last = self.last();
+        let edits = last.edits();
+        if last.tip() == edits {
+            let _count = steps.count();
+            return (Ok(Published::Already(edits)), steps);
+        }
+        let Built { generation, steps } = build(last, steps);
+        (self.publish_built(generation), steps)
+    }
+}

@@ -1,0 +1,102 @@
+//! From a generation to a shelf.
+ghost use Rattle.std.specs.Prelude.{◌≡◌, ◌+◌, ◌≤◌, length, All, IsSome, IfOk, OnOk, OnErr, IsErrOf};
+ghost use Rattle.std.specs.FinMap.{get, len};
+ghost use Rattle.fits_header.specs.Cards.{whole_blocks};
+ghost use Rattle.fits_tile.specs.TileFile.{data_len};
+ghost use Rattle.tile_path.specs.Spelling.{IsPath, spelling};
+ghost use Rattle.survey_link.specs.Link.{Rises};
+ghost use Rattle.generation.specs.Files.{paths_in, files_in};
+ghost use Rattle.shelf_io.specs.Survey.{Replaces, OthersStay};
+ghost use Rattle.shelf_io.specs.Writing.{without_paths, with_path, with_paths};
+
+use crate::buffer::buffer;
+use crate::spelling::spelled;
+use crate::strays::shelf_strays;
+use generation::{Body, Generation};
+use std::alloc::Global;
+use survey_link::{LinkFault, Shelf};
+use tile_path::Path;
+
+/// Makes the survey's files on the shelf those of the generation, and answers how many these are. Every path that a survey can
+/// have and this one doesn't have is removed; no other path is touched.
+///
+/// # Errors
+///
+/// `LinkFault::Failed` only where the shelf's count of faults rose; `LinkFault::OutOfMemory`. Of the paths that a survey can
+/// have some may then be as they were, some as the generation has them, and one may hold anything; all other paths stay.
+pub fn export<H: Shelf>(
+    alloc: Global,
+    shelf: &mut H,
+    generation: &Generation,
+) -> Result<u64, LinkFault>
+    ensures count { IfOk result (λ count. count ≡ len (files_in generation.now)) }
+    ensures replaced { OnOk result (Replaces (files_in generation.now) (H.files shelf.old) (H.files shelf.new)) }
+    ensures refused { OnErr result (OthersStay (H.files shelf.old) (H.files shelf.new)) }
+    ensures failed { IsErrOf result LinkFault.Failed → Rises (H.faults shelf.old) (H.faults shelf.new) }
+    ensures never_falls { H.faults shelf.old ≤ H.faults shelf.new }
+{
+    let strays = shelf_strays(alloc, shelf, generation)?;
+    remove_all(alloc, shelf, &strays)?;
+    write_all(alloc, shelf, generation)?;
+    Ok(generation.file_count())
+}
+
+// Removes these paths.
+fn remove_all<H: Shelf>(alloc: Global, shelf: &mut H, paths: &[Path]) -> Result<(), LinkFault>
+    requires { All IsPath paths.now }
+    ensures removed { OnOk result (H.files shelf.new ≡ without_paths paths.now (H.files shelf.old)) }
+    ensures others { OthersStay (H.files shelf.old) (H.files shelf.new) }
+    ensures failed { IsErrOf result LinkFault.Failed → Rises (H.faults shelf.old) (H.faults shelf.new) }
+    ensures never_falls { H.faults shelf.old ≤ H.faults shelf.new }
+{
+    for path in paths {
+        let text = spelled(alloc, path)?;
+        shelf.remove(&text)?;
+    }
+    Ok(())
+}
+
+// Writes all files of the generation, the last first: the tiles, from the leaves upward, then the mosaic, the coverage and the
+// properties. So whoever reads the folder meanwhile finds the new properties only once all that they describe is there.
+fn write_all<H: Shelf>(
+    alloc: Global,
+    shelf: &mut H,
+    generation: &Generation,
+) -> Result<(), LinkFault>
+    ensures written { OnOk result (H.files shelf.new
+        ≡ with_paths (files_in generation.now) (paths_in generation.now) (H.files shelf.old)) }
+    ensures there { OnOk result (All (λ path. IsSome (get (files_in generation.now) (spelling path))) (paths_in generation.now)) }
+    ensures others { OthersStay (H.files shelf.old) (H.files shelf.new) }
+    ensures failed { IsErrOf result LinkFault.Failed → Rises (H.faults shelf.old) (H.faults shelf.new) }
+    ensures never_falls { H.faults shelf.old ≤ H.faults shelf.new }
+{
+    let mut room = buffer(alloc, generation.room())?;
+    for i in (0..generation.file_count()).rev() {
+        let path = generation.path(i).unwrap();
+        write_file(alloc, shelf, generation, &path, &mut room)?;
+    }
+    Ok(())
+}
+
+// Writes the file at a path that the generation has.
+fn write_file<H: Shelf>(
+    alloc: Global,
+    shelf: &mut H,
+    generation: &Generation,
+    path: &Path,
+    room: &mut [u8],
+) -> Result<(), LinkFault>
+    requires room { 2880 + whole_blocks (data_len generation.now.conf.shape) ≤ length room.old }
+    requires path { IsPath path.now }
+    requires there { IsSome (get (files_in generation.now) (spelling path.now)) }
+    ensures written { OnOk result (H.files shelf.new ≡ with_path (files_in generation.now) path.now (H.files shelf.old)) }
+    ensures others { OthersStay (H.files shelf.old) (H.files shelf.new) }
+    ensures failed { IsErrOf result LinkFault.Failed → Rises (H.faults shelf.old) (H.faults shelf.new) }
+    ensures never_falls { H.faults shelf.old ≤ H.faults shelf.new }
+{
+    let text = spelled(alloc, path)?;
+    match generation.file(path, room).unwrap() {
+        Body::Written(count) => shelf.put(&text, &room[..count]),
+        Body::Kept(bytes) => shelf.put(&text, bytes),
+    }
+}

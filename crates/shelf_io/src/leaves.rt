@@ -1,0 +1,138 @@
+//! The leaf tiles of a shelf.
+ghost use Rattle.std.specs.Prelude.{◌≡◌, ℕ, ◌+◌, ◌<◌, ◌≤◌, ◌++◌, [], length, All, IfOk, IfErr, OnOk, OnErr, ◌∷◌, IfSome, IsErrOf, Option, None, slice_get, option_map};
+ghost use Rattle.std.specs.List.{filter_map, cons_option};
+ghost use Rattle.std.specs.Map.{keys_of};
+ghost use Rattle.std.specs.List.Sorted.{IsStrictlyIncreasing};
+ghost use Rattle.healpix_nested.specs.Cells.{cell_count};
+ghost use Rattle.tile_pixels.specs.Tile.{PixelTile, HasShape};
+ghost use Rattle.survey_link.specs.Link.{Rises};
+ghost use Rattle.leaf_store.specs.Store.{IsAscending};
+ghost use Rattle.edit_journal.specs.Leaves.{FitsLeaves};
+ghost use Rattle.shelf_io.specs.Opening.{leaf_tile, leaf_refusal, IsRefusedBy};
+
+use crate::refusal::LoadRefusal;
+use fits_tile::{TileRefusal, decode};
+use healpix_nested::Cell;
+use leaf_store::Store;
+use parent_rule::Steps;
+use std::alloc::{AllocError, Global};
+use std::sync::Arc;
+use survey_conf::Conf;
+use survey_link::Shelf;
+use tile_path::Path;
+use tile_pixels::Tile;
+
+/// The tiles of these leaves, as their files have them; a leaf that has no file is left out. The steps rise by one for each
+/// tile.
+///
+/// # Errors
+///
+/// `Tile` for the first leaf whose file is refused; `ShelfFault` only where the shelf's count of faults rose; `OutOfMemory`.
+pub(crate) fn read_leaves<H: Shelf>(
+    alloc: Global,
+    shelf: &mut H,
+    conf: &Conf,
+    leaves: &[u64],
+    steps: &mut Steps,
+) -> Result<Store<Tile>, LoadRefusal>
+    requires ascending { IsStrictlyIncreasing leaves.now }
+    requires cells { All (λ leaf. leaf < cell_count conf.now.shape.top) leaves.now }
+    ensures fits { IfOk result (FitsLeaves conf.now.shape) }
+    ensures count { IfOk result (λ tiles. length tiles ≤ length leaves.now) }
+    ensures tiles { IfOk result (λ tiles. IfSome (H.files shelf.old) (λ files.
+        tiles ≡ filter_map (leaf_tile files conf.now) leaves.now)) }
+    ensures sound { OnOk result (IfSome (H.files shelf.old) (λ files.
+        filter_map (leaf_refusal files conf.now) leaves.now ≡ [])) }
+    ensures refused { IfErr result (λ refusal. IfSome (H.files shelf.old) (λ files.
+        IsRefusedBy (slice_get (filter_map (leaf_refusal files conf.now) leaves.now) 0) refusal)) }
+    ensures kept { H.files shelf.new ≡ H.files shelf.old }
+    ensures failed { IsErrOf result LoadRefusal.ShelfFault → Rises (H.faults shelf.old) (H.faults shelf.new) }
+    ensures never_falls { H.faults shelf.old ≤ H.faults shelf.new }
+    ensures steps { IfOk result (λ tiles. steps.new ≤ steps.old + length tiles) }
+    ensures steps_at_most { steps.new ≤ steps.old + length leaves.now }
+    ensures steps_never_fall { steps.old ≤ steps.new }
+{
+    let mut tiles = Store::new(alloc);
+    for leaf in leaves {
+        add_leaf(alloc, shelf, conf, *leaf, steps, &mut tiles)?;
+    }
+    Ok(tiles)
+}
+
+// Adds the tile of a leaf to those of leaves with lower numbers, where the leaf has a file.
+fn add_leaf<H: Shelf>(
+    alloc: Global,
+    shelf: &mut H,
+    conf: &Conf,
+    leaf: u64,
+    steps: &mut Steps,
+    tiles: &mut Store<Tile>,
+) -> Result<(), LoadRefusal>
+    requires cell { leaf < cell_count conf.now.shape.top }
+    requires lower { All (λ key. key < leaf) (keys_of tiles.old) }
+    requires fits { FitsLeaves conf.now.shape tiles.old }
+    ensures fits { OnOk result (FitsLeaves conf.now.shape tiles.new) }
+    ensures higher { OnOk result (All (λ key. key < leaf + 1) (keys_of tiles.new)) }
+    ensures added { OnOk result (IfSome (H.files shelf.old) (λ files.
+        tiles.new ≡ tiles.old ++ cons_option (leaf_tile files conf.now leaf) [])) }
+    ensures sound { OnOk result (IfSome (H.files shelf.old) (λ files. leaf_refusal files conf.now leaf ≡ None)) }
+    ensures refused { IfErr result (λ refusal. IfSome (H.files shelf.old) (λ files.
+        IsRefusedBy (leaf_refusal files conf.now leaf) refusal)) }
+    ensures kept { H.files shelf.new ≡ H.files shelf.old }
+    ensures failed { IsErrOf result LoadRefusal.ShelfFault → Rises (H.faults shelf.old) (H.faults shelf.new) }
+    ensures never_falls { H.faults shelf.old ≤ H.faults shelf.new }
+    ensures count { length tiles.new ≤ length tiles.old + 1 }
+    ensures steps { OnOk result (steps.new + length tiles.old ≤ steps.old + length tiles.new) }
+    ensures steps_at_most { steps.new ≤ steps.old + 1 }
+    ensures steps_never_fall { steps.old ≤ steps.new }
+{
+    match read_leaf(alloc, shelf, conf, leaf, steps)? {
+        Some(tile) => Ok(put_tile(alloc, leaf, tile, tiles)?),
+        None => Ok(()),
+    }
+}
+
+// Puts a tile behind those of leaves with lower numbers.
+fn put_tile(alloc: Global, leaf: u64, tile: Tile, tiles: &mut Store<Tile>) -> Result<(), AllocError>
+    requires { All (λ key. key < leaf) (keys_of tiles.old) }
+    ensures put { OnOk result (tiles.new ≡ tiles.old ++ (leaf, tile) ∷ []) }
+    ensures refused { OnErr result (tiles.new ≡ tiles.old) }
+    ensures ascending { OnOk result (IsAscending tiles.new) }
+{
+    tiles.put(leaf, Arc::new(alloc, tile)?)?;
+    Ok(())
+}
+
+// The tile of a leaf, where it has a file.
+fn read_leaf<H: Shelf>(
+    alloc: Global,
+    shelf: &mut H,
+    conf: &Conf,
+    leaf: u64,
+    steps: &mut Steps,
+) -> Result<Option<Tile>, LoadRefusal>
+    requires cell { leaf < cell_count conf.now.shape.top }
+    ensures shape { IfOk result (λ tile. IfSome tile (λ t. HasShape t conf.now.shape.depth conf.now.shape.n)) }
+    ensures tile { IfOk result (λ tile. IfSome (H.files shelf.old) (λ files.
+        option_map {U = ℕ × PixelTile} (λ t. (leaf, t)) tile ≡ leaf_tile files conf.now leaf)) }
+    ensures sound { OnOk result (IfSome (H.files shelf.old) (λ files. leaf_refusal files conf.now leaf ≡ None)) }
+    ensures refused { IfErr result (λ refusal. IfSome (H.files shelf.old) (λ files.
+        IsRefusedBy (leaf_refusal files conf.now leaf) refusal)) }
+    ensures kept { H.files shelf.new ≡ H.files shelf.old }
+    ensures failed { IsErrOf result LoadRefusal.ShelfFault → Rises (H.faults shelf.old) (H.faults shelf.new) }
+    ensures never_falls { H.faults shelf.old ≤ H.faults shelf.new }
+    ensures steps { IfOk result (λ tile. steps.new ≤ steps.old + length (cons_option tile [])) }
+    ensures steps_at_most { steps.new ≤ steps.old + 1 }
+    ensures steps_never_fall { steps.old ≤ steps.new }
+{
+    let cell = Cell::new(conf.shape().top, leaf).unwrap();
+    let path = Path::Tile(cell).to_string(alloc)?;
+    match shelf.get(alloc, &path)? {
+        Some(bytes) => match decode(alloc, &bytes, conf, steps) {
+            Ok(tile) => Ok(Some(tile)),
+            Err(TileRefusal::Fault(fault)) => Err(LoadRefusal::Tile { cell, fault }),
+            Err(TileRefusal::OutOfMemory) => Err(LoadRefusal::OutOfMemory),
+        },
+        None => Ok(None),
+    }
+}

@@ -1,0 +1,27 @@
+//! A survey from a shelf of files, and back: `load` opens a shelf as a generation, or says the first thing that is wrong with
+//! it; `export` makes the survey's files on a shelf those of a generation; `verify` compares the two.
+//!
+//! No call holds more than one file of the shelf at a time, and none touches a file that no survey can have.
+#![tactic(auto)]
+
+mod buffer;
+mod charge;
+mod description;
+mod exporting;
+mod leaves;
+mod listing;
+mod loading;
+mod order;
+mod refusal;
+mod spelling;
+mod strays;
+#[cfg(test)]
+mod tests;
+mod verdict;
+mod verifying;
+
+pub use exporting::export;
+pub use loading::load;
+pub use refusal::LoadRefusal;
+pub use verdict::Verdict;
+pub use verifying::verify;

@@ -1,0 +1,113 @@
+//! From a shelf to a generation.
+ghost use Rattle.std.specs.Prelude.{◌≡◌, ◌+◌, ◌≤◌, [], length, IfOk, IfErr, OnErr, OnOk, IfSome, IsErrOf, Ok};
+ghost use Rattle.std.specs.Result.{result_err};
+ghost use Rattle.std.specs.Arc.{arc_value};
+ghost use Rattle.survey_link.specs.Link.{Rises};
+ghost use Rattle.edit_journal.specs.Leaves.{charge_of, FitsLeaves};
+ghost use Rattle.edit_journal.specs.Faults.{most_charge};
+ghost use Rattle.generation.specs.Files.{leaf_map};
+ghost use Rattle.generation.specs.Steps.{tiles_above};
+ghost use Rattle.shelf_io.specs.Opening.{OpenedSurvey, opening, opening_steps, leaf_count, IsRefusedBy};
+
+use crate::charge::judge_count;
+use crate::description::read_conf;
+use crate::leaves::read_leaves;
+use crate::listing::shelf_leaves;
+use crate::refusal::LoadRefusal;
+use generation::Generation;
+use leaf_store::Store;
+use parent_rule::Steps;
+use std::alloc::{AllocError, Global};
+use std::sync::Arc;
+use std::thread::Threads;
+use survey_conf::Conf;
+use survey_link::{Gate, Shelf};
+use tile_pixels::Tile;
+
+/// The generation that the shelf's files describe: that of `survey.conf` and of every path of a tile of the leaves' order. No
+/// edit is in it. Leaves are read one after another, by ascending number; one that is listed and gone when it is read counts
+/// as absent. The steps rise by one for each leaf, and by at most the number of tiles that exist above the leaves. The shelf
+/// stays as it is.
+///
+/// # Errors
+///
+/// The first of these: `NoConf` exactly where there is no `survey.conf`; `Conf` as `Conf::read` answers; `TooMany` exactly
+/// where the charge of all leaves that have a file exceeds 2^29 bytes; `Tile` for the leaf of the lowest number whose file
+/// `decode` refuses. `ShelfFault` only where the shelf's count of faults rose. `OutOfMemory`.
+pub fn load<R: Threads + Sync, H: Shelf, G: Gate + Sync>(
+    rt: &R,
+    alloc: Global,
+    shelf: &mut H,
+    gate: &G,
+    steps: &mut Steps,
+) -> Result<Generation, LoadRefusal>
+    ensures opened { IfOk result (λ made. IfSome (H.files shelf.old) (λ files.
+        opening files ≡ Ok (record { conf = made.conf; leaves = made.leaves }))) }
+    ensures prefix { IfOk result (λ made. made.prefix ≡ 0) }
+    ensures charge { IfOk result (λ made. charge_of made.leaves [] ≤ most_charge) }
+    ensures refused { IfErr result (λ refusal. IfSome (H.files shelf.old) (λ files.
+        IsRefusedBy (result_err (opening files)) refusal)) }
+    ensures failed { IsErrOf result LoadRefusal.ShelfFault → Rises (H.faults shelf.old) (H.faults shelf.new) }
+    ensures kept { H.files shelf.new ≡ H.files shelf.old }
+    ensures never_falls { H.faults shelf.old ≤ H.faults shelf.new }
+    ensures steps { IfOk result (λ made. steps.new ≤ steps.old
+        + (length made.leaves + tiles_above made.conf.shape (leaf_map made.leaves))) }
+    ensures steps_told { IfSome (H.files shelf.old) (λ files. steps.new ≤ steps.old + opening_steps files) }
+    ensures steps_never_fall { steps.old ≤ steps.new }
+{
+    let survey = read_survey(alloc, shelf, steps)?;
+    Ok(build(rt, alloc, survey, gate, steps)?)
+}
+
+// What a shelf was opened as.
+#[derive(Drop)]
+struct Survey {
+    conf: Conf,
+    leaves: Store<Tile>,
+}
+
+// The description and the leaf tiles that the shelf has. Which leaves have files is found out, and how many these are is
+// judged, before the first of them is read.
+fn read_survey<H: Shelf>(
+    alloc: Global,
+    shelf: &mut H,
+    steps: &mut Steps,
+) -> Result<Survey, LoadRefusal>
+    ensures opened { IfOk result (λ survey. IfSome (H.files shelf.old) (λ files.
+        opening files ≡ Ok (record { conf = survey.conf; leaves = survey.leaves }))) }
+    ensures fits { IfOk result (λ survey. FitsLeaves survey.conf.shape survey.leaves) }
+    ensures charge { IfOk result (λ survey. charge_of survey.leaves [] ≤ most_charge) }
+    ensures refused { IfErr result (λ refusal. IfSome (H.files shelf.old) (λ files.
+        IsRefusedBy (result_err (opening files)) refusal)) }
+    ensures failed { IsErrOf result LoadRefusal.ShelfFault → Rises (H.faults shelf.old) (H.faults shelf.new) }
+    ensures kept { H.files shelf.new ≡ H.files shelf.old }
+    ensures never_falls { H.faults shelf.old ≤ H.faults shelf.new }
+    ensures steps { IfOk result (λ survey. steps.new ≤ steps.old + length survey.leaves) }
+    ensures steps_told { IfSome (H.files shelf.old) (λ files. steps.new ≤ steps.old + leaf_count files) }
+    ensures steps_never_fall { steps.old ≤ steps.new }
+{
+    let conf = read_conf(alloc, shelf)?;
+    let shape = conf.shape();
+    let numbers = shelf_leaves(alloc, shelf, shape.top)?;
+    judge_count(shape, numbers.len())?;
+    let leaves = read_leaves(alloc, shelf, &conf, &numbers, steps)?;
+    Ok(Survey { conf, leaves })
+}
+
+// The generation of a survey, with no edit.
+fn build<R: Threads + Sync, G: Gate + Sync>(
+    rt: &R,
+    alloc: Global,
+    survey: Survey,
+    gate: &G,
+    steps: &mut Steps,
+) -> Result<Generation, AllocError>
+    requires { FitsLeaves survey.conf.shape survey.leaves }
+    ensures made { IfOk result (λ made. made ≡ record { conf = survey.conf; prefix = 0; leaves = survey.leaves }) }
+    ensures steps { steps.new ≤ steps.old + tiles_above survey.conf.shape (leaf_map survey.leaves) }
+    ensures steps_never_fall { steps.old ≤ steps.new }
+{
+    let Survey { conf, leaves } = survey;
+    let conf = Arc::new(alloc, conf)?;
+    Generation::start(rt, alloc, conf, leaves, gate, steps)
+}

@@ -1,0 +1,10 @@
+pub mod History
+pub mod HistoryLaws
+pub mod Laws
+pub mod Reply
+pub mod State
+pub mod Refusal
+pub mod Line
+pub mod BatchBody
+pub mod Written
+pub mod Faults

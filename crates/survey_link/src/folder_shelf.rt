@@ -1,0 +1,157 @@
+//! The shelf over the current folder.
+ghost use Rattle.std.specs.Prelude.{◌≡◌, ◌≤◌, None, Bool, true, false, All, Err, string_bytes, IfOk, OnOk, OnErr, IsErrOf};
+ghost use Rattle.survey_link.specs.Link.{next_count};
+ghost use Rattle.survey_link.specs.Folder.{IsPut};
+ghost use Rattle.survey_link.specs.Shelf.{OthersStay};
+ghost use Rattle.survey_link.specs.ShelfPath.{is_left_over, is_shelf_path, unfinished};
+
+use crate::faults::LinkFault;
+use crate::file_fault::FileFault;
+use crate::folder::{Folder, put_by_way_of};
+use crate::here::Here;
+use crate::shelf::Shelf;
+use crate::shelf_path::{is_shelf_path, unfinished};
+use std::alloc::Global;
+use std::marker::Model;
+use std::rt::Files;
+
+/// A shelf over the regular files below the current folder, by their paths with `/` between names. It tells nothing of them.
+///
+/// Links are followed, as the standard library does. A file is written beside the old one and renamed once it is whole, so
+/// that whoever looks sees whole files; what a stop in the middle leaves isn't listed, and the next `put` there clears it.
+///
+/// What it answers as `Failed` counts as a fault: also a name that isn't UTF-8, a folder in place of a file, and a path that
+/// no file on the shelf may have, since it would leave the folder, spell a path otherwise than listed, or is a left-over's.
+/// An interrupted call is made again and counts as none, nor does want of memory.
+#[derive(Drop)]
+pub struct FolderShelf<R> {
+    alloc: Global,
+    folder: Here<R>,
+    faults: u64,
+}
+
+impl<R> Model for FolderShelf<R> {
+    ghost use Rattle.survey_link.specs.Folder.{FolderState, folder_code};
+
+    ghost Value = { FolderState };
+
+    ghost coded = { folder_code };
+
+    ghost view = { λ a. record { faults = a.faults } };
+}
+
+impl<R: AllocGlobal> FolderShelf<R> {
+    /// The shelf over the current folder.
+    pub fn here(rt: R) -> FolderShelf<R>
+        ensures { result ≡ record { faults = 0 } }
+    {
+        FolderShelf {
+            alloc: rt.alloc(),
+            folder: Here::new(rt),
+            faults: 0,
+        }
+    }
+}
+
+impl<R> FolderShelf<R> {
+    /// How often it has failed.
+    pub fn faults(&self) -> u64
+        ensures { result ≡ self.now.faults }
+    {
+        self.faults
+    }
+
+    // Counts what is answered as `Failed`.
+    fn answer<T>(&mut self, outcome: Result<T, FileFault>) -> Result<T, LinkFault>
+        ensures value { IfOk result (λ value. outcome ≡ Ok value) }
+        ensures refused { IsErrOf outcome FileFault.Failed → IsErrOf result LinkFault.Failed }
+        ensures sound { OnOk result (self.new ≡ self.old) }
+        ensures failed { IsErrOf result LinkFault.Failed → self.new.faults ≡ next_count self.old.faults }
+        ensures out_of_memory { IsErrOf result LinkFault.OutOfMemory → self.new ≡ self.old }
+        ensures never_falls { self.old.faults ≤ self.new.faults }
+    {
+        match outcome {
+            Ok(value) => Ok(value),
+            Err(FileFault::OutOfMemory) => Err(LinkFault::OutOfMemory),
+            Err(_) => {
+                self.faults = self.faults.saturating_add(1);
+                Err(LinkFault::Failed)
+            }
+        }
+    }
+}
+
+// Puts a file in place of what stands at the path, by way of one beside it.
+fn put_at<F: Folder>(
+    folder: &mut F,
+    alloc: Global,
+    path: &str,
+    bytes: &[u8],
+) -> Result<(), FileFault>
+    ensures done { OnOk result (IsPut path.now (unfinished path.now) bytes.now (F.files folder.old) (F.files folder.new)) }
+    ensures refused { OnErr result (OthersStay (unfinished path.now) (F.files folder.old) (F.files folder.new)) }
+{
+    match unfinished(alloc, path) {
+        Ok(beside) => put_by_way_of(folder, beside.as_str(), path, bytes),
+        Err(_) => Err(FileFault::OutOfMemory),
+    }
+}
+
+impl<R: Files + AllocGlobal + Clone + Drop> Shelf for FolderShelf<R> {
+    ghost files = { λ _. None };
+
+    ghost faults = { λ s. s.faults };
+
+    fn list(&mut self, alloc: Global) -> Result<Vec<String>, LinkFault>
+        ensures no_left_over { IfOk result (λ paths. All (λ path. is_left_over (string_bytes path) ≡ false) paths.items) }
+        ensures sound { OnOk result (self.new ≡ self.old) }
+        ensures failed { IsErrOf result LinkFault.Failed → self.new.faults ≡ next_count self.old.faults }
+        ensures out_of_memory { IsErrOf result LinkFault.OutOfMemory → self.new ≡ self.old }
+        ensures never_falls { self.old.faults ≤ self.new.faults }
+    {
+        let outcome = self.folder.paths(alloc);
+        self.answer(outcome)
+    }
+
+    fn get(&mut self, alloc: Global, path: &str) -> Result<Option<Vec<u8>>, LinkFault>
+        ensures outside { is_shelf_path path.now ≡ false → IsErrOf result LinkFault.Failed }
+        ensures sound { OnOk result (self.new ≡ self.old) }
+        ensures failed { IsErrOf result LinkFault.Failed → self.new.faults ≡ next_count self.old.faults }
+        ensures out_of_memory { IsErrOf result LinkFault.OutOfMemory → self.new ≡ self.old }
+        ensures never_falls { self.old.faults ≤ self.new.faults }
+    {
+        if !is_shelf_path(path) {
+            return self.answer(Err(FileFault::Failed));
+        }
+        let outcome = self.folder.read(alloc, path);
+        self.answer(outcome)
+    }
+
+    fn put(&mut self, path: &str, bytes: &[u8]) -> Result<(), LinkFault>
+        ensures outside { is_shelf_path path.now ≡ false → IsErrOf result LinkFault.Failed }
+        ensures sound { OnOk result (self.new ≡ self.old) }
+        ensures failed { IsErrOf result LinkFault.Failed → self.new.faults ≡ next_count self.old.faults }
+        ensures out_of_memory { IsErrOf result LinkFault.OutOfMemory → self.new ≡ self.old }
+        ensures never_falls { self.old.faults ≤ self.new.faults }
+    {
+        if !is_shelf_path(path) {
+            return self.answer(Err(FileFault::Failed));
+        }
+        let outcome = put_at(&mut self.folder, self.alloc, path, bytes);
+        self.answer(outcome)
+    }
+
+    fn remove(&mut self, path: &str) -> Result<(), LinkFault>
+        ensures outside { is_shelf_path path.now ≡ false → IsErrOf result LinkFault.Failed }
+        ensures sound { OnOk result (self.new ≡ self.old) }
+        ensures failed { IsErrOf result LinkFault.Failed → self.new.faults ≡ next_count self.old.faults }
+        ensures out_of_memory { IsErrOf result LinkFault.OutOfMemory → self.new ≡ self.old }
+        ensures never_falls { self.old.faults ≤ self.new.faults }
+    {
+        if !is_shelf_path(path) {
+            return self.answer(Err(FileFault::Failed));
+        }
+        let outcome = self.folder.remove(path);
+        self.answer(outcome)
+    }
+}
