@@ -11,3 +11,4 @@ pub mod Changing
 pub mod Mosaics
 pub mod Paths
 pub mod Over
+pub mod Presence

@@ -1,6 +1,8 @@
 //! The files of one state of a survey.
 ghost use Rattle.std.specs.Prelude.{◌≡◌, ℕ, ◌+◌, ◌^◌, ◌<◌, ◌≤◌, List, length, take, slice_get, option_map, Some, IsSome, IfOk, IfSome, OnOk, All, if◌then◌else◌};
 ghost use Rattle.std.specs.Arc.{arc_value};
+ghost use Rattle.std.specs.Map.{keys_of};
+ghost use Rattle.coverage_moc.specs.Cover.{cover};
 ghost use Rattle.std.specs.FinMap.{get, len};
 ghost use Rattle.std.specs.List.Sorted.{IsStrictlyIncreasing};
 ghost use Rattle.fits_header.specs.Cards.{whole_blocks};
@@ -18,7 +20,7 @@ ghost use Rattle.generation.specs.Kept.{SameBut, SameOrder3, KeepsMosaic, WasMos
 ghost use Rattle.generation.specs.Steps.{tiles_above, touched};
 
 use crate::changes::{Changes, cells_over};
-use crate::coverage::Coverage;
+use crate::coverage::{Coverage, coverage_after};
 use crate::mosaic::{mosaic_file, patched_file};
 use crate::pyramid::Pyramid;
 use dirty_plan::laws::more_touched_is_more_work;
@@ -47,7 +49,7 @@ pub struct Generation {
     pub(crate) conf: Arc<Conf>,
     prefix: u32,
     pub(crate) pyramid: Pyramid,
-    pub(crate) coverage: Coverage,
+    pub(crate) coverage: Arc<Coverage>,
     pub(crate) mosaic: Option<Vec<u8>>,
     pub(crate) properties: Vec<u8>,
 }
@@ -62,7 +64,7 @@ impl Model for Generation {
 
     ghost view = { λ g. record { conf = arc_value g.conf; prefix = g.prefix; leaves = g.pyramid.leaves } };
 
-    ghost invariant = { λ g. IsKept (arc_value g.conf) g.pyramid g.coverage (option_map (λ file. file.items) g.mosaic) g.properties.items };
+    ghost invariant = { λ g. IsKept (arc_value g.conf) g.pyramid (arc_value g.coverage) (option_map (λ file. file.items) g.mosaic) g.properties.items };
 }
 
 impl Generation {
@@ -86,8 +88,10 @@ impl Generation {
         ensures never_falls { steps.old ≤ steps.new }
     {
         let pyramid = Pyramid::of(rt, alloc, gate, conf.shape(), leaves, steps)?;
+        let coverage = Coverage::of(alloc, conf.shape().top, pyramid.leaves())?;
+        let coverage = Arc::new(alloc, coverage)?;
         let mosaic = mosaic_of(rt, alloc, &conf, &pyramid)?;
-        Generation::of_parts(alloc, conf, 0, pyramid, mosaic)
+        Generation::of_parts(alloc, conf, 0, pyramid, coverage, mosaic)
     }
 
     /// The generation of the same survey after the first `k` edits of the journal, made from this one by the edits between.
@@ -121,10 +125,11 @@ impl Generation {
         // A count fits 64 bits.
         let _count = steps.count();
         let changes = self.changes_to(journal, k)?;
+        let coverage = self.coverage_of(&changes)?;
         let cells = cells_over(self.alloc, self.conf.shape().top, &changes.touched)?;
         let pyramid = self.pyramid.after(rt, self.alloc, gate, changes, steps)?;
         let mosaic = self.mosaic_after(rt, &pyramid, &cells)?;
-        Generation::of_parts(self.alloc, self.conf.clone()?, k, pyramid, mosaic)
+        Generation::of_parts(self.alloc, self.conf.clone()?, k, pyramid, coverage, mosaic)
     }
 
     // What the edits of the journal from this generation's on to edit k change.
@@ -170,21 +175,39 @@ impl Generation {
         }
     }
 
-    // The generation of these tiles, with the file of their mosaic.
+    // The coverage after some changes of this generation's leaves.
+    fn coverage_of(&self, changes: &Changes) -> Result<Arc<Coverage>, AllocError>
+        requires fits { FitsLeaves self.now.conf.shape changes.now.leaves }
+        requires same { SameBut changes.now.touched.items self.now.leaves changes.now.leaves }
+        ensures { IfOk result (λ made. arc_value made ≡ record { top = self.now.conf.shape.top; rows = cover self.now.conf.shape.top (keys_of changes.now.leaves) }) }
+    {
+        coverage_after(
+            self.alloc,
+            self.conf.shape().top,
+            &self.coverage,
+            self.pyramid.leaves(),
+            &changes.leaves,
+            &changes.touched,
+        )
+    }
+
+    // The generation of these tiles, with their coverage and the file of their mosaic.
     fn of_parts(
         alloc: Global,
         conf: Arc<Conf>,
         prefix: u32,
         pyramid: Pyramid,
+        coverage: Arc<Coverage>,
         mosaic: Option<Vec<u8>>,
     ) -> Result<Generation, AllocError>
         requires shape { pyramid.shape ≡ (arc_value conf).shape }
+        requires coverage { arc_value coverage ≡ record { top = (arc_value conf).shape.top; rows = cover (arc_value conf).shape.top (keys_of pyramid.leaves) } }
         requires mosaic { KeepsMosaic (arc_value conf) (leaf_map pyramid.leaves) (option_map (λ file. file.items) mosaic) }
         ensures { IfOk result (λ made. made ≡ record { conf = arc_value conf; prefix = prefix; leaves = pyramid.leaves }) }
     {
-        let leaves = pyramid.leaves();
-        let coverage = Coverage::of(alloc, conf.shape().top, leaves)?;
-        let properties = conf.properties(alloc, leaves.len() as u64)?;
+        // Its contract says what a description is.
+        let _shape = conf.shape();
+        let properties = conf.properties(alloc, pyramid.leaves().len() as u64)?;
         Ok(Generation {
             alloc,
             conf,

@@ -11,6 +11,8 @@ mod generation;
 mod levels;
 mod mosaic;
 mod pyramid;
+#[cfg(test)]
+mod tests;
 
 pub use files::{Body, Parts};
 pub use generation::Generation;

@@ -3,6 +3,8 @@ use Rattle.std.specs.FinMap.{get}
 use Rattle.tile_path.specs.declared.path.Path.{Path}
 use Rattle.tile_path.specs.declared.path.Path.TheVariants.{Properties, Moc, Allsky}
 use Rattle.tile_path.specs.Spelling.{spelling}
+use Rattle.coverage_moc.specs.Cover.{MocCover}
+use Rattle.coverage_moc.specs.CoverFile.{moc_file}
 use Rattle.generation.specs.Files.{files_in}
 use Rattle.generation.specs.Generation.{GenerationContent}
 use Rattle.generation.proofs.FileLemmas.{properties_kept, moc_kept, mosaic_kept}
@@ -15,7 +17,7 @@ returns-in-Properties c =
 
 pub returns-in-Moc : goal.returns-in-Moc
 returns-in-Moc c =
-    ap Some c.file.ensures ∙ moc_kept _ _ _ _ _ c.self.invariant c.spellings_differ.ensures
+    ap Some (c.file.ensures ∙ ap (λ (v : MocCover). moc_file v.top v.rows) c.deref-in-Moc.ensures) ∙ moc_kept _ _ _ _ _ c.self.invariant c.spellings_differ.ensures
     ∙ ap (λ (g : GenerationContent). get (files_in g) (spelling Moc)) c.self.view_is ∙ ap (λ (p : Path). get (files_in c.args.self.now) (spelling p)) (sym c.in-Moc.is)
 
 pub returns-in-Some : goal.returns-in-Some
