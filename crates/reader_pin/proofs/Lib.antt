@@ -1,2 +1,3 @@
 pub mod SoloLemmas
 pub mod AloneLemmas
+pub mod Errors

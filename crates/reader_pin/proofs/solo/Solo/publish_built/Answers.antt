@@ -1,0 +1,22 @@
+use Rattle.std.proofs.Common.{length, subst}
+use Rattle.survey_core.specs.State.{StateContent, state_edits, survey_state}
+use Rattle.reader_pin.specs.Board.{Publishes, last_seen, state_in, edit_count}
+use Rattle.reader_pin.specs.Next.{Follows}
+use Rattle.reader_pin.proofs.SoloLemmas.{happens, published-edits}
+use Rattle.reader_pin.proofs.solo.Solo.publish_built.Goals as goal
+
+pub returns-clause-event : goal.returns-clause-event
+returns-clause-event c =
+    let last : StateContent = state_in c.args.self.now (last_seen c.args.self.now) in
+    let follows : Follows (Publishes (length (state_edits last))) last c.in_ok-next.next =
+    subst (λ (state : StateContent). Follows (Publishes (length (state_edits state))) state c.in_ok-next.next) c.last-last.ensures.last c.in_ok-next.ensures in
+    happens (Publishes (edit_count (last_seen c.args.self.now))) c.args.self.now c.go_on.new.self (survey_state c.in_ok-next.next)
+    c.in_ok-go_on.ensures.went c.go_on.ensures.legal follows.event
+
+pub returns-clause-edits : goal.returns-clause-edits
+returns-clause-edits c =
+    let last : StateContent = state_in c.args.self.now (last_seen c.args.self.now) in
+    let follows : Follows (Publishes (length (state_edits last))) last c.in_ok-next.next =
+    subst (λ (state : StateContent). Follows (Publishes (length (state_edits state))) state c.in_ok-next.next) c.last-last.ensures.last c.in_ok-next.ensures in
+    published-edits (edit_count (last_seen c.args.self.now)) c.args.self.now c.go_on.new.self (survey_state c.in_ok-next.next)
+    c.in_ok-go_on.ensures.went follows.event
