@@ -1,0 +1,108 @@
+-- Files, as they are answered.
+use Rattle.std.proofs.Common.{◌≡◌, ℕ, ◌+◌, ◌-◌, ◌<◌, ◌≤◌, List, length, Option, Some, None, refl, sym, ap, ◌∙◌, arith}
+use Rattle.std.specs.Prelude.{slice_get, unwrap_or, option_map}
+use Rattle.std.specs.Option.{option_map_or}
+use Rattle.survey_conf.specs.Description.{Description}
+use Rattle.edit_journal.specs.Leaves.{LeafTiles}
+use Rattle.survey_core.specs.History.{SurveyState, IsHistory}
+use Rattle.survey_core.specs.HistoryLaws.{begins_length, history_some}
+use Rattle.survey_core.specs.State.{StateContent, survey_state}
+use Rattle.survey_core.specs.Reply.{file_at}
+use Rattle.reader_pin.specs.Board.{BoardContent, Stays, last_seen, state_in}
+use Rattle.hips_http.specs.declared.call.Call.TheVariants as call
+use Rattle.hips_http.specs.Replies.{Answer, found_answer, not_found, file_answer}
+use Rattle.hips_http.specs.Answers.{Asking, Point}
+use Rattle.hips_http.specs.Progress.{IsHeld, IsAt, Serves}
+use Rattle.hips_http.proofs.Points.{IsFound, last_there, kept_point, kept_at, kept_keeps, place_rises}
+use Rattle.hips_http.proofs.Changes.{stays_itself}
+
+path_found : (tip : ℕ) (path : List ℕ) (file : Option (List ℕ)) → IsFound (option_map_or (found_answer tip path) file (not_found tip))
+path_found tip path None = refl
+path_found tip path (Some file) = refl
+
+pub file_found : (conf : Description) (opening : LeafTiles) (state : SurveyState) (path : Option (List ℕ)) → IsFound (file_answer conf opening state path)
+file_found conf opening state None = refl
+file_found conf opening state (Some path) = path_found state.tip path (file_at conf opening state path)
+
+none_held : (states : List SurveyState) (place : Option ℕ) (held : Option SurveyState) → IsHeld states place held → held ≡ None → place ≡ None
+none_held states None held is none = refl
+none_held states (Some place) held is none = absurd (let e = is.2 in cc)
+
+some_held : (states : List SurveyState) (place : Option ℕ) (held : Option SurveyState) (state : SurveyState) (default : ℕ) → IsHeld states place held → held ≡ Some state
+    → slice_get states (unwrap_or place default) ≡ Some state
+some_held states None held state default is some = absurd (let e : held ≡ None = is in cc)
+some_held states (Some place) held state default is some = let e : Some is.0 ≡ Some state = sym is.2 ∙ some in is.1 ∙ e
+
+-- the state that a board holds
+pub record HoldsState (board : BoardContent) (held : Option SurveyState) (state : StateContent) : Type 0 where
+  pub of_survey : SurveyState
+  pub held_is : held ≡ Some of_survey
+  pub is : state ≡ state_in board of_survey
+
+pub held_known : (board : BoardContent) (held : Option SurveyState) (state : StateContent) → Some state ≡ option_map (state_in board) held → HoldsState board held state
+held_known board None state is = absurd (cc)
+held_known board (Some s) state is = record { of_survey = s; held_is = refl; is = (let e : state ≡ state_in board s = cc in e) }
+
+pub held_none : (board : BoardContent) (held : Option SurveyState) → None ≡ option_map (state_in board) held → held ≡ None
+held_none board None is = refl
+held_none board (Some s) is = absurd (cc)
+
+module _ (request : Asking) (path : Option (List ℕ)) (path_is : request.path ≡ path) (steps : ℕ) where
+  -- by the newest state, where none is held
+  pub newest_serves : (old new : BoardContent) (state : StateContent) → Stays old new → old.held ≡ None → state ≡ state_in new (last_seen new)
+      → Serves request call.File old new steps steps (file_answer state.conf state.opening (survey_state state) path)
+  newest_serves old new state stays none is = record {
+    conf = stays.conf;
+    opening = stays.opening;
+    legal = stays.legal;
+    begins = stays.earlier;
+    at_each = λ first_own first_steps wants before at.
+        let place = length new.history - 1 in
+        let some : 0 < length new.history = history_some new.opening new.history stays.legal in
+        let late : length old.history ≤ place + 1 = omega (arith, begins_length old.history new.history stays.earlier) in
+        let within : place < length new.history = omega arith in
+        let bound : steps ≤ steps + 0 = omega arith in
+        let free : before.held ≡ None = none_held old.history before.held old.held at.held none in
+        record {
+          after = kept_point place 0 before;
+          at = kept_at first_own first_steps old new steps steps wants 0 place before at late within bound stays (file_answer state.conf state.opening (survey_state state) path)
+              (file_found state.conf state.opening (survey_state state) path);
+          never_falls = place_rises first_own first_steps old new steps steps wants 0 place before at late within bound;
+          answers = record {
+            state = last_seen new;
+            there = rw free (last_there new.history some);
+            told = rw (path_is, is) refl;
+            kept = kept_keeps place 0 before;
+          };
+          cost = refl;
+        };
+  }
+
+  -- by the state that is held
+  pub held_serves : (board : BoardContent) (state : StateContent) → IsHistory board.opening board.history → HoldsState board board.held state
+      → Serves request call.File board board steps steps (file_answer state.conf state.opening (survey_state state) path)
+  held_serves board state legal holds = record {
+    conf = refl;
+    opening = refl;
+    legal = legal;
+    begins = (stays_itself board legal).earlier;
+    at_each = λ first_own first_steps wants before at.
+        let place = length board.history - 1 in
+        let some : 0 < length board.history = history_some board.opening board.history legal in
+        let late : length board.history ≤ place + 1 = omega arith in
+        let within : place < length board.history = omega arith in
+        let bound : steps ≤ steps + 0 = omega arith in
+        record {
+          after = kept_point place 0 before;
+          at = kept_at first_own first_steps board board steps steps wants 0 place before at late within bound (stays_itself board legal) (file_answer state.conf state.opening (survey_state state) path)
+              (file_found state.conf state.opening (survey_state state) path);
+          never_falls = place_rises first_own first_steps board board steps steps wants 0 place before at late within bound;
+          answers = record {
+            state = holds.of_survey;
+            there = some_held board.history before.held board.held holds.of_survey place at.held holds.held_is;
+            told = rw (path_is, holds.is) refl;
+            kept = kept_keeps place 0 before;
+          };
+          cost = refl;
+        };
+  }

@@ -1,0 +1,10 @@
+pub mod Whole
+pub mod Points
+pub mod Calls
+pub mod Changes
+pub mod PathLemmas
+pub mod FileLemmas
+pub mod Runs
+pub mod Truncated
+pub mod Steps
+pub mod Sessions

@@ -1,0 +1,87 @@
+-- Whole connections.
+use Rattle.std.proofs.Common.{◌≡◌, ℕ, List, [], ◌++◌, Option, Some, None, IfSome, ◌≤◌, length, refl, sym, ap, subst}
+use Rattle.std.specs.Io.KnownBytes.{Appends}
+use Rattle.std.proofs.lemmas.Grind.{common_steps}
+use Rattle.std.proofs.Common.{arith}
+use Rattle.survey_core.specs.History.{IsHistory, Begins}
+use Rattle.reader_pin.specs.Board.{BoardContent, holding_none}
+use Rattle.hips_http.specs.declared.served.SessionEnd.TheVariants.{OutOfMemory}
+use Rattle.hips_http.specs.declared.served.Served.{Served}
+use Rattle.hips_http.specs.SessionRun.{IsServed, Goes, first_point}
+
+-- nothing was written
+pub appends_nothing : (known : Option (List ℕ)) → Appends known known []
+appends_nothing None = tt
+appends_nothing (Some bytes) = grind (arith, common_steps)
+
+pub begins_same : {X : Type 0} (xs ys : List X) → ys ≡ xs → Begins xs ys
+begins_same xs ys same = record { rest = []; is = grind (arith, common_steps) }
+
+-- there was no memory at the beginning
+pub no_memory_served : (old new : BoardContent) (left written : Option (List ℕ)) (source sink steps : ℕ) → IsHistory new.opening new.history
+    → new ≡ holding_none old → IfSome left (λ input. IsServed old new input left written written source source sink sink steps steps
+    (record { end = OutOfMemory; wants = 0 }))
+no_memory_served old new None written source sink steps legal is = tt
+no_memory_served old new (Some input) written source sink steps legal is =
+    let same : new.history ≡ old.history = ap (λ b. b.history) is in
+    let own : new.own ≡ old.own = ap (λ b. b.own) is in
+    record {
+      read = [];
+      rest = input;
+      out = [];
+      own = [];
+      input_is = refl;
+      left_is = refl;
+      appended = appends_nothing written;
+      own_is = grind (arith, common_steps);
+      run = record {
+        history = legal;
+        begins = begins_same _ _ same;
+        kept = same;
+        requests = [];
+        rest = input;
+        are_requests = refl;
+        last = first_point old.history;
+        outputs = [];
+        answered = (refl, refl);
+        own_is = refl;
+        wants_is = refl;
+        ended = (refl, refl, refl);
+      };
+      steps_are = λ _. grind arith;
+    }
+
+pub no_memory_goes : (old new : BoardContent) → IsHistory new.opening new.history → new ≡ holding_none old → Goes old new
+no_memory_goes old new legal is = record {
+  conf = ap (λ b. b.conf) is;
+  opening = ap (λ b. b.opening) is;
+  legal = legal;
+  begins = begins_same old.history new.history (ap (λ b. b.history) is);
+  own = [];
+  own_is = (let same : new.own ≡ old.own = ap (λ b. b.own) is in grind (arith, common_steps));
+  few = omega arith;
+}
+
+-- what the board held doesn't matter
+pub goes_from : (old released new : BoardContent) → released ≡ holding_none old → Goes released new → Goes old new
+goes_from old released new is h =
+    let g : Goes (holding_none old) new = subst (λ (b : BoardContent). Goes b new) is h in
+    record { conf = g.conf; opening = g.opening; legal = g.legal; begins = g.begins; own = g.own; own_is = g.own_is; few = g.few }
+
+pub served_from : (old released new : BoardContent) (left left' w w' : Option (List ℕ)) (sf sf' kf kf' steps steps' : ℕ) (served : Served) → released ≡ holding_none old
+    → IfSome left (λ input. IsServed released new input left' w w' sf sf' kf kf' steps steps' served) → IfSome left (λ input. IsServed old new input left' w w' sf sf' kf kf' steps steps' served)
+served_from old released new None left' w w' sf sf' kf kf' steps steps' served is h = tt
+served_from old released new (Some input) left' w w' sf sf' kf kf' steps steps' served is h =
+    let s : IsServed (holding_none old) new input left' w w' sf sf' kf kf' steps steps' served = subst (λ (b : BoardContent). IsServed b new input left' w w' sf sf' kf kf' steps steps' served) is h in
+    record {
+      read = s.read;
+      rest = s.rest;
+      out = s.out;
+      own = s.own;
+      input_is = s.input_is;
+      left_is = s.left_is;
+      appended = s.appended;
+      own_is = s.own_is;
+      run = s.run;
+      steps_are = s.steps_are;
+    }

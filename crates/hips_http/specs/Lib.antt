@@ -1,0 +1,6 @@
+pub mod Paths
+pub mod Verdict
+pub mod Replies
+pub mod Answers
+pub mod SessionRun
+pub mod Progress

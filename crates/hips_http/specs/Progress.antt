@@ -1,0 +1,264 @@
+-- What one call of the server does to a board, a source and a sink, from the bytes that were unread to those that are unread
+-- then: the parts of which a connection's run is made.
+use Rattle.std.specs.Prelude.{◌≡◌, ◌⊎◌, ℕ, ◌+◌, ◌<◌, ◌≤◌, ◌==◌, Bool, true, false, List, [], ◌++◌, length, slice_get, All, Option, Some, None, Result, OnOk, OnErr, IfSome, IsSomeAnd, if◌then◌else◌}
+use Rattle.std.specs.List.{concat}
+use Rattle.std.specs.Io.KnownBytes.{Appends}
+use Rattle.healpix_nested.specs.Cells.{cell_count}
+use Rattle.survey_conf.specs.Description.{Description}
+use Rattle.survey_link.specs.Link.{AppendsPrefix}
+use Rattle.survey_link.specs.declared.faults.Failed.{Failed}
+use Rattle.http_frame.specs.declared.request.Request.{Request}
+use Rattle.http_frame.specs.declared.stop.Stop.{Stop}
+use Rattle.http_frame.specs.declared.stop.Stop.TheVariants as stop
+use Rattle.http_frame.specs.declared.stop.Stop.TheVariants.{End, Refuse}
+use Rattle.http_frame.specs.declared.stop.Turn.TheVariants.{AtHead}
+use Rattle.http_frame.specs.Frame.{FrameState, unread, ReadsHead, StopsBody, KeepsUnread}
+use Rattle.http_frame.specs.Reply.{is_reply_code, reply_bytes, continue_bytes}
+use Rattle.survey_core.specs.History.{SurveyState, IsHistory, Begins}
+use Rattle.reader_pin.specs.Board.{BoardContent}
+use Rattle.hips_http.specs.declared.call.PathKind.{PathKind}
+use Rattle.hips_http.specs.declared.call.Call.{Call}
+use Rattle.hips_http.specs.declared.call.Call.TheVariants as call
+use Rattle.hips_http.specs.declared.served.SessionEnd.{SessionEnd}
+use Rattle.hips_http.specs.declared.served.SessionEnd.TheVariants.{Closed, Refused, Cut, ReadFault, WriteFault}
+use Rattle.hips_http.specs.Paths.{IsOfKind, call_of}
+use Rattle.http_frame.specs.Next.{IsFound, IsWhole, IsRefusedNext}
+use Rattle.hips_http.specs.Replies.{Answer, head_of, sent_body, output_of, refusal_bytes}
+use Rattle.hips_http.specs.SessionRun.{closes, room_of, IsCutInput, AreRequests, AreAnswered, first_point}
+use Rattle.hips_http.specs.Answers.{Asking, Point, Answers, cost_of}
+
+-- the state at the place is the one that is held
+abbrev pub IsHeld : List SurveyState → Option ℕ → Option SurveyState → Type 0
+IsHeld states None held = held ≡ None
+IsHeld states (Some place) held = (state : SurveyState) × (slice_get states place ≡ Some state) × (held ≡ Some state)
+
+-- a board that had these events of its own at first is at this point of a connection, where the count of steps was
+-- `first_steps` at first, and so many requests have found no memory
+pub record IsAt (first_own : List ℕ) (first_steps : ℕ) (board : BoardContent) (steps wants : ℕ) (point : Point) : Type 0 where
+  pub within : point.place < length board.history
+  pub held : IsHeld board.history point.held board.held
+  pub own_is : board.own ≡ first_own ++ point.own
+  pub own_seen : All (λ place. place ≤ point.place) point.own
+  pub wants_is : wants ≡ point.wants
+  pub steps_are : wants ≡ 0 → steps ≤ first_steps + point.cost
+
+-- how many more requests have found no memory after an answer
+abbrev pub wants_after : ℕ → Answer → ℕ
+wants_after wants answer = wants + (if answer.code == 503 then 1 else 0)
+
+-- a call is answered at a point, and the board is at a later one
+pub record ServesAt (request : Asking) (call : Call) (first_own : List ℕ) (first_steps : ℕ) (new : BoardContent) (steps wants : ℕ) (before : Point) (answer : Answer) : Type 0 where
+  pub after : Point
+  pub at : IsAt first_own first_steps new steps (wants_after wants answer) after
+  pub never_falls : before.place ≤ after.place
+  pub answers : Answers new.conf new.opening new.history request call before after answer
+  pub cost : after.cost ≡ before.cost + cost_of new.conf new.history request call before.place after.place
+
+-- a call is answered, at whatever point the board was
+pub record Serves (request : Asking) (call : Call) (old new : BoardContent) (steps steps' : ℕ) (answer : Answer) : Type 0 where
+  pub conf : new.conf ≡ old.conf
+  pub opening : new.opening ≡ old.opening
+  pub legal : IsHistory new.opening new.history
+  pub begins : Begins old.history new.history
+  pub at_each : (first_own : List ℕ) (first_steps wants : ℕ) (before : Point) → IsAt first_own first_steps old steps wants before
+      → ServesAt request call first_own first_steps new steps' wants before answer
+
+-- ---- a file
+
+-- these bytes were written; or a writing failed, and some first ones of them were
+pub record Sends (written written' : Option (List ℕ)) (bytes : List ℕ) (result : Result (Unit {0}) Failed) : Type 0 where
+  pub whole : OnOk result (Appends written written' bytes)
+  pub part : OnErr result (AppendsPrefix written written' bytes)
+
+-- a file, or that there is none, is answered and sent
+pub record Gives (request : Asking) (close : Bool) (old new : BoardContent) (steps : ℕ) (written written' : Option (List ℕ)) (result : Result (Unit {0}) Failed) : Type 0 where
+  pub answer : Answer
+  pub serves : Serves request call.File old new steps steps answer
+  pub finds : (answer.code == 503) ≡ false
+  pub sends : Sends written written' (reply_bytes (head_of close answer) (sent_body request.asked.method answer.body)) result
+
+-- ---- one request
+
+-- a head was read, which asks for this call
+pub record ReadsCall (top : ℕ) (old new : FrameState) (left left' : Option (List ℕ)) (request : Request) (asked : Call) : Type 0 where
+  pub head : ReadsHead old new left left' request
+  pub kind : PathKind
+  pub of_kind : IsOfKind top new.path kind
+  pub call_is : asked ≡ call_of request.method kind
+
+-- the leaf of a call is one of the survey's
+abbrev pub HasLeaf : ℕ → Call → Type 0
+HasLeaf top (call.Put leaf) = leaf < cell_count top
+HasLeaf top (call.Delete leaf) = leaf < cell_count top
+HasLeaf top _ = Unit {0}
+
+-- the call is answered by a text, or without a body
+abbrev pub is_text : Call → Bool
+is_text call.File = false
+is_text _ = true
+
+-- how a connection ends where no request follows
+abbrev pub EndsAt : Stop → Option (List ℕ) → Option (List ℕ) → SessionEnd → Type 0
+EndsAt End written written' end = (end ≡ Closed) × (written' ≡ written)
+EndsAt stop.Cut written written' end = (end ≡ Cut) × (written' ≡ written)
+EndsAt stop.ReadFault written written' end = (end ≡ ReadFault) × (written' ≡ written)
+EndsAt (Refuse code) written written' end = is_reply_code code ≡ true
+    → ((end ≡ Refused code) × Appends written written' (refusal_bytes code)) ⊎ ((end ≡ WriteFault) × AppendsPrefix written written' (refusal_bytes code))
+
+-- ---- a body
+
+-- a body of so many bytes was read
+pub record TakesBody (count : ℕ) (old new : FrameState) (left left' : Option (List ℕ)) (body : List ℕ) : Type 0 where
+  pub bytes : IfSome (unread old left) (λ bytes. IsSomeAnd (unread new left') (λ rest. bytes ≡ body ++ rest))
+  pub count_is : length body ≡ count
+  pub turn : new.turn ≡ AtHead
+
+-- no body was read
+pub record LeavesNoBody (count : ℕ) (old new : FrameState) (left left' : Option (List ℕ)) (faults faults' : ℕ) (stop : Stop) : Type 0 where
+  pub why : StopsBody count old new left faults faults' stop
+  pub kept : KeepsUnread old new left left'
+
+-- a body was read, and the call is answered
+pub record RepliesTo (asked : Request) (wanted : Call) (old new : FrameState) (left left' : Option (List ℕ)) (board board' : BoardContent) (steps steps' : ℕ) (answer : Answer) : Type 0 where
+  pub body : List ℕ
+  pub takes : TakesBody asked.length old new left left' body
+  pub serves : (path : Option (List ℕ)) → Serves (record { asked = asked; path = path; body = body }) wanted board board' steps steps' answer
+
+-- ---- writing that fails
+
+-- some first ones of these bytes were written
+pub record Breaks (written written' : Option (List ℕ)) (begun : List ℕ) : Type 0 where
+  pub part : List ℕ
+  pub left : List ℕ
+  pub begun_is : begun ≡ part ++ left
+  pub appended : Appends written written' part
+
+-- what is written next, where no request is answered: the reply to a head that is refused, or the leave to send a body
+pub record BeginsRefusal (room : ℕ) (all begun : List ℕ) : Type 0 where
+  pub code : ℕ
+  pub refused : IsRefusedNext room all code
+  pub begun_is : begun ≡ refusal_bytes code
+
+pub record BeginsLeave (room : ℕ) (all begun : List ℕ) : Type 0 where
+  pub asked : Request
+  pub path : Option (List ℕ)
+  pub after : List ℕ
+  pub head : IsFound room all asked path after
+  pub waits : asked.expects ≡ true
+  pub begun_is : begun ≡ continue_bytes
+
+abbrev pub IsBegunAt : ℕ → List ℕ → List ℕ → Type 0
+IsBegunAt room all begun = BeginsRefusal room all begun ⊎ BeginsLeave room all begun
+
+-- the source failed: what was read ends the input between requests, or within one
+pub record ReadsPart (room : ℕ) (all rest : List ℕ) (written written' : Option (List ℕ)) : Type 0 where
+  pub read : List ℕ
+  pub all_is : all ≡ read ++ rest
+  pub extra : List ℕ
+  pub ends : ((read ≡ []) × (extra ≡ [])) ⊎ IsCutInput room read extra
+  pub appended : Appends written written' extra
+
+-- ---- one request, whole
+
+-- a request was read and answered
+pub record Serving (old new : BoardContent) (steps steps' : ℕ) (bytes bytes' : Option (List ℕ)) (request : Asking) (answer : Answer) : Type 0 where
+  pub kind : PathKind
+  pub of_kind : IsOfKind new.conf.shape.top request.path kind
+  pub whole : IfSome bytes (λ all. IsSomeAnd bytes' (λ more. IsWhole (room_of new.conf) all request.asked request.path request.body more))
+  pub serves : Serves request (call_of request.asked.method kind) old new steps steps' answer
+
+-- a request was read and answered, and its reply was written
+pub record IsServedOne (count : ℕ) (old new : BoardContent) (steps steps' wants wants' : ℕ) (bytes bytes' written written' : Option (List ℕ)) (closed : Bool) : Type 0 where
+  pub request : Asking
+  pub answer : Answer
+  pub serving : Serving old new steps steps' bytes bytes' request answer
+  pub sent : Appends written written' (output_of (closes count request) request.asked answer)
+  pub wants_is : wants' ≡ wants_after wants answer
+  pub closed_is : closed ≡ request.asked.close
+
+-- a writing failed in what is written for a request that was answered
+pub record BreaksOne (count : ℕ) (old new : BoardContent) (steps steps' wants wants' : ℕ) (bytes bytes' written written' : Option (List ℕ)) : Type 0 where
+  pub request : Asking
+  pub answer : Answer
+  pub serving : Serving old new steps steps' bytes bytes' request answer
+  pub broken : Breaks written written' (output_of (closes count request) request.asked answer)
+  pub wants_is : wants' ≡ wants_after wants answer
+
+-- why no request was answered, where these were the unread bytes
+abbrev pub EndsOne : SessionEnd → ℕ → List ℕ → Option (List ℕ) → Option (List ℕ) → Option (List ℕ) → Type 0
+EndsOne Closed room all left written written' = (all ≡ []) × Appends written written' []
+EndsOne (Refused code) room all left written written' = IsRefusedNext room all code × Appends written written' (refusal_bytes code)
+EndsOne Cut room all left written written' = (extra : List ℕ) × IsCutInput room all extra × Appends written written' extra
+EndsOne ReadFault room all left written written' = IsSomeAnd left (λ rest. ReadsPart room all rest written written')
+EndsOne WriteFault room all left written written' = (begun : List ℕ) × IsBegunAt room all begun × Breaks written written' begun
+EndsOne end room all left written written' = ⊥
+
+-- nothing happened on the board
+pub record Untouched (old new : BoardContent) (steps steps' wants wants' : ℕ) : Type 0 where
+  pub board : new ≡ old
+  pub steps_are : steps' ≡ steps
+  pub wants_are : wants' ≡ wants
+
+-- how a connection ended instead of a request that was answered and written whole
+pub record StopsOne (count room : ℕ) (old new : BoardContent) (steps steps' wants wants' : ℕ) (bytes bytes' left written written' : Option (List ℕ)) (end : SessionEnd) : Type 0 where
+  pub how : ((end ≡ WriteFault) × BreaksOne count old new steps steps' wants wants' bytes bytes' written written')
+      ⊎ (Untouched old new steps steps' wants wants' × IfSome bytes (λ all. EndsOne end room all left written written'))
+
+-- ---- after a head
+
+-- a body was read, and the call is answered
+pub record Replied (asked : Request) (wanted : Call) (old new : FrameState) (left left' : Option (List ℕ)) (board board' : BoardContent) (steps steps' wants wants' : ℕ) (answer : Answer) : Type 0 where
+  pub body : List ℕ
+  pub takes : TakesBody asked.length old new left left' body
+  pub serves : Serves (record { asked = asked; path = old.path; body = body }) wanted board board' steps steps' answer
+  pub wants_is : wants' ≡ wants_after wants answer
+
+-- the bytes of a reply
+abbrev pub reply_of : Bool → Request → Answer → List ℕ
+reply_of close asked answer = reply_bytes (head_of close answer) (sent_body asked.method answer.body)
+
+-- how a connection ends where a body isn't whole
+abbrev pub body_end : Stop → SessionEnd
+body_end stop.ReadFault = ReadFault
+body_end _ = Cut
+
+-- no body was read, and nothing else happened
+pub record Halts (asked : Request) (old new : FrameState) (left left' : Option (List ℕ)) (faults faults' : ℕ) (board board' : BoardContent) (steps steps' wants wants' : ℕ)
+    (written written' : Option (List ℕ)) (end : SessionEnd) : Type 0 where
+  pub stop : Stop
+  pub leaves : LeavesNoBody asked.length old new left left' faults faults' stop
+  pub end_is : end ≡ body_end stop
+  pub board_is : board' ≡ board
+  pub steps_are : steps' ≡ steps
+  pub wants_are : wants' ≡ wants
+  pub written_is : written' ≡ written
+
+-- the first of the unread bytes were taken, and the source has the rest
+pub record LeavesPart (all : List ℕ) (left : Option (List ℕ)) : Type 0 where
+  pub gone : List ℕ
+  pub rest : List ℕ
+  pub left_is : left ≡ Some rest
+  pub all_is : all ≡ gone ++ rest
+
+-- ---- many requests
+
+-- what was answered so far, of the bytes that were unread at first, by a board that was `old` then
+pub record Progress (old now : BoardContent) (first_steps steps count wants : ℕ) (bytes bytes' : Option (List ℕ)) : Type 0 where
+  pub conf : now.conf ≡ old.conf
+  pub opening : now.opening ≡ old.opening
+  pub legal : IsHistory now.opening now.history
+  pub begins : Begins old.history now.history
+  pub requests : List Asking
+  pub outputs : List (List ℕ)
+  pub last : Point
+  pub count_is : length requests ≡ count
+  pub few : length last.own ≤ count
+  pub at : IsAt old.own first_steps now steps wants last
+  pub answered : AreAnswered now.conf now.opening now.history 0 (first_point old.history) requests last outputs
+  pub taken : IfSome bytes (λ all. IsSomeAnd bytes' (λ rest. AreRequests (room_of now.conf) all requests rest))
+
+-- none of these asked to close, and all that they were answered was written
+pub record Going (old now : BoardContent) (first_steps steps count wants : ℕ) (bytes bytes' written written' : Option (List ℕ)) : Type 0 where
+  pub progress : Progress old now first_steps steps count wants bytes bytes'
+  pub none_closes : All (λ request. request.asked.close ≡ false) progress.requests
+  pub written_is : Appends written written' (concat progress.outputs)

@@ -1,0 +1,206 @@
+-- One connection, from when it is taken to when it is given back: which requests its input has, what they are answered, how
+-- it ends, and what is written. This project's profile; framing by RFC 9112.
+use Rattle.std.specs.Prelude.{◌≡◌, ◌⊎◌, ℕ, ◌+◌, ◌-◌, ◌*◌, ◌<◌, ◌≤◌, ◌==◌, ◌||◌, Bool, true, false, List, [], ◌∷◌, ◌++◌, length, take, All, Option, None, Some}
+use Rattle.std.specs.List.{concat}
+use Rattle.fits_header.specs.Cards.{whole_blocks}
+use Rattle.fits_tile.specs.TileFile.{data_len}
+use Rattle.survey_conf.specs.Description.{Description}
+use Rattle.survey_link.specs.Link.{Rises}
+use Rattle.edit_journal.specs.Leaves.{LeafTiles}
+use Rattle.http_frame.specs.declared.request.Request.{Request}
+use Rattle.http_frame.specs.Next.{IsCut, IsCutInBody, IsFound, IsRefusedNext, IsWhole}
+use Rattle.http_frame.specs.Reply.{continue_bytes}
+use Rattle.survey_core.specs.History.{SurveyState, IsHistory, Begins}
+use Rattle.reader_pin.specs.Board.{BoardContent}
+use Rattle.std.specs.Io.KnownBytes.{Appends}
+use Rattle.hips_http.specs.declared.served.Served.{Served}
+use Rattle.hips_http.specs.declared.served.SessionEnd.{SessionEnd}
+use Rattle.hips_http.specs.declared.served.SessionEnd.TheVariants.{Closed, Asked, Refused, Cut, Spent, ReadFault, WriteFault, OutOfMemory}
+use Rattle.hips_http.specs.Replies.{Answer, leave_bytes, output_of, refusal_bytes}
+use Rattle.hips_http.specs.Answers.{Asking, Point, IsAnswered}
+
+-- the most requests of a connection
+abbrev pub most_requests : ℕ
+most_requests = 65536
+
+-- how many bytes a body may have: four times what a tile file may have
+abbrev pub room_of : Description → ℕ
+room_of conf = 4 * (106560 + whole_blocks (data_len conf.shape))
+
+-- ---- the requests
+
+-- the bytes are these requests, one after another, and then the rest
+abbrev pub AreRequests : ℕ → List ℕ → List Asking → List ℕ → Type 0
+AreRequests room bytes [] rest = rest ≡ bytes
+AreRequests room bytes (request ∷ requests) rest =
+    (more : List ℕ) × IsWhole room bytes request.asked request.path request.body more × AreRequests room more requests rest
+
+-- the connection is closed after the reply: the request asked for it, or it is the last that may be answered; `count` came
+-- before it
+abbrev pub closes : ℕ → Asking → Bool
+closes count request = request.asked.close || (count + 1 == most_requests)
+
+-- a request is answered, and this is all that is written for it
+pub record IsOutput (conf : Description) (opening : LeafTiles) (states : List SurveyState) (count : ℕ) (request : Asking) (before after : Point) (output : List ℕ) : Type 0 where
+  pub answer : Answer
+  pub answered : IsAnswered conf opening states request before after answer
+  pub output_is : output ≡ output_of (closes count request) request.asked answer
+
+-- they are answered one after another, `count` others before them, with these outputs
+abbrev pub AreAnswered : Description → LeafTiles → List SurveyState → ℕ → Point → List Asking → Point → List (List ℕ) → Type 0
+AreAnswered conf opening states count before [] after outputs = (after ≡ before) × (outputs ≡ [])
+AreAnswered conf opening states count before (request ∷ requests) after [] = ⊥
+AreAnswered conf opening states count before (request ∷ requests) after (output ∷ outputs) = (mid : Point)
+    × IsOutput conf opening states count request before mid output
+    × AreAnswered conf opening states (count + 1) mid requests after outputs
+
+-- ---- the end
+
+-- none of them asked to close, and more may come
+pub record GoOn (requests : List Asking) : Type 0 where
+  pub none_closes : All (λ request. request.asked.close ≡ false) requests
+  pub few : length requests < most_requests
+
+-- a last one comes after requests that went on
+pub record EndsWith (requests : List Asking) (last : Asking) : Type 0 where
+  pub before : List Asking
+  pub is : requests ≡ before ++ last ∷ []
+  pub went_on : GoOn before
+
+-- the input ends within a request, and this is written for it: the leave to send its body, where it was waited for
+pub record IsCutInput (room : ℕ) (rest extra : List ℕ) : Type 0 where
+  pub cut : (IsCut rest × (extra ≡ [])) ⊎ ((body : IsCutInBody room rest) × (extra ≡ leave_bytes body.asked))
+
+-- what was written is these outputs, and then some first bytes of one that was begun
+pub record BreaksOff (outputs : List (List ℕ)) (begun out : List ℕ) : Type 0 where
+  pub part : List ℕ
+  pub left : List ℕ
+  pub begun_is : begun ≡ part ++ left
+  pub out_is : out ≡ concat outputs ++ part
+
+-- a writing failed in what is written for the last request that was answered
+pub record BreaksInReply (requests : List Asking) (outputs : List (List ℕ)) (out : List ℕ) : Type 0 where
+  pub last : Asking
+  pub ends : EndsWith requests last
+  pub before : List (List ℕ)
+  pub begun : List ℕ
+  pub outputs_are : outputs ≡ before ++ begun ∷ []
+  pub broken : BreaksOff before begun out
+
+-- it failed in the reply to a head that is refused
+pub record BreaksInRefusal (room : ℕ) (rest : List ℕ) (outputs : List (List ℕ)) (out : List ℕ) : Type 0 where
+  pub code : ℕ
+  pub refused : IsRefusedNext room rest code
+  pub broken : BreaksOff outputs (refusal_bytes code) out
+
+-- it failed in the leave to send a body, which wasn't read
+pub record BreaksInLeave (room : ℕ) (rest : List ℕ) (outputs : List (List ℕ)) (out : List ℕ) : Type 0 where
+  pub asked : Request
+  pub path : Option (List ℕ)
+  pub after : List ℕ
+  pub head : IsFound room rest asked path after
+  pub waits : asked.expects ≡ true
+  pub broken : BreaksOff outputs continue_bytes out
+
+-- a connection as its ends tell it: the bytes that were read of it and those left, the bytes that were written, and the
+-- counts of faults of its source and of its sink, before and after
+pub record Exchange : Type 0 where
+  pub read : List ℕ
+  pub left : List ℕ
+  pub written : List ℕ
+  pub source_faults : ℕ
+  pub source_faults_then : ℕ
+  pub sink_faults : ℕ
+  pub sink_faults_then : ℕ
+
+-- all that there was to read
+abbrev pub input_of : Exchange → List ℕ
+input_of exchange = exchange.read ++ exchange.left
+
+-- the bytes by which an end is told: where the source failed they are those that were read, as though the input ended there
+abbrev pub told_bytes : SessionEnd → Exchange → List ℕ
+told_bytes ReadFault exchange = exchange.read
+told_bytes _ exchange = input_of exchange
+
+-- how it ended, after these requests with these outputs and before the rest
+abbrev pub Ends : SessionEnd → ℕ → List Asking → List ℕ → List (List ℕ) → Exchange → Type 0
+Ends Closed room requests rest outputs exchange = GoOn requests × (rest ≡ []) × (exchange.written ≡ concat outputs)
+Ends Asked room requests rest outputs exchange =
+    ((last : Asking) × EndsWith requests last × (last.asked.close ≡ true)) × (exchange.written ≡ concat outputs)
+Ends Spent room requests rest outputs exchange =
+    (length requests ≡ most_requests) × All (λ request. request.asked.close ≡ false) requests × (exchange.written ≡ concat outputs)
+Ends (Refused code) room requests rest outputs exchange =
+    GoOn requests × IsRefusedNext room rest code × (exchange.written ≡ concat outputs ++ refusal_bytes code)
+Ends Cut room requests rest outputs exchange =
+    GoOn requests × ((extra : List ℕ) × IsCutInput room rest extra × (exchange.written ≡ concat outputs ++ extra))
+Ends ReadFault room requests rest outputs exchange =
+    GoOn requests × Rises exchange.source_faults exchange.source_faults_then
+    × ((extra : List ℕ) × (((rest ≡ []) × (extra ≡ [])) ⊎ IsCutInput room rest extra) × (exchange.written ≡ concat outputs ++ extra))
+Ends WriteFault room requests rest outputs exchange =
+    Rises exchange.sink_faults exchange.sink_faults_then
+    × (BreaksInReply requests outputs exchange.written
+    ⊎ (GoOn requests × (BreaksInRefusal room rest outputs exchange.written ⊎ BreaksInLeave room rest outputs exchange.written)))
+Ends OutOfMemory room requests rest outputs exchange = (requests ≡ []) × (exchange.read ≡ []) × (exchange.written ≡ [])
+
+-- a connection begins at the last state that was seen before it, and holds none
+abbrev pub first_point : List SurveyState → Point
+first_point states = record { place = length states - 1; held = None; own = []; wants = 0; cost = 0 }
+
+-- want of memory at the beginning changes nothing
+abbrev pub KeepsStates : SessionEnd → List SurveyState → List SurveyState → Type 0
+KeepsStates OutOfMemory states states' = states' ≡ states
+KeepsStates _ states states' = Unit {0}
+
+-- one connection: the states seen before it, its exchange, the places of its own events, the states seen after it, its end,
+-- and how many replies of it told want of memory
+pub record SessionRun (conf : Description) (opening : LeafTiles) (states : List SurveyState) (exchange : Exchange) (own : List ℕ)
+    (states' : List SurveyState) (end : SessionEnd) (wants : ℕ) : Type 0 where
+  pub history : IsHistory opening states'
+  pub begins : Begins states states'
+  pub kept : KeepsStates end states states'
+  pub requests : List Asking
+  pub rest : List ℕ
+  pub are_requests : AreRequests (room_of conf) (told_bytes end exchange) requests rest
+  pub last : Point
+  pub outputs : List (List ℕ)
+  pub answered : AreAnswered conf opening states' 0 (first_point states) requests last outputs
+  pub own_is : own ≡ last.own
+  pub wants_is : wants ≡ last.wants
+  pub ended : Ends end (room_of conf) requests rest outputs exchange
+
+-- ---- a call
+
+-- what serving a connection did, whose source had this input: to the board, to the bytes left in the source and those held by
+-- the sink, where it tells them, to the counts of faults of both, and to the count of steps
+pub record IsServed (old new : BoardContent) (input : List ℕ) (left written written' : Option (List ℕ)) (source source' sink sink' steps steps' : ℕ)
+    (served : Served) : Type 0 where
+  pub read : List ℕ
+  pub rest : List ℕ
+  pub out : List ℕ
+  pub own : List ℕ
+  pub input_is : input ≡ read ++ rest
+  pub left_is : left ≡ Some rest
+  pub appended : Appends written written' out
+  pub own_is : new.own ≡ old.own ++ own
+  pub run : SessionRun new.conf new.opening old.history
+      (record {
+        read = read;
+        left = rest;
+        written = out;
+        source_faults = source;
+        source_faults_then = source';
+        sink_faults = sink;
+        sink_faults_then = sink';
+      })
+      own new.history served.end served.wants
+  pub steps_are : served.wants ≡ 0 → steps' ≤ steps + run.last.cost
+
+-- what is true of it, also where nothing is told
+pub record Goes (old new : BoardContent) : Type 0 where
+  pub conf : new.conf ≡ old.conf
+  pub opening : new.opening ≡ old.opening
+  pub legal : IsHistory new.opening new.history
+  pub begins : Begins old.history new.history
+  pub own : List ℕ
+  pub own_is : new.own ≡ old.own ++ own
+  pub few : length own ≤ most_requests

@@ -1,0 +1,107 @@
+//! Calls that are answered by a text, or without a body.
+ghost use Rattle.std.specs.Prelude.{◌≡◌, ◌≤◌, ◌<◌, true, ℕ, List, Option, OnOk, OnErr, IfOk, IfErr};
+ghost use Rattle.http_frame.specs.declared.stop.Turn.TheVariants.{AtBody};
+ghost use Rattle.hips_http.specs.declared.call.Call.TheVariants as call;
+ghost use Rattle.hips_http.specs.Answers.{Asking};
+ghost use Rattle.hips_http.specs.Progress.{Serves, HasLeaf, is_text, TakesBody, LeavesNoBody, RepliesTo};
+
+use crate::call::Call;
+use crate::change::{batch, delete, put};
+use crate::control::{pin, publish, unpin};
+use crate::reply::TextReply;
+use http_frame::{Allow, Frame, Request, Stop};
+use parent_rule::Steps;
+use reader_pin::Board;
+use std::alloc::Global;
+use std::sync::Wait;
+use std::thread::Threads;
+use survey_link::{Gate, Source};
+
+/// Reads the body of a request and answers its call, which isn't that for a file.
+///
+/// # Errors
+///
+/// As the frame stops.
+pub(crate) fn reply_to<R: Threads + Wait + Sync, B: Board, S: Source, G: Gate + Sync>(
+    rt: &R,
+    alloc: Global,
+    frame: &mut Frame,
+    board: &mut B,
+    src: &mut S,
+    gate: &G,
+    steps: &mut Steps,
+    request: &Request,
+    call: Call,
+) -> Result<TextReply, Stop>
+    requires turn { frame.old.turn ≡ AtBody request.now.length }
+    requires text { is_text call ≡ true }
+    requires leaf { HasLeaf (B.content board.old).conf.shape.top call }
+    ensures replied { IfOk result (RepliesTo request.now call frame.old frame.new (S.left src.old) (S.left src.new) (B.content board.old) (B.content board.new) steps.old steps.new) }
+    ensures stop { IfErr result (LeavesNoBody request.now.length frame.old frame.new (S.left src.old) (S.left src.new) (S.faults src.old) (S.faults src.new)) }
+    ensures unchanged { OnErr result (B.content board.new ≡ B.content board.old) }
+    ensures no_steps { OnErr result (steps.new ≡ steps.old) }
+    ensures source_never_falls { S.faults src.old ≤ S.faults src.new }
+    ensures steps_never_fall { steps.old ≤ steps.new }
+    ensures room { frame.new.room ≡ frame.old.room }
+    ensures path { frame.new.path ≡ frame.old.path }
+{
+    match frame.body(src) {
+        Ok(body) => return Ok(answer(rt, alloc, board, gate, steps, request, call, body)),
+        Err(stop) => return Err(stop),
+    }
+}
+
+/// Reads the body of a request, which isn't looked at.
+///
+/// # Errors
+///
+/// As the frame stops.
+pub(crate) fn pass_body<S: Source>(frame: &mut Frame, src: &mut S, count: u64) -> Result<(), Stop>
+    requires { frame.old.turn ≡ AtBody count }
+    ensures read { OnOk result ((body : List ℕ) × TakesBody count frame.old frame.new (S.left src.old) (S.left src.new) body) }
+    ensures stop { IfErr result (LeavesNoBody count frame.old frame.new (S.left src.old) (S.left src.new) (S.faults src.old) (S.faults src.new)) }
+    ensures never_falls { S.faults src.old ≤ S.faults src.new }
+    ensures room { frame.new.room ≡ frame.old.room }
+    ensures path { frame.new.path ≡ frame.old.path }
+{
+    match frame.body(src) {
+        Ok(_) => return Ok(()),
+        Err(stop) => return Err(stop),
+    }
+}
+
+// Answers a call that isn't that for a file.
+fn answer<R: Threads + Wait + Sync, B: Board, G: Gate + Sync>(
+    rt: &R,
+    alloc: Global,
+    board: &mut B,
+    gate: &G,
+    steps: &mut Steps,
+    request: &Request,
+    call: Call,
+    body: &[u8],
+) -> TextReply
+    requires text { is_text call ≡ true }
+    requires leaf { HasLeaf (B.content board.old).conf.shape.top call }
+    ensures serves { (path : Option (List ℕ)) → Serves (record { asked = request.now; path = path; body = body.now }) call (B.content board.old) (B.content board.new) steps.old steps.new result }
+    ensures never_falls { steps.old ≤ steps.new }
+{
+    match call {
+        Call::NotAllowed(allow) => not_allowed(board, allow),
+        Call::Publish => publish(rt, board, gate, steps),
+        Call::Pin => pin(board),
+        Call::Unpin => unpin(board),
+        Call::Batch => batch(rt, alloc, board, body, steps),
+        Call::Put(leaf) => put(rt, alloc, board, request, leaf, body, steps),
+        Call::Delete(leaf) => delete(rt, board, request, leaf),
+        Call::File => unreachable!(),
+    }
+}
+
+// Answers a request whose method doesn't fit its path.
+fn not_allowed<B: Board>(board: &B, allow: Allow) -> TextReply
+    ensures { (request : Asking) (steps : ℕ) → Serves request (call.NotAllowed allow) (B.content board.now) (B.content board.now) steps steps result }
+{
+    let _legal = board.last();
+    TextReply::not_allowed(allow)
+}

@@ -1,0 +1,143 @@
+//! What a request asks for, by its method and its path.
+ghost use Rattle.std.specs.Prelude.{◌≡◌, ℕ, ◌≤◌, Some, IfSome, IsNone, option_copied};
+ghost use Rattle.tile_path.specs.declared.path.Path.TheVariants.{Tile};
+ghost use Rattle.hips_http.specs.Paths.{IsLeafPath, IsOfKind, allowed, call_of};
+
+use healpix_nested::Cell;
+use http_frame::{Allow, Method};
+use tile_path::Path;
+
+const PUBLISH: &[u8] = b"publish";
+
+const PIN: &[u8] = b"pin";
+
+const UNPIN: &[u8] = b"unpin";
+
+const BATCH: &[u8] = b"batch";
+
+/// What a path names.
+#[derive(Clone, Copy, Debug, PartialEq, Eq)]
+pub(crate) enum PathKind {
+    /// `publish`: the accepted edits are published.
+    Publish,
+    /// `pin`: the newest state is held.
+    Pin,
+    /// `unpin`: no state is held any more.
+    Unpin,
+    /// `batch`: several edits at once.
+    Batch,
+    /// The tile of a leaf.
+    Leaf(u64),
+    /// Another file, or none.
+    Other,
+}
+
+/// What is asked for.
+#[derive(Clone, Copy, Debug, PartialEq, Eq)]
+pub(crate) enum Call {
+    /// The method doesn't fit the path, which allows others.
+    NotAllowed(Allow),
+    /// A file, or its head alone.
+    File,
+    Publish,
+    Pin,
+    Unpin,
+    Batch,
+    /// The leaf is to have the tile in the body.
+    Put(u64),
+    /// The leaf is to be taken away.
+    Delete(u64),
+}
+
+/// What the path names, in a survey whose leaves are of order `top`.
+pub(crate) fn path_kind(path: Option<&[u8]>, top: u8) -> PathKind
+    ensures { IsOfKind top (option_copied path.entry) result }
+{
+    match path {
+        Some(text) => return text_kind(text, top),
+        None => return PathKind::Other,
+    }
+}
+
+// What a path that is there names.
+fn text_kind(path: &[u8], top: u8) -> PathKind
+    ensures { IsOfKind top (Some path.now) result }
+{
+    if path == PUBLISH {
+        return PathKind::Publish;
+    }
+    if path == PIN {
+        return PathKind::Pin;
+    }
+    if path == UNPIN {
+        return PathKind::Unpin;
+    }
+    if path == BATCH {
+        return PathKind::Batch;
+    }
+    match leaf_number(path, top) {
+        Some(leaf) => PathKind::Leaf(leaf),
+        None => PathKind::Other,
+    }
+}
+
+// The number of the leaf whose tile has the path; `None` exactly where it is no leaf's.
+fn leaf_number(path: &[u8], top: u8) -> Option<u64>
+    ensures some { IfSome result (IsLeafPath top (Some path.now)) }
+    ensures none { IsNone result → (leaf : ℕ) → ¬ IsLeafPath top (Some path.now) leaf }
+{
+    match Path::read(path) {
+        Some(found) => tile_number(&found, top),
+        None => None,
+    }
+}
+
+// The number of the tile at the path, where it is of that order.
+fn tile_number(path: &Path, order: u8) -> Option<u64>
+    ensures some { IfSome result (λ npix. path.now ≡ Tile (record { order = order; npix = npix })) }
+    ensures none { IsNone result → (npix : ℕ) → ¬ (path.now ≡ Tile (record { order = order; npix = npix })) }
+{
+    match path {
+        Path::Tile(cell) => number_at(*cell, order),
+        _ => None,
+    }
+}
+
+// The number of a cell of that order; `None` exactly where it is of another.
+fn number_at(cell: Cell, order: u8) -> Option<u64>
+    ensures some { IfSome result (λ npix. (cell.order ≡ order) × (cell.npix ≡ npix)) }
+    ensures none { IsNone result → ¬ (cell.order ≡ order) }
+{
+    if cell.order() == order {
+        Some(cell.npix())
+    } else {
+        None
+    }
+}
+
+/// What is asked for: a method that doesn't fit the path asks for nothing.
+pub(crate) fn call_of(method: Method, kind: PathKind) -> Call
+    ensures { result ≡ call_of method kind }
+{
+    match (method, kind) {
+        (Method::Post, PathKind::Publish) => Call::Publish,
+        (Method::Post, PathKind::Pin) => Call::Pin,
+        (Method::Post, PathKind::Unpin) => Call::Unpin,
+        (Method::Post, PathKind::Batch) => Call::Batch,
+        (Method::Get | Method::Head, PathKind::Leaf(_) | PathKind::Other) => Call::File,
+        (Method::Put, PathKind::Leaf(leaf)) => Call::Put(leaf),
+        (Method::Delete, PathKind::Leaf(leaf)) => Call::Delete(leaf),
+        (_, kind) => Call::NotAllowed(allowed(kind)),
+    }
+}
+
+// The methods that a path allows.
+fn allowed(kind: PathKind) -> Allow
+    ensures { result ≡ allowed kind }
+{
+    match kind {
+        PathKind::Publish | PathKind::Pin | PathKind::Unpin | PathKind::Batch => Allow::Control,
+        PathKind::Leaf(_) => Allow::Leaf,
+        PathKind::Other => Allow::Other,
+    }
+}

@@ -1,0 +1,112 @@
+//! Replies are written.
+ghost use Rattle.std.specs.Prelude.{◌≡◌, ◌≤◌, ◌++◌, ◌+◌, ◌<◌, ◌^◌, [], true, length, take, OnOk, OnErr, option_map, Some, None, IfSome};
+ghost use Rattle.std.specs.Io.KnownBytes.{Appends};
+ghost use Rattle.survey_link.specs.Link.{AppendsPrefix, Rises};
+ghost use Rattle.http_frame.specs.Reply.{is_reply_code, reply_bytes};
+ghost use Rattle.hips_http.specs.Replies.{head_of, sent_body, refusal_bytes, file_kind, found_answer};
+
+use crate::reply::TextReply;
+use http_frame::{Allow, Kind, Method, Number, Reply, write_reply, write_reply_parts};
+use survey_link::{Failed, Sink};
+
+/// Writes a reply; to HEAD its head alone. `close` is whether the connection is closed after it.
+///
+/// # Errors
+///
+/// `Failed` only where the sink's count of faults rose; some first bytes may have been written.
+pub(crate) fn send_text<K: Sink>(
+    sink: &mut K,
+    method: Method,
+    close: bool,
+    reply: &TextReply,
+) -> Result<(), Failed>
+    ensures whole { OnOk result (Appends (K.held sink.old) (K.held sink.new) (reply_bytes (head_of close reply.now) (sent_body method reply.now.body))) }
+    ensures part { OnErr result (AppendsPrefix (K.held sink.old) (K.held sink.new) (reply_bytes (head_of close reply.now) (sent_body method reply.now.body))) }
+    ensures failed { OnErr result (Rises (K.faults sink.old) (K.faults sink.new)) }
+    ensures never_falls { K.faults sink.old ≤ K.faults sink.new }
+{
+    let head = Reply {
+        code: reply.code,
+        allow: reply.allow,
+        kind: reply.kind,
+        number: reply.number,
+        length: reply.text.len() as u64,
+        close,
+    };
+    if method == Method::Head {
+        write_reply(sink, &head, &[])
+    } else {
+        write_reply(sink, &head, reply.text.as_slice())
+    }
+}
+
+/// Writes the reply with a file of the generation of that prefix; to HEAD its head alone. The head and the parts of the file
+/// go out by one call where the sink takes all.
+///
+/// # Errors
+///
+/// `Failed` only where the sink's count of faults rose; some first bytes may have been written.
+pub(crate) fn send_file<'a, K: Sink>(
+    sink: &mut K,
+    method: Method,
+    close: bool,
+    tip: u32,
+    path: &[u8],
+    front: &'a [u8],
+    kept: &'a [u8],
+    zeros: &'a [u8],
+) -> Result<(), Failed>
+    requires short { length front.now + length kept.now + length zeros.now < 2 ^ 64 }
+    ensures whole { OnOk result (Appends (K.held sink.old) (K.held sink.new) (reply_bytes (head_of close (found_answer tip path.now (front.now ++ kept.now ++ zeros.now))) (sent_body method (front.now ++ kept.now ++ zeros.now)))) }
+    ensures part { OnErr result (AppendsPrefix (K.held sink.old) (K.held sink.new) (reply_bytes (head_of close (found_answer tip path.now (front.now ++ kept.now ++ zeros.now))) (sent_body method (front.now ++ kept.now ++ zeros.now)))) }
+    ensures failed { OnErr result (Rises (K.faults sink.old) (K.faults sink.new)) }
+    ensures never_falls { K.faults sink.old ≤ K.faults sink.new }
+{
+    let head = Reply {
+        code: 200,
+        allow: Allow::Absent,
+        kind: file_kind(path),
+        number: Number::Prefix(tip),
+        length: front.len() as u64 + kept.len() as u64 + zeros.len() as u64,
+        close,
+    };
+    if method == Method::Head {
+        write_reply(sink, &head, &[])
+    } else {
+        write_reply_parts(sink, &head, [front, kept, zeros])
+    }
+}
+
+// The properties are a text, each other file is a FITS file.
+fn file_kind(path: &[u8]) -> Kind
+    ensures { result ≡ file_kind path.now }
+{
+    if path == b"properties".as_slice() {
+        Kind::Text
+    } else {
+        Kind::Fits
+    }
+}
+
+/// Writes the reply to a head that is refused by its framing. The code is one of those by which a frame refuses.
+///
+/// # Errors
+///
+/// `Failed` only where the sink's count of faults rose; some first bytes may have been written.
+pub(crate) fn send_refusal<K: Sink>(sink: &mut K, code: u16) -> Result<(), Failed>
+    requires known { is_reply_code code ≡ true }
+    ensures whole { OnOk result (Appends (K.held sink.old) (K.held sink.new) (refusal_bytes code)) }
+    ensures part { OnErr result (AppendsPrefix (K.held sink.old) (K.held sink.new) (refusal_bytes code)) }
+    ensures failed { OnErr result (Rises (K.faults sink.old) (K.faults sink.new)) }
+    ensures never_falls { K.faults sink.old ≤ K.faults sink.new }
+{
+    let head = Reply {
+        code,
+        allow: Allow::Absent,
+        kind: Kind::Absent,
+        number: Number::Absent,
+        length: 0,
+        close: true,
+    };
+    write_reply(sink, &head, &[])
+}
