@@ -44,7 +44,7 @@ pub fn store_row_above(
     }
 }
 
-// The same number by number, at 64 bits.
+/// The same number by number, for the depths that have no loop of their own: 64 bits.
 pub fn store_plain(
     depth: Depth,
     top: &[u8],
