@@ -1,0 +1,26 @@
+-- What is seen of a history that only grows.
+use Rattle.std.specs.Prelude.{◌≡◌, ℕ, ◌-◌, List, [], ◌∷◌, ◌++◌, length, slice_get, Option, Some, None}
+use mathlib.Core.List.{IsPrefix}
+
+-- the states that were seen, from the first one on, and the last of them
+pub record SeenHistory (S : Type 0) : Type 0 where
+  pub states : List S
+  pub last : S
+
+-- what is true of each that was seen: its states are a history, and its last state is the last of them
+pub record IsSeenHistory {S : Type 0} (Legal : List S → Type 0) (seen : SeenHistory S) : Type 0 where
+  pub legal : Legal seen.states
+  pub last : slice_get seen.states (length seen.states - 1) ≡ Some seen.last
+
+-- one state
+abbrev pub one_state : {S : Type 0} → S → SeenHistory S
+one_state state = record { states = state ∷ []; last = state }
+
+-- a state more
+abbrev pub and_then : {S : Type 0} → SeenHistory S → S → SeenHistory S
+and_then seen next = record { states = seen.states ++ next ∷ []; last = next }
+
+-- what another has seen more: its history, which goes on from this one; or nothing, where both have seen the same
+abbrev pub TellsMore : {S : Type 0} → SeenHistory S → SeenHistory S → Option (SeenHistory S) → Type 0
+TellsMore mine other (Some more) = (more ≡ other) × IsPrefix mine.states other.states
+TellsMore mine other None = other ≡ mine

@@ -1,0 +1,128 @@
+//! What lies under the lock.
+ghost use Rattle.std.specs.Prelude.{◌≡◌, ◌<◌, ◌^◌, ◌++◌, ◌∷◌, [], length, All, IfOk, OnOk, OnErr};
+ghost use Rattle.shared_history.specs.Book.{head_of};
+ghost use Rattle.shared_history.specs.Histories.{and_then};
+
+use crate::book::{Kept, Law, Naming};
+use crate::seat::Seat;
+use crate::showing::Showing;
+use crate::shown::{Showable, Shown};
+use crate::window::Window;
+use logbook::Word;
+use std::alloc::{AllocError, Global};
+use std::marker::Model;
+use std::sync::{Arc, Wait};
+
+/// The right to append states to a history: its book's word, the writer that shows it to readers, and all of it. Contracts
+/// see the history. It can't be dropped: end it by `close`.
+pub struct Desk<S: Drop, L: Law<S>, J: Naming>
+where
+    Shown<S, L, J>: Showable,
+{
+    alloc: Global,
+    head: Word<S, u64, Kept<L>>,
+    showing: Showing<Shown<S, L, J>>,
+    newest: Shown<S, L, J>,
+}
+
+impl<S: Drop, L: Law<S>, J: Naming> Model for Desk<S, L, J>
+where
+    Shown<S, L, J>: Showable,
+{
+    ghost use Rattle.std.specs.Prelude.{◌≡◌};
+    ghost use Rattle.shared_history.specs.Book.{head_of};
+    ghost use Rattle.shared_history.specs.Histories.{SeenHistory};
+
+    ghost Value = { SeenHistory S };
+
+    ghost view = { λ d. d.newest };
+
+    ghost invariant = { λ d. d.head ≡ head_of J.book };
+}
+
+impl<S: Drop, L: Law<S>, J: Naming> Desk<S, L, J>
+where
+    Shown<S, L, J>: Showable,
+{
+    /// A desk where `newest` is shown to so many readers.
+    pub(crate) fn new(
+        alloc: Global,
+        head: Word<S, u64, Kept<L>>,
+        newest: Shown<S, L, J>,
+        readers: usize,
+    ) -> Result<Desk<S, L, J>, AllocError>
+        requires head { head ≡ head_of J.book }
+        requires readers { (0 < readers) × (readers < 2 ^ 32) }
+        ensures { IfOk result (λ desk. desk ≡ newest) }
+    {
+        let showing = Showing::new(alloc, newest.again()?, newest.again()?, readers)?;
+        Ok(Desk {
+            alloc,
+            head,
+            showing,
+            newest,
+        })
+    }
+
+    /// A seat that has seen the history.
+    pub(crate) fn seat(&self) -> Result<Seat<S, L, J>, AllocError>
+        ensures { IfOk result (λ seat. seat ≡ self.now) }
+    {
+        let seen = self.newest.again()?;
+        Ok(Seat::new(Window::of(self.showing.reader()?), seen))
+    }
+
+    /// So many seats.
+    pub(crate) fn seats(&self, count: usize) -> Result<Vec<Seat<S, L, J>>, AllocError>
+        ensures count { IfOk result (λ seats. length seats.items ≡ count) }
+        ensures seen { IfOk result (λ seats. All (λ seat. seat ≡ self.now) seats.items) }
+    {
+        let mut seats = Vec::new(self.alloc);
+        for _ in 0..count {
+            seats.push(self.seat()?)?;
+        }
+        Ok(seats)
+    }
+
+    /// All of the history.
+    pub fn newest(&self) -> &Shown<S, L, J>
+        ensures { result.now ≡ self.now }
+    {
+        &self.newest
+    }
+
+    /// Appends a state, and shows the history to readers. It answers a copy of the history. It waits for readers that are
+    /// still looking at what was shown before last.
+    ///
+    /// # Errors
+    ///
+    /// `AllocError` where there is no memory for the state: the history stays as it is. Where there is none to show the state,
+    /// the history has it, and the next state is shown with it.
+    pub fn append<R: Wait>(&mut self, rt: &R, next: S) -> Result<Shown<S, L, J>, AllocError>
+        requires legal { L.legal (self.old.states ++ next ∷ []) }
+        ensures appended { IfOk result (λ shown. shown ≡ and_then self.old next) }
+        ensures kept { OnOk result (self.new ≡ and_then self.old next) }
+        ensures unchanged { OnErr result (self.new ≡ self.old) }
+    {
+        let last = Arc::new(self.alloc, next)?;
+        let same = last.clone()?;
+        let newest = self.newest.after(&self.head, last)?;
+        let answer = newest.beside(same);
+        self.newest = newest;
+        if let Ok(shown) = self.newest.again() {
+            self.showing.show(rt, shown);
+        }
+        Ok(answer)
+    }
+
+    /// Ends it. It waits for readers that are still looking.
+    pub(crate) fn close<R: Wait>(self, rt: &R) {
+        let Desk {
+            alloc: _,
+            head: _head,
+            showing,
+            newest: _newest,
+        } = self;
+        showing.close(rt);
+    }
+}

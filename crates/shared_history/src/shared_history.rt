@@ -1,0 +1,74 @@
+//! A history that threads share.
+ghost use Rattle.std.specs.Prelude.{◌≡◌, ◌<◌, ◌≤◌, ◌^◌, ◌∷◌, [], length, All, IfOk};
+ghost use Rattle.shared_history.specs.Histories.{one_state};
+
+use crate::book::{Blank, Law, Naming};
+use crate::desk::Desk;
+use crate::seat::Seat;
+use crate::shown::{Showable, Shown};
+use std::alloc::{AllocError, Global};
+use std::sync::{Arc, Mutex, MutexGuard, Wait};
+
+/// A history under its lock. It can't be dropped: end it by `close`.
+pub struct SharedHistory<S: Drop, L: Law<S>, J: Naming>
+where
+    Shown<S, L, J>: Showable,
+{
+    desk: Mutex<Desk<S, L, J>>,
+}
+
+impl<S: Drop, L: Law<S>, J: Naming> SharedHistory<S, L, J>
+where
+    Shown<S, L, J>: Showable,
+{
+    /// The desk, which nobody else has then. It waits until the desk is free.
+    pub fn lock<R: Wait>(&self, rt: &R) -> MutexGuard<'_, Desk<S, L, J>> {
+        self.desk.lock(rt)
+    }
+
+    /// Ends it.
+    pub fn close<R: Wait>(self, rt: &R) {
+        let SharedHistory { desk } = self;
+        desk.into_inner().close(rt);
+    }
+}
+
+impl<S: Drop, L: Law<S>> Blank<S, L> {
+    /// Opens the history of one state, with so many seats, each of which has seen it.
+    ///
+    /// # Errors
+    ///
+    /// `AllocError` where there is no memory for it.
+    pub fn open<J: Naming, R: Wait>(
+        self,
+        rt: &R,
+        alloc: Global,
+        first: S,
+        seats: usize,
+    ) -> Result<(SharedHistory<S, L, J>, Vec<Seat<S, L, J>>), AllocError>
+    where
+        Shown<S, L, J>: Showable,
+        requires book { self.seen.book ≡ J.book }
+        requires legal { L.legal (first ∷ []) }
+        requires some { 0 < seats }
+        requires most { seats < 2 ^ 32 }
+        ensures seats { IfOk result (λ opened. length opened.1.items ≡ seats) }
+        ensures seen { IfOk result (λ opened. All (λ seat. seat ≡ one_state first) opened.1.items) }
+    {
+        let Blank { head, seen } = self;
+        let newest = Shown::begin(&head, seen, Arc::new(alloc, first)?)?;
+        let desk = Desk::new(alloc, head, newest, seats)?;
+        match desk.seats(seats) {
+            Ok(taken) => Ok((
+                SharedHistory {
+                    desk: Mutex::new(desk),
+                },
+                taken,
+            )),
+            Err(error) => {
+                desk.close(rt);
+                Err(error)
+            }
+        }
+    }
+}
