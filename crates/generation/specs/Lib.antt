@@ -5,3 +5,4 @@ pub mod Served
 pub mod Kept
 pub mod Placed
 pub mod Changes
+pub mod Presence

@@ -178,6 +178,7 @@ impl Generation {
     // The coverage after some changes of this generation's leaves.
     fn coverage_of(&self, changes: &Changes) -> Result<Arc<Coverage>, AllocError>
         requires fits { FitsLeaves self.now.conf.shape changes.now.leaves }
+        requires cells { All (λ leaf. leaf < cell_count self.now.conf.shape.top) changes.now.touched.items }
         requires same { SameBut changes.now.touched.items self.now.leaves changes.now.leaves }
         ensures { IfOk result (λ made. arc_value made ≡ record { top = self.now.conf.shape.top; rows = cover self.now.conf.shape.top (keys_of changes.now.leaves) }) }
     {
