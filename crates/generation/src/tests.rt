@@ -1,5 +1,5 @@
 //! Worked surveys, and generations that are made by changes beside those that are made at once.
-ghost use Rattle.std.specs.Prelude.{◌≡◌, IsTrue, IfOk};
+ghost use Rattle.std.specs.Prelude.{◌≡◌, ◌<◌, IsTrue, IfOk};
 ghost use Rattle.std.specs.Arc.{arc_value};
 ghost use Rattle.edit_journal.specs.Edit.{edit_of};
 ghost use Rattle.edit_journal.specs.Leaves.{FitsEdit};
@@ -26,9 +26,9 @@ use tile_pixels::Tile;
 static NAMES: &[u8] =
     b"creator_did = ivo://example/P/one\nobs_title = Survey one\nhips_release_date = 2024-05-01T00:00Z\nhips_status = public master clonable\nhips_tile_width = 2\nsurvey_bitpix = 16\nsurvey_blank = -32768\n";
 
-fn conf_of(alloc: Global, lines: &[u8]) -> Result<Arc<Conf>, Fail> {
+fn conf_of(alloc: Global, lines: &str) -> Result<Arc<Conf>, Fail> {
     let mut text = NAMES.to_vec(alloc)?;
-    text.extend_from_slice(lines)?;
+    text.extend_from_slice(lines.as_bytes())?;
     let conf = Conf::read(alloc, &text)?;
     Ok(Arc::new(alloc, conf)?)
 }
@@ -97,6 +97,67 @@ fn journal_of(alloc: Global, shape: Shape, acts: &[Act]) -> Result<Journal, Fail
     Ok(journal)
 }
 
+// Numbers that look random: a linear congruence modulo 2^32.
+#[derive(Drop)]
+struct Random {
+    state: u32,
+}
+
+impl Random {
+    fn below(&mut self, end: u32) -> u32
+        requires { 0 < end }
+        ensures { result < end }
+    {
+        self.state = self.state.wrapping_mul(1664525).wrapping_add(1013904223);
+        (self.state >> 8) % end
+    }
+
+    // A number of a tile; each eighth is blank.
+    fn number(&mut self) -> i16 {
+        match self.below(8) {
+            0 => -32768,
+            _ => self.below(1000) as i16,
+        }
+    }
+
+    // The number of a leaf; half of them are among the first 16.
+    fn leaf(&mut self, shape: Shape) -> u64 {
+        let near = u64::from(self.below(16));
+        match self.below(2) {
+            0 => near,
+            _ => u64::from(self.below(768)).saturating_mul(cells(shape.top) / 768),
+        }
+    }
+}
+
+const EDITS: u32 = 243;
+
+// How many of them each generation has: from one to the next it is so few and so many.
+static PREFIXES: [u32; 6] = [1, 3, 9, 27, 81, EDITS];
+
+// The journal of edits that look random, of a survey without leaves.
+fn any_journal(alloc: Global, shape: Shape) -> Result<Journal, Fail> {
+    let mut random = Random { state: 1 };
+    let mut journal = Journal::start(alloc, shape, Store::new(alloc))?;
+    for _ in 0..EDITS {
+        let leaf = random.leaf(shape);
+        let numbers = [
+            random.number(),
+            random.number(),
+            random.number(),
+            random.number(),
+        ];
+        let is_removed = random.below(2) == 0 && journal.leaves().get(leaf).is_some();
+        let act = if is_removed {
+            Act::Remove(leaf)
+        } else {
+            Act::Put(leaf, numbers)
+        };
+        journal = with(&journal, edit(alloc, shape, act)?)?;
+    }
+    Ok(journal)
+}
+
 // The generation of the opening leaves of a journal.
 fn opening<R: Threads + Sync>(
     rt: &R,
@@ -140,15 +201,31 @@ impl Model for Survey {
 
 impl Survey {
     // The survey of that description that begins without leaves, before these edits.
-    #[tactic(auto, unfolding(edit_journal::specs::Leaves::leaves_of))]
     fn before<R: Threads + Sync>(
         rt: &R,
         alloc: Global,
-        lines: &[u8],
+        lines: &str,
         acts: &[Act],
     ) -> Result<Survey, Fail> {
         let conf = conf_of(alloc, lines)?;
         let journal = journal_of(alloc, conf.shape(), acts)?;
+        Survey::opened(rt, alloc, conf, journal)
+    }
+
+    // The same before edits that look random.
+    fn before_any<R: Threads + Sync>(rt: &R, alloc: Global, lines: &str) -> Result<Survey, Fail> {
+        let conf = conf_of(alloc, lines)?;
+        let journal = any_journal(alloc, conf.shape())?;
+        Survey::opened(rt, alloc, conf, journal)
+    }
+
+    #[tactic(auto, unfolding(edit_journal::specs::Leaves::leaves_of))]
+    fn opened<R: Threads + Sync>(
+        rt: &R,
+        alloc: Global,
+        conf: Arc<Conf>,
+        journal: Journal,
+    ) -> Result<Survey, Fail> {
         if !is_same(journal.shape(), conf.shape()) {
             return Err(Fail::from("another shape"));
         }
@@ -245,19 +322,24 @@ fn is_same_file(
     Ok(!bytes.is_empty() && bytes.as_slice() == parts.as_slice())
 }
 
-// Both generations have the same files.
+// Both generations of a survey have the same files.
 fn assert_same_files(
     rt: &impl Abort,
     alloc: Global,
+    lines: &str,
     one: &Generation,
     other: &Generation,
 ) -> Result<(), Fail> {
     let count = one.file_count();
-    assert_eq!(rt; other.file_count(), count);
+    let edits = one.prefix();
+    assert!(rt;
+        other.file_count() == count,
+        "{lines}: {count} files after {edits} edits"
+    );
     for i in 0..count {
         let path = one.path(i).ok_or("no path")?;
-        assert!(rt; other.path(i) == Some(path), "path {i}");
-        assert!(rt; is_same_file(alloc, one, other, path)?, "file {path}");
+        let is_same = other.path(i) == Some(path) && is_same_file(alloc, one, other, path)?;
+        assert!(rt; is_same, "{lines}: {path} after {edits} edits");
     }
     Ok(())
 }
@@ -268,7 +350,7 @@ static ONE_LEAF: [Act; 2] = [Act::Put(0, [1, 2, 3, 5]), Act::Remove(0)];
 fn assert_one_leaf<R: Threads + Sync + Abort>(
     rt: &R,
     alloc: Global,
-    lines: &[u8],
+    lines: &str,
     pixels: &[u8],
 ) -> Result<(), Fail> {
     let first = Path::Tile(Cell::new(3, 0).ok_or("no cell")?);
@@ -284,9 +366,9 @@ fn assert_one_leaf<R: Threads + Sync + Abort>(
     Ok(())
 }
 
-static MEAN_LINES: &[u8] = b"hips_order = 4\n";
+static MEAN_LINES: &str = "hips_order = 4\n";
 
-static MEDIAN_LINES: &[u8] = b"hips_order = 4\nsurvey_version = 2\nsurvey_rule = median\n";
+static MEDIAN_LINES: &str = "hips_order = 4\nsurvey_version = 2\nsurvey_rule = median\n";
 
 #[test]
 fn one_leaf(rt: HostRuntime) -> Result<(), Fail> {
@@ -301,7 +383,7 @@ static FAR_LEAVES: [Act; 2] = [Act::Put(0, [1; 4]), Act::Put(50_331_647, [2; 4])
 fn assert_far_leaves<R: Threads + Sync + Abort>(
     rt: &R,
     alloc: Global,
-    lines: &[u8],
+    lines: &str,
     files: u64,
 ) -> Result<(), Fail> {
     let survey = Survey::before(rt, alloc, lines, &FAR_LEAVES)?;
@@ -315,8 +397,8 @@ fn assert_far_leaves<R: Threads + Sync + Abort>(
 #[test]
 fn two_far_leaves(rt: HostRuntime) -> Result<(), Fail> {
     let alloc = rt.alloc();
-    assert_far_leaves(&rt, alloc, b"hips_order = 11\n", 21)?;
-    assert_far_leaves(&rt, alloc, b"hips_order = 11\nhips_order_min = 0\n", 27)
+    assert_far_leaves(&rt, alloc, "hips_order = 11\n", 21)?;
+    assert_far_leaves(&rt, alloc, "hips_order = 11\nhips_order_min = 0\n", 27)
 }
 
 // A gate that counts who passes.
@@ -356,38 +438,41 @@ fn one_merge_for_one_leaf(rt: HostRuntime) -> Result<(), Fail> {
     Ok(())
 }
 
-// Leaves that come, change and go again.
-static CHANGES: [Act; 8] = [
-    Act::Put(0, [1, 2, 3, 5]),
-    Act::Put(255, [-7, 40, -32768, 9]),
-    Act::Put(1, [8, 8, -32768, -32768]),
-    Act::Remove(255),
-    Act::Put(17, [300, 301, 302, 304]),
-    Act::Replace(0, [-1, -2, -3, -5]),
-    Act::Remove(17),
-    Act::Put(255, [6, 7, 8, 9]),
+// Orders, lowest orders and ways to combine.
+static SURVEYS: [&str; 12] = [
+    "hips_order = 3\n",
+    "hips_order = 3\nsurvey_version = 2\nsurvey_rule = median\n",
+    "hips_order = 3\nhips_order_min = 0\n",
+    "hips_order = 3\nhips_order_min = 0\nsurvey_version = 2\nsurvey_rule = median\n",
+    "hips_order = 4\n",
+    "hips_order = 4\nsurvey_version = 2\nsurvey_rule = median\n",
+    "hips_order = 4\nhips_order_min = 0\n",
+    "hips_order = 4\nhips_order_min = 0\nsurvey_version = 2\nsurvey_rule = median\n",
+    "hips_order = 5\n",
+    "hips_order = 5\nsurvey_version = 2\nsurvey_rule = median\n",
+    "hips_order = 5\nhips_order_min = 0\n",
+    "hips_order = 5\nhips_order_min = 0\nsurvey_version = 2\nsurvey_rule = median\n",
 ];
 
 // After each of these prefixes of the edits there are the files that the leaves make.
 fn assert_changes<R: Threads + Sync + Abort>(
     rt: &R,
     alloc: Global,
-    lines: &[u8],
-    prefixes: &[u32],
+    lines: &str,
 ) -> Result<(), Fail> {
-    let mut survey = Survey::before(rt, alloc, lines, &CHANGES)?;
-    for k in prefixes {
+    let mut survey = Survey::before_any(rt, alloc, lines)?;
+    for k in &PREFIXES {
         survey = survey.after(rt, *k, &OpenGate::new())?;
         let whole = survey.at_once(rt, alloc)?;
-        assert_same_files(rt, alloc, &whole, &survey.generation)?;
+        assert_same_files(rt, alloc, lines, &whole, &survey.generation)?;
     }
     Ok(())
 }
 
 #[test]
 fn changes_make_what_the_leaves_make(rt: HostRuntime) -> Result<(), Fail> {
-    let alloc = rt.alloc();
-    assert_changes(&rt, alloc, b"hips_order = 3\n", &[1, 2, 3, 4, 5, 6, 7, 8])?;
-    assert_changes(&rt, alloc, MEDIAN_LINES, &[3, 6, 8])?;
-    assert_changes(&rt, alloc, b"hips_order = 5\nhips_order_min = 0\n", &[4, 8])
+    for lines in &SURVEYS {
+        assert_changes(&rt, rt.alloc(), lines)?;
+    }
+    Ok(())
 }
