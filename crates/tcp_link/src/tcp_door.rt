@@ -1,0 +1,203 @@
+//! The doors of an address.
+ghost use Rattle.std.specs.Prelude.{◌≡◌, ◌≤◌, None, Some, replicate, IfOk, IfErr, IfSome, IsSome, OnOk, OnErr};
+ghost use Rattle.survey_link.specs.Link.{next_count};
+ghost use Rattle.tcp_link.specs.Tcp.{StopsAccept, StopsListening};
+
+use crate::again::again;
+use crate::listening::Listening;
+use crate::refusal::Refusal;
+use crate::tcp_in::TcpIn;
+use crate::tcp_out::TcpOut;
+use std::alloc::AllocError;
+use std::io;
+use std::marker::Model;
+use std::net::{Net, SocketAddr, TcpListener, TcpStream};
+use std::sync::{Arc, Wait};
+use std::time::Duration;
+use survey_link::{Door, DoorFault};
+
+// How many seconds a client may be silent or take nothing.
+const PATIENCE: u64 = 30;
+
+/// A door of an address over TCP. It tells nothing of its connections.
+///
+/// The doors of one address share a listener, which the first call that needs it binds. What it answers as `Failed` counts as
+/// a fault: that the system refuses to listen, to accept, or to split a stream into its halves. An accept that the system
+/// interrupts, or whose client has gone, is made again and counts as none. A connection that is given back is closed.
+#[derive(Drop)]
+pub struct TcpDoor<R> {
+    runtime: R,
+    listening: Arc<Listening>,
+    patience: Duration,
+    faults: u64,
+    refusal: Option<Refusal>,
+}
+
+impl<R> Model for TcpDoor<R> {
+    ghost use Rattle.tcp_link.specs.Tcp.{DoorState};
+
+    ghost Value = { DoorState };
+
+    ghost view = { λ a. record { faults = a.faults; refusal = a.refusal } };
+}
+
+/// So many doors of an address, an IP address or a host's name with `:` and a port. Nothing is bound yet.
+///
+/// Each keeps a copy of the runtime, which gives the network and the leave to wait, since no call of a door is passed one.
+///
+/// # Errors
+///
+/// `AllocError` where there is no memory.
+pub fn tcp_doors<R: AllocGlobal + Clone + Drop>(
+    rt: &R,
+    address: &str,
+    count: usize,
+) -> Result<Vec<TcpDoor<R>>, AllocError>
+    ensures { IfOk result (λ doors. doors.items ≡ replicate count (record { faults = 0; refusal = None })) }
+{
+    patient_doors(rt, address, count, Duration::from_secs(PATIENCE))
+}
+
+/// As `tcp_doors`, of doors whose clients may be silent for so long.
+pub(crate) fn patient_doors<R: AllocGlobal + Clone + Drop>(
+    rt: &R,
+    address: &str,
+    count: usize,
+    patience: Duration,
+) -> Result<Vec<TcpDoor<R>>, AllocError>
+    ensures { IfOk result (λ doors. doors.items ≡ replicate count (record { faults = 0; refusal = None })) }
+{
+    let alloc = rt.alloc();
+    let listening = Arc::new(alloc, Listening::new(String::from_str(alloc, address)?))?;
+    let mut doors = Vec::new(alloc);
+    for _ in 0..count {
+        doors.push(TcpDoor {
+            runtime: rt.clone()?,
+            listening: Arc::try_clone(&listening)?,
+            patience,
+            faults: 0,
+            refusal: None,
+        })?;
+    }
+    Ok(doors)
+}
+
+impl<R> TcpDoor<R> {
+    /// What the door was last refused; `None` exactly where it has never failed.
+    pub fn refusal(&self) -> Option<Refusal>
+        ensures { result ≡ self.now.refusal }
+    {
+        self.refusal
+    }
+
+    // Counts what is answered as `Failed`.
+    fn fail(&mut self, refusal: Refusal) -> DoorFault
+        ensures fault { result ≡ DoorFault.Failed }
+        ensures counted { self.new ≡ record { faults = next_count self.old.faults; refusal = Some refusal } }
+        ensures never_falls { self.old.faults ≤ self.new.faults }
+    {
+        self.faults = self.faults.saturating_add(1);
+        self.refusal = Some(refusal);
+        DoorFault::Failed
+    }
+}
+
+impl<R> TcpDoor<R>
+where
+    R: Net<Listener = TcpListener, Stream = TcpStream> + Wait,
+{
+    /// Listens, where no door of the address does yet, and answers where: at the port that the system chose, if it was asked
+    /// for port 0.
+    ///
+    /// # Errors
+    ///
+    /// `DoorFault::Failed` only where the count of faults rose.
+    pub fn listen(&mut self) -> Result<SocketAddr, DoorFault>
+        ensures sound { OnOk result (self.new ≡ self.old) }
+        ensures failed { OnErr result (self.new.faults ≡ next_count self.old.faults) }
+        ensures only { IfErr result (λ fault. fault ≡ DoorFault.Failed) }
+        ensures cause { OnErr result (StopsListening self.new.refusal) }
+    {
+        match self.place() {
+            Ok(place) => Ok(place),
+            Err(refusal) => Err(self.fail(refusal)),
+        }
+    }
+
+    // Where it listens.
+    fn place(&self) -> Result<SocketAddr, Refusal>
+        ensures cause { IfErr result (λ refusal. StopsListening (Some refusal)) }
+    {
+        let listener = self.listener()?;
+        listener.local_addr().map_err(Refusal::Listen)
+    }
+
+    fn listener(&self) -> Result<&TcpListener, Refusal>
+        ensures cause { IfErr result (λ refusal. StopsListening (Some refusal)) }
+    {
+        self.listening
+            .listener(&self.runtime)
+            .map_err(Refusal::Listen)
+    }
+
+    // The halves of the next connection.
+    fn next(&self) -> Result<(TcpIn, TcpOut), Refusal>
+        ensures fresh { IfOk result (λ halves. (halves.0 ≡ 0) × (halves.1 ≡ 0)) }
+        ensures cause { IfErr result (λ refusal. StopsAccept (Some refusal)) }
+    {
+        let listener = self.listener()?;
+        let (stream, _) = again(|| listener.accept()).map_err(Refusal::Accept)?;
+        halves(stream, self.patience).map_err(Refusal::Split)
+    }
+}
+
+// The halves of a stream, which wait so long and hold no small write back for more.
+fn halves(stream: TcpStream, patience: Duration) -> io::Result<(TcpIn, TcpOut)>
+    ensures fresh { IfOk result (λ halves. (halves.0 ≡ 0) × (halves.1 ≡ 0)) }
+{
+    stream.set_nodelay(true)?;
+    stream.set_read_timeout(Some(patience))?;
+    stream.set_write_timeout(Some(patience))?;
+    let output = TcpOut::new(stream.try_clone()?);
+    Ok((TcpIn::new(stream), output))
+}
+
+impl<R> Door for TcpDoor<R>
+where
+    R: Net<Listener = TcpListener, Stream = TcpStream> + Wait + Drop,
+{
+    type In = TcpIn;
+
+    type Out = TcpOut;
+
+    ghost connections = { λ _. None };
+
+    ghost faults = { λ door. door.faults };
+
+    // A real door has no last connection.
+    fn accept(&mut self) -> Result<Option<(TcpIn, TcpOut)>, DoorFault>
+        ensures comes { IfOk result (λ next. IfSome next (λ halves. (halves.0 ≡ 0) × (halves.1 ≡ 0)) × IsSome next) }
+        ensures sound { OnOk result (self.new ≡ self.old) }
+        ensures failed { OnErr result (self.new.faults ≡ next_count self.old.faults) }
+        ensures only { IfErr result (λ fault. fault ≡ DoorFault.Failed) }
+        ensures cause { OnErr result (StopsAccept self.new.refusal) }
+        ensures never_falls { self.old.faults ≤ self.new.faults }
+    {
+        match self.next() {
+            Ok(halves) => Ok(Some(halves)),
+            Err(refusal) => Err(self.fail(refusal)),
+        }
+    }
+
+    fn faults(&self) -> u64
+        ensures { result ≡ self.now.faults }
+    {
+        self.faults
+    }
+
+    fn done(&mut self, _input: TcpIn, output: TcpOut)
+        ensures sound { self.new ≡ self.old }
+    {
+        output.end();
+    }
+}
