@@ -1,11 +1,11 @@
 -- Levels from the deepest on: those that are made, and the permits of those that are left.
-use Rattle.std.proofs.Common.{◌≡◌, ℕ, suc, ◌+◌, ◌-◌, ◌<◌, ◌≤◌, map, take, drop, List, [], ◌∷◌, ◌++◌, length, get_or, refl, sym, ap, ◌∙◌, subst, arith, inl, inr, Option, Some, None, Bor, slice_get, unwrap_or, option_map}
+use Rattle.std.proofs.Common.{◌≡◌, ℕ, ◌+◌, ◌-◌, ◌<◌, ◌≤◌, map, take, drop, List, [], ◌∷◌, ◌++◌, length, get_or, refl, sym, ap, ◌∙◌, subst, arith, inl, inr, Option, Some, None, Bor, slice_get, unwrap_or, option_map}
 use Rattle.std.specs.Prelude.{All}
 use Rattle.std.specs.Option.{option_copied}
 use Rattle.std.proofs.lemmas.Option.{slice_get-get_or}
 use Rattle.std.specs.List.{range_with_len}
 use Rattle.std.proofs.lemmas.Bool.{cases_lt}
-use Rattle.std.proofs.lemmas.List.{take_more, drop_more, drop_all, length-append, nil_from_length, get_or_past}
+use Rattle.std.proofs.lemmas.List.{take_more, drop_more, drop_all, length-append, nil_from_length}
 use Rattle.std.proofs.lemmas.List.Elements.{All-nil, All-cons, All-head, All-tail, All-filter}
 use Rattle.std.proofs.lemmas.List.FromFn.{length-range_with_len, get_or-range_with_len, length-map-range_with_len, get_or-map-range_with_len, take-map-range_with_len}
 use Rattle.std.proofs.lemmas.Simd.{map-map}
@@ -13,14 +13,13 @@ use Rattle.parent_rule.specs.Permit.{PermittedCell}
 use Rattle.healpix_nested.specs.Cells.{cell_count}
 use Rattle.pyramid_model.specs.Shape.{PyramidShape, LeafMap, IsShape, FitsShape}
 use Rattle.tile_pixels.specs.Tile.{PixelTile}
-use Rattle.dirty_plan.specs.Dirty.{is_dirty, dirty, dirty_cells, permits_of, orders_down}
+use Rattle.dirty_plan.specs.Dirty.{is_dirty, dirty, dirty_cells, permits_of}
 use Rattle.rebuild_worker.specs.Level.{IsAboveLeaves, HaveShape}
 use Rattle.edit_journal.specs.Leaves.{LeafTiles, FitsLeaves}
 use Rattle.generation.specs.Files.{leaf_map}
 use Rattle.generation.specs.Kept.{tiles_of, levels_of, AllKept, AreKept}
 use Rattle.generation.specs.Placed.{IsStep, tiles_in}
 use Rattle.generation.proofs.Orders.{tiles_have_shape, leaves_are}
-use Rattle.generation.proofs.Placing.{has, dirty_in_order}
 
 -- the permits of the order i steps above that above the leaves, and its tiles
 abbrev pub owed : ℕ → List ℕ → ℕ → ℕ × List PermittedCell

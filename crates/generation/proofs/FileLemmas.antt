@@ -1,5 +1,5 @@
 -- What the map of files has at a path.
-use Rattle.std.proofs.Common.{◌≡◌, ◌≢◌, ◌⊎◌, inl, inr, ℕ, zero, suc, ◌+◌, ◌-◌, ◌<◌, ◌≤◌, Bool, true, false, cond, map, filter, flat_map, List, [], ◌∷◌, ◌++◌, Option, Some, None, refl, sym, ap, ◌∙◌, subst, arith, length, get_or, Vec, Global}
+use Rattle.std.proofs.Common.{◌≡◌, ◌≢◌, ◌⊎◌, inl, inr, ℕ, zero, suc, ◌+◌, ◌-◌, ◌<◌, ◌≤◌, Bool, true, false, cond, map, filter, flat_map, List, [], ◌∷◌, ◌++◌, Option, Some, None, refl, sym, ap, ◌∙◌, subst, arith, length, Vec, Global}
 use mir.Val.{bool_byte}
 use Rattle.std.specs.Prelude.{All, IsSome, IfSome, is_some, slice_get, option_map}
 use Rattle.std.proofs.lemmas.List.{length-append}
@@ -16,17 +16,17 @@ use Rattle.std.specs.FinMap.{get, len, find, from_entries, get-from_entries, len
 use Rattle.tile_path.specs.declared.path.Path.{Path}
 use Rattle.tile_path.specs.declared.path.Path.TheVariants.{Properties, Moc, Allsky, Tile}
 use Rattle.tile_path.specs.Laws.{SpellingsDiffer, DeepTilesAreNoPaths}
-use Rattle.tile_path.specs.Spelling.{IsPath, IsTile, spelling}
+use Rattle.tile_path.specs.Spelling.{IsPath, spelling}
 use Rattle.healpix_nested.specs.Cells.{cell_count, NestedCell, IsCell}
-use Rattle.pyramid_model.specs.Shape.{PyramidShape, LeafMap, FitsShape, IsShape}
+use Rattle.pyramid_model.specs.Shape.{PyramidShape, LeafMap, IsShape}
 use Rattle.pyramid_model.specs.Tile.{exists}
 use Rattle.survey_conf.specs.Description.{Description}
-use Rattle.generation.specs.Files.{leaf_map, existing, tile_paths, mosaic_paths, paths, file_of, files}
+use Rattle.generation.specs.Files.{leaf_map, tile_paths, mosaic_paths, paths, file_of, files}
 use Rattle.generation.specs.Kept.{HasTile, tile_of, PyramidContent, IsKept, KeepsMosaic, IsMosaicFile}
 use Rattle.tile_pixels.specs.Tile.{PixelTile}
 use Rattle.coverage_moc.specs.Cover.{MocCover, cover}
 use Rattle.coverage_moc.specs.CoverFile.{moc_file}
-use Rattle.fits_tile.specs.TileFile.{tile_file, image_file}
+use Rattle.fits_tile.specs.TileFile.{tile_file}
 use Rattle.survey_conf.specs.Properties.{properties_text}
 use Rattle.edit_journal.specs.Leaves.{LeafTiles}
 use Rattle.std.proofs.lemmas.Map.Made.{keys_of-map_values}

@@ -1,12 +1,12 @@
 -- The tile of a cell depends on the leaves under the cell alone.
-use Rattle.std.proofs.Common.{◌≡◌, ℕ, zero, suc, ◌+◌, ◌-◌, ◌*◌, ◌/◌, ◌%◌, ◌^◌, ◌<◌, ◌≤◌, ◌||◌, Bool, true, false, List, [], ◌∷◌, Option, Some, None, sym, ap, ◌∙◌, refl, arith, length, ℤ, map, div-one}
+use Rattle.std.proofs.Common.{◌≡◌, ℕ, zero, suc, ◌+◌, ◌-◌, ◌*◌, ◌/◌, ◌%◌, ◌^◌, ◌<◌, ◌≤◌, ◌||◌, Bool, List, [], ◌∷◌, sym, ap, ◌∙◌, refl, arith, ℤ, map, div-one}
 use Rattle.std.specs.Prelude.{is_some}
 use Rattle.std.specs.List.{range_with_len}
 use Rattle.std.proofs.lemmas.Nat.{div-mul-add}
 use Rattle.healpix_nested.specs.Place.{stored_z}
 use Rattle.healpix_nested.specs.PlaceLaws.{stored_z_below}
 use Rattle.pyramid_model.specs.Shape.{PyramidShape, LeafMap, leaf_numbers}
-use Rattle.pyramid_model.specs.Value.{value_above, value, pixel_of}
+use Rattle.pyramid_model.specs.Value.{value_above, pixel_of}
 use Rattle.pyramid_model.specs.ValueLaws.{four_steps}
 use Rattle.pyramid_model.specs.Tile.{exists, pixels, pixel_at}
 use Rattle.pyramid_model.specs.TileLaws.{exists_step, exists_leaf}

@@ -1,20 +1,17 @@
 -- The tiles of an order, as a map from cells.
-use Rattle.std.proofs.Common.{◌≡◌, ℕ, ◌+◌, ◌-◌, ◌*◌, ◌/◌, ◌^◌, ◌<◌, ◌≤◌, ◌||◌, ◌&&◌, Bool, true, false, map, List, [], ◌∷◌, Option, Some, None, option_map, refl, sym, ap, ◌∙◌, subst, arith, length, ℤ, eqb, leb, eqb-true, leb-true}
+use Rattle.std.proofs.Common.{◌≡◌, ℕ, ◌-◌, ◌/◌, ◌^◌, ◌<◌, ◌≤◌, ◌||◌, true, false, map, List, [], ◌∷◌, Option, Some, None, option_map, refl, sym, ap, ◌∙◌, subst, arith, length, eqb, leb, eqb-true, leb-true}
 use Rattle.std.specs.Prelude.{All, IfSome, MatchOption, is_some}
-use Rattle.std.specs.List.{list_any}
 use Rattle.std.specs.Map.{keys_of, values_of}
 use Rattle.std.specs.BTreeMap.{is_at}
 use Rattle.std.specs.Ordering.{nat_cmp}
 use Rattle.std.proofs.lemmas.Bool.{and_parts, true≢false}
-use Rattle.std.proofs.lemmas.Bool.Decides.{nat_tests}
 use Rattle.std.proofs.lemmas.List.Elements.{All-head, All-tail, All-nil, All-cons}
 use Rattle.std.proofs.lemmas.Map.Made.{lookup-map_values}
 use Rattle.std.proofs.lemmas.Map.Views.{IfSome-lookup_from_All}
 use Rattle.healpix_nested.specs.Cells.{cell_count, lies_under, IsCell}
 use Rattle.healpix_nested.specs.CellLaws.{ancestor_is_cell}
-use Rattle.parent_rule.specs.Depth.{PixelDepth}
 use Rattle.pyramid_model.specs.Shape.{PyramidShape, LeafMap, FitsShape, IsShape, leaf_numbers}
-use Rattle.pyramid_model.specs.Tile.{exists, pixels}
+use Rattle.pyramid_model.specs.Tile.{exists}
 use Rattle.pyramid_model.specs.TileLaws.{exists_leaf, pixels_leaf}
 use Rattle.tile_pixels.specs.Tile.{PixelTile, HasShape}
 use Rattle.tile_pixels.specs.Merge.{Shows}

@@ -1,8 +1,7 @@
 -- The paths of tiles, counted order by order.
-use Rattle.std.proofs.Common.{◌≡◌, inl, inr, ℕ, zero, suc, ◌+◌, ◌-◌, ◌*◌, ◌^◌, ◌<◌, ◌≤◌, map, filter, flat_map, List, [], ◌∷◌, ◌++◌, Option, Some, None, option_map, refl, sym, ap, ◌∙◌, subst, arith, length, get_or, slice_get, add-zero}
-use Rattle.std.specs.Prelude.{All, IsSome, IfSome, take, replicate, drop}
+use Rattle.std.proofs.Common.{◌≡◌, ℕ, zero, suc, ◌+◌, ◌-◌, ◌^◌, ◌<◌, ◌≤◌, map, flat_map, List, [], ◌∷◌, ◌++◌, Option, Some, None, option_map, refl, sym, ap, ◌∙◌, subst, arith, length, slice_get, add-zero}
+use Rattle.std.specs.Prelude.{IsSome, IfSome, take, drop}
 use Rattle.std.specs.List.{range_with_len}
-use Rattle.std.specs.Map.{keys_of}
 use Rattle.std.proofs.lemmas.List.{length-append, length-drop, take_at}
 use Rattle.std.proofs.lemmas.Grind.{flat_map-append}
 use Rattle.std.proofs.lemmas.Map.Views.{length-le_from_below}
@@ -13,7 +12,7 @@ use Rattle.pyramid_model.specs.Shape.{PyramidShape, LeafMap}
 use Rattle.pyramid_model.specs.Tile.{exists}
 use Rattle.tile_pixels.specs.Tile.{PixelTile}
 use Rattle.tile_path.specs.declared.path.Path.{Path}
-use Rattle.tile_path.specs.declared.path.Path.TheVariants.{Properties, Moc, Allsky, Tile}
+use Rattle.tile_path.specs.declared.path.Path.TheVariants.{Tile}
 use Rattle.generation.specs.Files.{existing, tile_paths}
 use Rattle.generation.specs.Kept.{tile_of, tiles_of}
 use Rattle.generation.proofs.Lists.{selection_ascends}

@@ -1,5 +1,5 @@
 -- An order after the tiles of its dirty cells were merged anew.
-use Rattle.std.proofs.Common.{◌≡◌, inl, inr, ℕ, zero, suc, ◌+◌, ◌-◌, ◌*◌, ◌/◌, ◌^◌, ◌<◌, ◌≤◌, ◌||◌, Bool, true, false, cond, map, filter, List, [], ◌∷◌, Option, Some, None, refl, sym, ap, ◌∙◌, subst, arith, eqb, leb, eqb-true, leb-true}
+use Rattle.std.proofs.Common.{◌≡◌, inl, inr, ℕ, zero, suc, ◌+◌, ◌-◌, ◌*◌, ◌/◌, ◌^◌, ◌<◌, ◌≤◌, ◌||◌, Bool, true, false, cond, filter, List, [], ◌∷◌, Option, Some, None, refl, sym, ap, ◌∙◌, subst, arith, eqb, leb, eqb-true, leb-true}
 use Rattle.std.specs.Prelude.{All, IfSome, ◌==◌}
 use Rattle.std.specs.List.{list_any, range_with_len}
 use Rattle.std.proofs.lemmas.Bool.{and_parts, cases_eq, eq-eqb}
@@ -15,7 +15,7 @@ use Rattle.tile_pixels.specs.Merge.{Shows, ShowsChildren, FourTiles, merged}
 use Rattle.leaf_store.specs.Store.{IsAscending, value_at}
 use Rattle.dirty_plan.specs.Dirty.{is_dirty, dirty_cells, permits_of}
 use Rattle.rebuild_worker.specs.Level.{numbers_of, children_of, any_of, tile_above, merge_of, merges_of, ShowsItsCell, NamedTile}
-use Rattle.generation.specs.Kept.{tiles_of, AreKept}
+use Rattle.generation.specs.Kept.{tiles_of}
 use Rattle.generation.specs.Placed.{tile_at, tile_after, IsStep}
 use Rattle.generation.proofs.Lists.{same_pairs}
 use Rattle.generation.proofs.Orders.{exists_in_order, tiles_ascend, shown_is, tile_shows}

@@ -1,5 +1,5 @@
 -- Which leaves are there decides the cover, and a cover can follow them one leaf at a time.
-use Rattle.std.proofs.Common.{◌≡◌, ℕ, zero, suc, ◌+◌, ◌<◌, ◌≤◌, List, [], ◌∷◌, true, false, cond, inl, inr, ◌⊎◌, Option, Some, None, Bool, filter, refl, sym, ap, subst, ◌∙◌, arith, get_or, length, take, eqb-true}
+use Rattle.std.proofs.Common.{◌≡◌, ℕ, ◌+◌, ◌<◌, List, [], ◌∷◌, true, false, cond, inl, inr, ◌⊎◌, Some, Bool, filter, refl, sym, ap, subst, ◌∙◌, arith, get_or, length, take, eqb-true}
 use Rattle.std.specs.Prelude.{All, Contains, is_some, not, ◌==◌, ◌||◌}
 use Rattle.std.specs.List.{range_with_len}
 use Rattle.std.specs.Map.{keys_of}

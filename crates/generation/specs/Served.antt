@@ -1,5 +1,5 @@
 -- Files as they are handed out.
-use Rattle.std.specs.Prelude.{ℕ, List, ◌++◌, length, take}
+use Rattle.std.specs.Prelude.{ℕ, List, ◌++◌, take}
 use Rattle.tile_path.specs.declared.path.Path.{Path}
 use Rattle.tile_path.specs.declared.path.Path.TheVariants.{Properties, Moc, Allsky, Tile}
 use Rattle.generation.specs.declared.files.Body.{Body}

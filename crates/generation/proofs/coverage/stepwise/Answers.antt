@@ -1,4 +1,4 @@
-use Rattle.std.proofs.Common.{◌≡◌, ◌∷◌, ◌<◌, take, ap, ◌∙◌, arith}
+use Rattle.std.proofs.Common.{◌∷◌, ◌<◌, take, ap, ◌∙◌, arith}
 use Rattle.std.proofs.lemmas.List.Elements.{All-tail}
 use Rattle.healpix_nested.specs.Cells.{cell_count}
 use Rattle.coverage_moc.specs.Cover.{cover}

@@ -1,4 +1,4 @@
-use Rattle.std.proofs.Common.{◌≡◌, subst}
+use Rattle.std.proofs.Common.{subst}
 use Rattle.allsky_mosaic.specs.Tiles.{AreOfOrder3}
 use Rattle.pyramid_model.specs.Shape.{PyramidShape}
 use Rattle.generation.specs.Files.{leaf_map}

@@ -1,7 +1,6 @@
-use Rattle.std.proofs.Common.{◌≡◌, ℕ, List, ap, ◌∙◌, sym, subst}
+use Rattle.std.proofs.Common.{◌≡◌, ℕ, List, ap, ◌∙◌, subst}
 use Rattle.std.specs.Prelude.{All}
 use Rattle.pyramid_model.specs.Shape.{LeafMap}
-use Rattle.tile_pixels.specs.Tile.{PixelTile}
 use Rattle.leaf_store.specs.Store.{IsAscending, value_at}
 use Rattle.rebuild_worker.specs.Level.{NamedTile, merges_of, ShowsItsCell}
 use Rattle.rebuild_worker.specs.Shown.{all_shown}

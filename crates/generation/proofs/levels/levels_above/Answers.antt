@@ -1,11 +1,9 @@
-use Rattle.std.proofs.Common.{◌≡◌, ℕ, ◌+◌, [], ◌∷◌, ◌++◌, List, ap, ◌∙◌, sym, subst, arith, length, refl, get_or, slice_get, ◌-◌, ◌≤◌, ◌<◌}
-use Rattle.parent_rule.specs.Permit.{PermittedCell}
-use Rattle.tile_pixels.specs.Tile.{PixelTile}
+use Rattle.std.proofs.Common.{◌≡◌, ◌+◌, [], ◌∷◌, ap, ◌∙◌, sym, subst, arith, length, refl, get_or, slice_get, ◌-◌, ◌≤◌, ◌<◌}
 use Rattle.pyramid_model.specs.Shape.{IsShape}
 use Rattle.generation.specs.Files.{leaf_map}
 use Rattle.generation.specs.Kept.{tiles_of}
 use Rattle.generation.specs.Placed.{tiles_in, IsStep}
-use Rattle.generation.proofs.Chain.{Partly, Next, partly_none, partly_more, all_made, next_of, permits_above, children_are, children_shape, step_is, found_in}
+use Rattle.generation.proofs.Chain.{Partly, partly_none, partly_more, all_made, next_of, permits_above, children_are, children_shape, step_is, found_in}
 use Rattle.generation.proofs.levels.levels_above.Goals as goal
 
 pub loop-todo-init : goal.loop-todo-init

@@ -1,12 +1,10 @@
 use Rattle.std.proofs.Common.{◌≡◌, ◌++◌, [], ◌∷◌, List, ℕ, subst, sym, ap, ◌∙◌, append_assoc}
 use Rattle.std.specs.Arc.{arc_value}
 use Rattle.tile_pixels.specs.Tile.{PixelTile, IsTile}
-use Rattle.std.specs.List.Sorted.{IsStrictlySortedBy, IsStrictlyIncreasing}
-use Rattle.std.specs.Ordering.{nat_cmp}
+use Rattle.std.specs.List.Sorted.{IsStrictlyIncreasing}
 use Rattle.std.specs.Map.{keys_of}
 use Rattle.std.proofs.lemmas.List.{append-nil}
 use Rattle.std.proofs.lemmas.Map.Keys.{IsStrictlyIncreasing-from_sorted}
-use Rattle.edit_journal.specs.Leaves.{LeafTiles}
 use Rattle.generation.specs.Changes.{AreTiles}
 use Rattle.generation.proofs.Pyramids.{tiles_cons, tiles_nil}
 use Rattle.generation.proofs.pyramid.leaf_numbers.Goals as goal

@@ -1,9 +1,9 @@
-use Rattle.std.proofs.Common.{◌≡◌, ◌≤◌, ap, subst, arith}
+use Rattle.std.proofs.Common.{◌≡◌, ◌≤◌, subst, arith}
 use Rattle.edit_journal.specs.Journal.{journal_edits}
 use Rattle.edit_journal.specs.Leaves.{leaves_of}
-use Rattle.generation.specs.Changes.{AreLeavesOf, AreTiles}
+use Rattle.generation.specs.Changes.{AreLeavesOf}
 use Rattle.generation.specs.Steps.{edits_between, touched}
-use Rattle.generation.proofs.Edits.{Taken, taken_none, taken_more}
+use Rattle.generation.proofs.Edits.{taken_none, taken_more}
 use Rattle.generation.proofs.changes.Changes.of.Goals as goal
 
 pub loop-i-init : goal.loop-i-init

@@ -1,4 +1,4 @@
-use Rattle.std.proofs.Common.{◌≡◌, ℕ, ap, ◌∙◌, sym, Some, None, refl, option_map, Vec, Global}
+use Rattle.std.proofs.Common.{ℕ, ap, ◌∙◌, sym, Some, None, option_map, Vec, Global}
 use Rattle.std.specs.FinMap.{get}
 use Rattle.tile_path.specs.declared.path.Path.{Path}
 use Rattle.tile_path.specs.declared.path.Path.TheVariants.{Properties, Moc, Allsky}

@@ -1,9 +1,9 @@
-use Rattle.std.proofs.Common.{◌≡◌, ap, ◌∙◌, sym, subst, cond}
+use Rattle.std.proofs.Common.{ap, ◌∙◌, subst, cond}
 use Rattle.std.specs.Prelude.{IfSome, IsSome, slice_get}
 use Rattle.std.specs.FinMap.{get}
-use Rattle.tile_path.specs.Spelling.{IsPath, spelling}
+use Rattle.tile_path.specs.Spelling.{spelling}
 use Rattle.pyramid_model.specs.Shape.{PyramidShape}
-use Rattle.generation.specs.Files.{leaf_map, mosaic_paths, paths, paths_in, files_in}
+use Rattle.generation.specs.Files.{leaf_map, paths, paths_in, files_in}
 use Rattle.generation.specs.Generation.{GenerationContent}
 use Rattle.generation.proofs.FileLemmas.{mosaic_number, some_items, path_known}
 use Rattle.generation.proofs.generation.Generation.path.Goals as goal

@@ -8,7 +8,6 @@ use Rattle.tile_path.specs.declared.path.Path.TheVariants.{Tile}
 use Rattle.tile_path.specs.Spelling.{spelling}
 use Rattle.generation.specs.Files.{files_in}
 use Rattle.generation.specs.Generation.{GenerationContent}
-use Rattle.generation.specs.Served.{parts_bytes}
 use Rattle.generation.proofs.FileLemmas.{tile_kept, tile_absent}
 use Rattle.generation.proofs.Paths.{written_front}
 use Rattle.generation.proofs.generation.Generation.tile_body.Goals as goal

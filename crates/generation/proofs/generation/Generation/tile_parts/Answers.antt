@@ -1,8 +1,7 @@
-use Rattle.std.proofs.Common.{◌≡◌, ◌≤◌, ◌+◌, ap, ◌∙◌, arith, take, length}
+use Rattle.std.proofs.Common.{◌≡◌, ap, ◌∙◌}
 use Rattle.std.specs.Arc.{arc_value}
 use Rattle.std.specs.FinMap.{get}
-use Rattle.fits_header.specs.Cards.{whole_blocks}
-use Rattle.fits_tile.specs.TileFile.{data_len, tile_file}
+use Rattle.fits_tile.specs.TileFile.{tile_file}
 use Rattle.survey_conf.specs.Description.{Description}
 use Rattle.tile_path.specs.declared.path.Path.TheVariants.{Tile}
 use Rattle.tile_path.specs.Spelling.{spelling}
@@ -10,7 +9,6 @@ use Rattle.generation.specs.Files.{files_in}
 use Rattle.generation.specs.Generation.{GenerationContent}
 use Rattle.generation.specs.Served.{parts_bytes}
 use Rattle.generation.proofs.FileLemmas.{tile_kept, tile_absent}
-use Rattle.generation.proofs.Paths.{written_front}
 use Rattle.generation.proofs.generation.Generation.tile_parts.Goals as goal
 
 pub returns-in-Some-clause-file : goal.returns-in-Some-clause-file

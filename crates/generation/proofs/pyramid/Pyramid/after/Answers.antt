@@ -1,8 +1,6 @@
-use Rattle.std.proofs.Common.{◌≡◌, subst, sym, ap}
-use Rattle.std.specs.Prelude.{List, ℕ}
-use Rattle.tile_pixels.specs.Tile.{PixelTile}
+use Rattle.std.proofs.Common.{subst, sym}
 use Rattle.generation.specs.Files.{leaf_map}
-use Rattle.generation.specs.Kept.{AllKept, SameBut, levels_of}
+use Rattle.generation.specs.Kept.{AllKept, SameBut}
 use Rattle.generation.proofs.Pyramids.{fits_shape, kept_after}
 use Rattle.generation.proofs.pyramid.Pyramid.after.Goals as goal
 

@@ -1,4 +1,4 @@
-use Rattle.std.proofs.Common.{◌≡◌, ◌≤◌, ap, ◌∙◌, sym, arith, slice_get}
+use Rattle.std.proofs.Common.{◌≤◌, ap, ◌∙◌, sym, arith, slice_get}
 use Rattle.std.specs.Arc.{arc_value}
 use Rattle.generation.specs.Files.{leaf_map}
 use Rattle.generation.proofs.Paths.{cell_found, no_cell}

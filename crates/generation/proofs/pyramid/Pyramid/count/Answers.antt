@@ -1,5 +1,5 @@
-use Rattle.std.proofs.Common.{◌≡◌, ◌≤◌, ◌+◌, ◌-◌, ◌*◌, ap, ◌∙◌, sym, arith, length}
-use Rattle.generation.specs.Files.{leaf_map, tile_paths}
+use Rattle.std.proofs.Common.{◌≡◌, ◌≤◌, ◌-◌, ◌*◌, ap, ◌∙◌, arith}
+use Rattle.generation.specs.Files.{leaf_map}
 use Rattle.generation.specs.Kept.{PyramidContent}
 use Rattle.generation.proofs.Paths.{counted_more}
 use Rattle.generation.proofs.pyramid.Pyramid.count.Goals as goal

@@ -1,9 +1,7 @@
-use Rattle.std.proofs.Common.{◌≡◌, ◌≤◌, ◌<◌, List, ℕ, [], subst, sym, ap, ◌∙◌, refl}
+use Rattle.std.proofs.Common.{◌≤◌, ◌<◌, subst, sym, ◌∙◌}
 use Rattle.std.specs.Prelude.{All}
 use Rattle.healpix_nested.specs.Cells.{cell_count}
-use Rattle.dirty_plan.specs.Dirty.{steps_after, work}
-use Rattle.generation.specs.Files.{leaf_map}
-use Rattle.generation.specs.Kept.{AllKept}
+use Rattle.dirty_plan.specs.Dirty.{steps_after}
 use Rattle.generation.proofs.Pyramids.{fits_shape, kept_none, work_of_all}
 use Rattle.generation.proofs.pyramid.Pyramid.of.Goals as goal
 

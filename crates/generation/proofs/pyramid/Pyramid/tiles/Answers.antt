@@ -1,6 +1,5 @@
-use Rattle.std.proofs.Common.{◌≡◌, ◌≤◌, ◌<◌, ◌-◌, ℕ, List, subst, sym, ap, ◌∙◌, arith, get_or, length}
+use Rattle.std.proofs.Common.{◌≡◌, ◌≤◌, ◌<◌, ◌-◌, subst, sym, ap, ◌∙◌, arith, get_or, length}
 use Rattle.std.specs.Prelude.{IfSome, IsSome}
-use Rattle.tile_pixels.specs.Tile.{PixelTile}
 use Rattle.generation.specs.Files.{leaf_map}
 use Rattle.generation.specs.Kept.{PyramidContent, IsPyramid, tiles_of}
 use Rattle.generation.proofs.Orders.{leaves_are}
