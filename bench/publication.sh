@@ -10,6 +10,10 @@
 # Then the mosaic of 768 tiles of 512 by 512 pixels at 16 bits, by `whole` with one thread and with all, and by `patch` where
 # one tile was replaced, beside mosaic.c; and 65,536 edits of one leaf, of which each journal is kept.
 #
+# Then whole generations: of a full sky of order 3 made at once, with all processors and with one, and after 1, 64 and 256
+# leaves were replaced (a journal's charge lets no more of them be replaced); its files as they are handed out; and the same of
+# a field of 65,536 leaves of order 11. The goals are printed beside the times.
+#
 #   bench/publication.sh [RUNS]
 set -u
 here=$(cd "$(dirname "$0")" && pwd)
@@ -103,6 +107,30 @@ done
 # NANOSECONDS-FOR-EACH KILOBYTES
 awk 'NR == 1 || $1 < least { least = $1 } $2 > held { held = $2 }
     END { printf "65,536 edits of one leaf, each journal kept: %.3f s of processor time, at most %.0f MB held\n", least * 65536 / 1e9, held / 1000 }' "$work/journal-times"
+
+# ---- generations
+
+run=0
+while [ "$run" -lt "$runs" ]; do
+    got=$("$bench" generation full) || exit 1
+    echo "all $got" >>"$work/full-times"
+    # With one processor no thread is started.
+    got=$(taskset -c 0 "$bench" generation full) || exit 1
+    echo "one $got" >>"$work/full-times"
+    "$bench" generation deep >>"$work/deep-times" || exit 1
+    run=$((run + 1))
+done
+echo "a full sky of order 3, 768 leaves of 512 by 512, 16 bits:"
+awk -v processors="$(nproc)" '
+    # START NEXT-1 NEXT-64 NEXT-256 on the wall, TILE MOSAIC PROPERTIES of processor time for each call, BYTES
+    { for (i = 2; i < NF; i++) if (!(($1, i) in least) || $i < least[$1, i]) least[$1, i] = $i }
+    END {
+        printf "  start on the wall: %d processors %.1f ms, one %.1f, ratio %.2f (goal with 4: at least 2.5)\n", processors, least["all", 2] / 1e6, least["one", 2] / 1e6, least["one", 2] / least["all", 2]
+        printf "  next on the wall: one leaf %.2f ms (goal: under 10), 64 leaves %.1f, 256 leaves %.1f\n", least["all", 3] / 1e6, least["all", 4] / 1e6, least["all", 5] / 1e6
+        printf "  file_parts: a tile %.0f ns (goal: under 2,000), the mosaic %.0f, the properties %.0f\n", least["all", 6], least["all", 7], least["all", 8]
+    }' "$work/full-times"
+awk 'NR == 1 || $1 < start { start = $1 } NR == 1 || $2 < one { one = $2 }
+    END { printf "65,536 leaves of order 11, of 32 by 32: start %.1f ms, next of one leaf %.2f ms on the wall\n", start / 1e6, one / 1e6 }' "$work/deep-times"
 
 # ---- covers
 

@@ -11,6 +11,10 @@
 //!   numbers are those of bench/mosaic.c.
 //! - `cover COUNT APART` is `Cover::of` of so many leaves of order 11: the processor time for each leaf, then that of adding one
 //!   leaf more, and the number of rows.
+//! - `generation full` is a full sky of order 3, of 768 leaves of 512 by 512 numbers of 16 bits: the time by the clock on the
+//!   wall of `Generation::start`, and of `next` after 1, 64 and 256 leaves were replaced; the processor time of one `file_parts`
+//!   of a tile, of the mosaic and of the properties; and how many bytes these handed out.
+//! - `generation deep` is 65,536 leaves of order 11, of 32 by 32: the times of `start`, and of `next` after one leaf was replaced.
 //! - `journal COUNT` is so many edits of one leaf, where each journal on the way is kept: the processor time for each edit, and
 //!   the most kilobytes that the process held.
 #![tactic(auto)]
@@ -21,6 +25,8 @@ mod journal;
 mod level;
 mod merge;
 mod mosaic;
+mod publication;
+mod survey;
 mod tiles;
 
 use cover::time_cover;
@@ -30,11 +36,13 @@ use level::{LevelTimes, TILES, time_level};
 use merge::{time_halve, time_merge};
 use mosaic::{MosaicTimes, NUMBERS, time_mosaic};
 use parent_rule::Depth;
+use publication::{CALLS, FullTimes, time_deep, time_full};
 use std::{env, io};
 use tiles::{PIXELS, depth, sixteenths};
 
 const USAGE: &str = "survey_bench merge|halve|level|mosaic 8|16|32|64 mean|median none|some|half
 survey_bench cover COUNT APART
+survey_bench generation full|deep
 survey_bench journal COUNT";
 
 fn main(rt: HostRuntime) -> io::Result<()> {
@@ -68,11 +76,23 @@ fn main(rt: HostRuntime) -> io::Result<()> {
                 return of_leaves(&rt, count, apart);
             }
         }
-        [what, count] => {
-            if let ("journal", Ok(count)) = (what.as_str(), count.parse::<u32>()) {
-                return of_journals(&rt, count);
+        [what, of] => match (what.as_str(), of.as_str()) {
+            ("generation", "full") => {
+                let times = time_full(&rt, rt.alloc())?;
+                return print_full(&rt, times);
             }
-        }
+            ("generation", "deep") => {
+                let times = time_deep(&rt, rt.alloc())?;
+                println!(rt; "{} {}", times.start, times.one)?;
+                return Ok(());
+            }
+            ("journal", count) => {
+                if let Ok(count) = count.parse::<u32>() {
+                    return of_journals(&rt, count);
+                }
+            }
+            _ => {}
+        },
         _ => {}
     }
     println!(rt; "{USAGE}")?;
@@ -124,5 +144,18 @@ fn of_journals(rt: &HostRuntime, count: u32) -> io::Result<()> {
     let times = time_journal(rt, count)?;
     let edit = Hundredths::of(times.processor, u128::from(count.max(1)));
     println!(rt; "{edit} {}", times.held)?;
+    Ok(())
+}
+
+fn print_full(rt: &HostRuntime, times: FullTimes) -> io::Result<()> {
+    let calls = CALLS as u128;
+    let tile = Hundredths::of(times.tile, calls);
+    let mosaic = Hundredths::of(times.mosaic, calls);
+    let properties = Hundredths::of(times.properties, calls);
+    print!(rt;
+        "{} {} {} {} ",
+        times.start, times.one, times.many, times.most
+    )?;
+    println!(rt; "{tile} {mosaic} {properties} {}", times.bytes)?;
     Ok(())
 }

@@ -1,5 +1,5 @@
 //! Tiles of 512 by 512 numbers that a linear congruence gives; bench/tiles.h makes the same.
-ghost use Rattle.std.specs.Prelude.{◌≡◌, ◌*◌, ◌^◌, IfOk};
+ghost use Rattle.std.specs.Prelude.{◌≡◌, ◌*◌, ◌^◌, ◌≤◌, IfOk};
 ghost use Rattle.tile_pixels.specs.Tile.{HasShape};
 
 use parent_rule::{Combine, Depth, Steps};
@@ -50,11 +50,40 @@ pub fn depth(bits: &str, way: &str) -> Option<Depth> {
 pub fn child(alloc: Global, depth: Depth, blanks: u32, seed: u32) -> io::Result<Tile>
     ensures { IfOk result (λ tile. HasShape tile depth 9) }
 {
+    seeded(alloc, depth, N, blanks, seed)
+}
+
+/// The tile of a seed, of `2^n` columns and lines.
+///
+/// # Errors
+///
+/// Where there is no memory for it.
+pub fn seeded(alloc: Global, depth: Depth, n: u8, blanks: u32, seed: u32) -> io::Result<Tile>
+    requires least { 1 ≤ n }
+    requires greatest { n ≤ 9 }
+    ensures { IfOk result (λ tile. HasShape tile depth n) }
+{
     let width = depth.bytes();
+    let pixels = 4usize.pow(u32::from(n));
+    let raw = numbers(alloc, width, pixels, blanks, seed)?;
+    if raw.len() != pixels * width {
+        return Err(io::Error::from(ErrorKind::InvalidData));
+    }
+    Ok(Tile::from_bytes(alloc, &raw, depth, n, &mut Steps::new())?)
+}
+
+// The stored bytes of so many numbers, each so many bytes wide.
+fn numbers(
+    alloc: Global,
+    width: usize,
+    pixels: usize,
+    blanks: u32,
+    seed: u32,
+) -> io::Result<Vec<u8>> {
     let blank = if width == 1 { 255 } else { 128 };
-    let mut raw = Vec::with_capacity(alloc, PIXELS * 8)?;
+    let mut raw = Vec::with_capacity(alloc, pixels.saturating_mul(width))?;
     let mut state = seed;
-    for _ in 0..PIXELS {
+    for _ in 0..pixels {
         state = state.wrapping_mul(1664525).wrapping_add(1013904223);
         let is_blank = state >> 28 < blanks;
         for place in 0..width {
@@ -69,10 +98,7 @@ pub fn child(alloc: Global, depth: Depth, blanks: u32, seed: u32) -> io::Result<
             raw.push(byte)?;
         }
     }
-    if raw.len() != 4usize.pow(u32::from(N)) * width {
-        return Err(io::Error::from(ErrorKind::InvalidData));
-    }
-    Ok(Tile::from_bytes(alloc, &raw, depth, N, &mut Steps::new())?)
+    Ok(raw)
 }
 
 /// A tile of two columns and two lines of 16 bits.

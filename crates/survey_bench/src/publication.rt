@@ -1,0 +1,224 @@
+//! A generation made at once, the next one after some leaves were replaced, and the files of it.
+ghost use Rattle.std.specs.Prelude.{◌≡◌, IfOk};
+ghost use Rattle.std.specs.Arc.{arc_value};
+ghost use Rattle.edit_journal.specs.Leaves.{FitsLeaves};
+
+use crate::survey::{DEEP, FULL, described, first_leaves, journal_of, replaced};
+use edit_journal::Journal;
+use generation::Generation;
+use healpix_nested::Cell;
+use leaf_store::Store;
+use parent_rule::Steps;
+use std::alloc::{AllocError, Global};
+use std::io;
+use std::sync::Arc;
+use std::thread::Threads;
+use std::time::{Clock, CpuClock, Instant};
+use survey_conf::Conf;
+use survey_link::OpenGate;
+use tile_path::Path;
+use tile_pixels::Tile;
+
+const ROUNDS: u32 = 5;
+
+const FULL_LEAVES: u64 = 768;
+
+const DEEP_LEAVES: u64 = 65536;
+
+/// How many times a file is asked for.
+pub const CALLS: usize = 65536;
+
+/// The least nanoseconds of a full sky: by the clock on the wall of the generation made at once, and of the next one after
+/// 1, 64 and 256 leaves were replaced; of processor time of so many calls for a tile, the mosaic and the properties; and how
+/// many bytes these have together.
+#[derive(Drop)]
+pub struct FullTimes {
+    pub start: u128,
+    pub one: u128,
+    pub many: u128,
+    pub most: u128,
+    pub tile: u128,
+    pub mosaic: u128,
+    pub properties: u128,
+    pub bytes: u64,
+}
+
+/// The same of a deep field: made at once, and after one leaf was replaced.
+#[derive(Drop)]
+pub struct DeepTimes {
+    pub start: u128,
+    pub one: u128,
+}
+
+/// Times a full sky of order 3, of 768 leaves of 512 by 512. The leaves that are replaced lie as far apart as they can; more
+/// than 256 of them a journal doesn't take.
+///
+/// # Errors
+///
+/// Where there is no memory, or no clock.
+pub fn time_full<R: Clock + CpuClock + Threads + Sync>(
+    rt: &R,
+    alloc: Global,
+) -> io::Result<FullTimes> {
+    let conf = described(alloc, FULL)?;
+    let leaves = first_leaves(alloc, conf.shape(), FULL_LEAVES)?;
+    let start = time_start(rt, alloc, &conf, &leaves)?;
+    let generation = started(rt, alloc, &conf, &leaves)?;
+    let (tile, of_tile) = time_files(rt, &generation, &tile_paths(alloc)?)?;
+    let allsky = same_path(alloc, Path::Allsky)?;
+    let (mosaic, of_mosaic) = time_files(rt, &generation, &allsky)?;
+    let described = same_path(alloc, Path::Properties)?;
+    let (properties, of_properties) = time_files(rt, &generation, &described)?;
+    Ok(FullTimes {
+        start,
+        one: time_next(rt, alloc, &generation, 1)?,
+        many: time_next(rt, alloc, &generation, 64)?,
+        most: time_next(rt, alloc, &generation, 256)?,
+        tile,
+        mosaic,
+        properties,
+        bytes: of_tile.wrapping_add(of_mosaic).wrapping_add(of_properties),
+    })
+}
+
+/// Times 65,536 leaves of order 11, of 32 by 32.
+///
+/// # Errors
+///
+/// Where there is no memory, or no clock.
+pub fn time_deep<R: Clock + Threads + Sync>(rt: &R, alloc: Global) -> io::Result<DeepTimes> {
+    let conf = described(alloc, DEEP)?;
+    let leaves = first_leaves(alloc, conf.shape(), DEEP_LEAVES)?;
+    let start = time_start(rt, alloc, &conf, &leaves)?;
+    let generation = started(rt, alloc, &conf, &leaves)?;
+    let one = time_next(rt, alloc, &generation, 1)?;
+    Ok(DeepTimes { start, one })
+}
+
+// The least nanoseconds of the generation of these leaves.
+fn time_start<R: Clock + Threads + Sync>(
+    rt: &R,
+    alloc: Global,
+    conf: &Arc<Conf>,
+    leaves: &Store<Tile>,
+) -> io::Result<u128>
+    requires { FitsLeaves (arc_value conf.now).shape leaves.now }
+{
+    let mut least = u128::MAX;
+    for _ in 0..ROUNDS {
+        let start = Instant::now(rt)?;
+        let made = started(rt, alloc, conf, leaves)?;
+        least = least.min(start.elapsed(rt)?.as_nanos());
+        drop(made);
+    }
+    Ok(least)
+}
+
+// The generation of these leaves.
+fn started<R: Threads + Sync>(
+    rt: &R,
+    alloc: Global,
+    conf: &Arc<Conf>,
+    leaves: &Store<Tile>,
+) -> io::Result<Generation>
+    requires { FitsLeaves (arc_value conf.now).shape leaves.now }
+    ensures { IfOk result (λ made. made.prefix ≡ 0) }
+{
+    let leaves = leaves.share()?;
+    let conf = conf.clone()?;
+    let made = Generation::start(rt, alloc, conf, leaves, &OpenGate::new(), &mut Steps::new())?;
+    Ok(made)
+}
+
+// The least nanoseconds of the next generation after so many of the 768 leaves were replaced.
+fn time_next<R: Clock + Threads + Sync>(
+    rt: &R,
+    alloc: Global,
+    generation: &Generation,
+    count: u64,
+) -> io::Result<u128>
+    requires { generation.now.prefix ≡ 0 }
+{
+    let journal = replaced(
+        alloc,
+        journal_of(alloc, generation)?,
+        count,
+        FULL_LEAVES / count.max(1),
+    )?;
+    let mut least = u128::MAX;
+    for _ in 0..ROUNDS {
+        let start = Instant::now(rt)?;
+        let next = next_of(rt, generation, &journal)?;
+        least = least.min(start.elapsed(rt)?.as_nanos());
+        drop(next);
+    }
+    Ok(least)
+}
+
+// The generation after all edits of a journal of its leaves.
+#[tactic(auto, unfolding(edit_journal::specs::Leaves::leaves_of))]
+fn next_of<R: Threads + Sync>(
+    rt: &R,
+    generation: &Generation,
+    journal: &Journal,
+) -> io::Result<Generation>
+    requires prefix { generation.now.prefix ≡ 0 }
+    requires shape { journal.now.shape ≡ generation.now.conf.shape }
+    requires opening { journal.now.opening ≡ generation.now.leaves }
+{
+    let next = generation.next(
+        rt,
+        journal,
+        journal.len(),
+        &OpenGate::new(),
+        &mut Steps::new(),
+    )?;
+    Ok(next)
+}
+
+// The least nanoseconds of asking for the parts of these files, one after another, and how many bytes were handed out.
+fn time_files<R: CpuClock>(
+    rt: &R,
+    generation: &Generation,
+    paths: &[Path],
+) -> io::Result<(u128, u64)> {
+    let mut least = u128::MAX;
+    let mut bytes = 0;
+    for _ in 0..ROUNDS {
+        let start = rt.process_cpu_time()?;
+        bytes = bytes_of(generation, paths);
+        let end = rt.process_cpu_time()?;
+        least = least.min(end.as_nanos().saturating_sub(start.as_nanos()));
+    }
+    Ok((least, bytes))
+}
+
+fn bytes_of(generation: &Generation, paths: &[Path]) -> u64 {
+    let mut out = [0; 2880];
+    let mut bytes = 0u64;
+    for path in paths {
+        if let Some(parts) = generation.file_parts(path, &mut out) {
+            let len = parts.front + parts.kept.len() + parts.zeros.len();
+            bytes = bytes.wrapping_add(len as u64);
+        }
+    }
+    bytes
+}
+
+// The paths of the leaf tiles, over and over.
+fn tile_paths(alloc: Global) -> Result<Vec<Path>, AllocError> {
+    let mut paths = Vec::with_capacity(alloc, CALLS)?;
+    for i in 0..CALLS {
+        if let Some(cell) = Cell::new(3, i as u64 % FULL_LEAVES) {
+            paths.push(Path::Tile(cell))?;
+        }
+    }
+    Ok(paths)
+}
+
+// One path over and over.
+fn same_path(alloc: Global, path: Path) -> Result<Vec<Path>, AllocError> {
+    let mut paths = Vec::new(alloc);
+    paths.resize(CALLS, path)?;
+    Ok(paths)
+}
