@@ -19,6 +19,9 @@ use tile_pixels::Tile;
 // Where more leaves come or go at once, the cover is made of all leaves.
 const MOST_STEPS: usize = 64;
 
+// How many rows are copied in the time that a cover of all leaves takes for one of them.
+const ROWS_A_LEAF: usize = 4;
+
 /// The cover of a survey's leaves, and its file, which contracts leave out: the cover says what it is.
 #[derive(Drop)]
 pub(crate) struct Coverage {
@@ -87,7 +90,8 @@ pub(crate) fn coverage_after(
     let moved = moved(alloc, old, leaves, touched)?;
     match moved.split_first() {
         None => Ok(coverage.clone()?),
-        Some((first, rest)) if rest.len() < MOST_STEPS => {
+        Some((first, rest))
+            if is_stepwise_faster(moved.len(), coverage.cover.len(), leaves.len()) => {
             let cover = stepwise(alloc, top, &coverage.cover, leaves, *first, rest)?;
             let coverage = Coverage::of_cover(alloc, top, cover)?;
             Ok(Arc::new(alloc, coverage)?)
@@ -97,6 +101,11 @@ pub(crate) fn coverage_after(
             Ok(Arc::new(alloc, coverage)?)
         }
     }
+}
+
+// Whether so many steps, each of which copies the rows, take less time than a cover of all leaves.
+fn is_stepwise_faster(steps: usize, rows: usize, leaves: usize) -> bool {
+    steps <= MOST_STEPS && steps.saturating_mul(rows) <= leaves.saturating_mul(ROWS_A_LEAF)
 }
 
 // The touched leaves that came or went.

@@ -130,10 +130,11 @@ impl Random {
     }
 }
 
-const EDITS: u32 = 243;
+const EDITS: u32 = 101;
 
-// How many of them each generation has: from one to the next it is so few and so many.
-static PREFIXES: [u32; 6] = [1, 3, 9, 27, 81, EDITS];
+// How many of them each generation has: from one to the next few and many. Edit 82 takes one of four siblings out, and
+// edit 101 puts it in again.
+static PREFIXES: [u32; 8] = [1, 3, 9, 27, 81, 82, 100, EDITS];
 
 // The journal of edits that look random, of a survey without leaves.
 fn any_journal(alloc: Global, shape: Shape) -> Result<Journal, Fail> {

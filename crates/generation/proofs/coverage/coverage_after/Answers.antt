@@ -26,9 +26,9 @@ stepwise-requires-clause-cells c =
 pub returns-in-Some : goal.returns-in-Some
 returns-in-Some c =
     let moved = sym c.in_ok-moved.ensures ∙ sym c.deref.ensures.value ∙ c.in-Some.ensures.cases.0 in
-    let inside : c.behind-coverage.inside.cover ≡ c.deref-in-Some.result.now = cc in
-    let was : c.behind-coverage.inside.cover.rows ≡ cover c.args.top (keys_of c.args.old.now) =
-    ap (λ (kept : MocCover). kept.rows) (inside ∙ c.deref-in-Some.ensures ∙ c.requires.old) in
+    let inside : c.behind-coverage-in-Some.inside.cover ≡ arc_value c.args.coverage.now = cc in
+    let was : c.behind-coverage-in-Some.inside.cover.rows ≡ cover c.args.top (keys_of c.args.old.now) =
+    ap (λ (kept : MocCover). kept.rows) (inside ∙ c.requires.old) in
     let rows : c.in_ok-cover-in-Some.cover.rows ≡ cover c.args.top (keys_of c.args.leaves.now) =
     c.in_ok-cover-in-Some.ensures.rows (keys_of c.args.old.now) was
     ∙ ap (λ (found : List ℕ). cover c.args.top (all_as_in c.args.leaves.now (keys_of c.args.old.now) found)) (sym moved)
