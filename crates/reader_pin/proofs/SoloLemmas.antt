@@ -27,7 +27,8 @@ use Rattle.reader_pin.specs.Answers.{Accepts, AcceptsAll, IsRefused, AreRefused,
 use Rattle.reader_pin.specs.Next.{FollowsEdit, FollowsBatch, TellsRefusedEdit, TellsRefusedBatch}
 use Rattle.dirty_plan.specs.Dirty.{work}
 use Rattle.generation.specs.Steps.{touched}
-use Rattle.reader_pin.specs.Solo.{opened, after_event, held_behind, first_batches, mark_of, marked, all_marked, held_of, solo_content, IsOfSurvey, IsSolo, IsAlone}
+use Rattle.reader_pin.specs.Held.{held_behind}
+use Rattle.reader_pin.specs.Solo.{opened, after_event, first_batches, mark_of, marked, all_marked, held_of, solo_content, IsOfSurvey, IsSolo, IsAlone}
 
 -- no batch is empty
 abbrev AreSome : List (List LeafEdit) → Type 0
@@ -118,7 +119,7 @@ behind P [] ys all = all
 behind P (x ∷ xs) ys all = behind P xs ys (All-tail P x (xs ++ ys) all)
 
 -- the states after it
-history-more : (last next : StateContent) (marks : List Mark) (held : Held) → IsSolo last marks held → IsState next → IsStep last.opening (survey_state last) (survey_state next) →
+history-more : (last next : StateContent) (marks : List Mark) (held : Held StateContent) → IsSolo last marks held → IsState next → IsStep last.opening (survey_state last) (survey_state next) →
     all_marked next.batches (marks ++ mark_of next ∷ []) ≡ all_marked last.batches marks ++ survey_state next ∷ []
 history-more last next marks held is state step =
     let front : Begins last.batches next.batches = (step_precedes last.opening (survey_state last) (survey_state next) step).batches in
@@ -128,7 +129,7 @@ history-more last next marks held is state step =
     ∙ (ap (λ (s : SurveyState). all_marked next.batches marks ++ s ∷ []) (marked-last next) ∙ ap (λ (ss : List SurveyState). ss ++ survey_state next ∷ []) same)
 
 -- what is true of what is kept then
-pub goes_on : (last next : StateContent) (marks : List Mark) (held after : Held) → IsSolo last marks held → IsState next → next.opening ≡ last.opening →
+pub goes_on : (last next : StateContent) (marks : List Mark) (held after : Held StateContent) → IsSolo last marks held → IsState next → next.opening ≡ last.opening →
     IsStep last.opening (survey_state last) (survey_state next) → IsOfSurvey next after → IsSolo next (marks ++ mark_of next ∷ []) after
 goes_on last next marks held after is state opening step survey =
     let states : List SurveyState = all_marked last.batches marks in
@@ -156,7 +157,7 @@ places-more count some =
     ap (range_with_len 1) before ∙ (range-more 1 (count - 1) ∙ ap (λ (p : ℕ). range_with_len 1 (count - 1) ++ p ∷ []) place)
 
 -- what contracts see then
-pub content_goes_on : (last next : StateContent) (marks : List Mark) (held after : Held) → IsSolo last marks held → IsState next → next.conf ≡ last.conf → next.opening ≡ last.opening →
+pub content_goes_on : (last next : StateContent) (marks : List Mark) (held after : Held StateContent) → IsSolo last marks held → IsState next → next.conf ≡ last.conf → next.opening ≡ last.opening →
     IsStep last.opening (survey_state last) (survey_state next) → held_of next after ≡ held_of last held →
     solo_content next (marks ++ mark_of next ∷ []) after ≡ after_event (survey_state next) (solo_content last marks held)
 content_goes_on last next marks held after is state conf opening step kept =
@@ -170,22 +171,22 @@ content_goes_on last next marks held after is state conf opening step kept =
     rw (history, own, kept, conf, opening) refl
 
 -- what is held stays
-held-behind : (last next : StateContent) (held : Held) → held_of next (held_behind last held) ≡ held_of last held
+held-behind : (last next : StateContent) (held : Held StateContent) → held_of next (held_behind last held) ≡ held_of last held
 held-behind last next Nothing = refl
 held-behind last next Last = refl
 held-behind last next (Earlier state) = refl
 
-survey-behind : (last next : StateContent) (held : Held) → next.conf ≡ last.conf → next.opening ≡ last.opening → IsOfSurvey last held → IsOfSurvey next (held_behind last held)
+survey-behind : (last next : StateContent) (held : Held StateContent) → next.conf ≡ last.conf → next.opening ≡ last.opening → IsOfSurvey last held → IsOfSurvey next (held_behind last held)
 survey-behind last next Nothing conf opening survey = tt
 survey-behind last next Last conf opening survey = (sym conf, sym opening)
 survey-behind last next (Earlier state) conf opening survey = (survey.0 ∙ sym conf, survey.1 ∙ sym opening)
 
 -- an event of a board that is kept so
-pub record Went (last next : StateContent) (marks : List Mark) (held : Held) (board : BoardContent) : Type 0 where
+pub record Went (last next : StateContent) (marks : List Mark) (held : Held StateContent) (board : BoardContent) : Type 0 where
   pub solo : IsSolo next (marks ++ mark_of next ∷ []) (held_behind last held)
   pub content : solo_content next (marks ++ mark_of next ∷ []) (held_behind last held) ≡ after_event (survey_state next) board
 
-pub went : (last next : StateContent) (marks : List Mark) (held : Held) (board : BoardContent) → solo_content last marks held ≡ board → IsSolo last marks held → IsState next →
+pub went : (last next : StateContent) (marks : List Mark) (held : Held StateContent) (board : BoardContent) → solo_content last marks held ≡ board → IsSolo last marks held → IsState next →
     next.conf ≡ board.conf → next.opening ≡ board.opening → IsStep board.opening (last_seen board) (survey_state next) → Went last next marks held board
 went last next marks held board is solo state conf opening step =
     let conf' : next.conf ≡ last.conf = conf ∙ sym (ap (λ (b : BoardContent). b.conf) is) in
@@ -244,7 +245,7 @@ pub stays : (old new : BoardContent) → new ≡ old → IsHistory old.opening o
 stays old new is legal = subst (λ (b : BoardContent). Stays old b) (sym is) (let same : Stays old old = record { conf = refl; opening = refl; legal = legal; earlier = begins_itself old.history; own = refl; held = refl } in same)
 
 -- every step was its own event
-pub alone : (last : StateContent) (marks : List Mark) (held : Held) (board : BoardContent) → solo_content last marks held ≡ board → IsAlone board
+pub alone : (last : StateContent) (marks : List Mark) (held : Held StateContent) (board : BoardContent) → solo_content last marks held ≡ board → IsAlone board
 alone last marks held board is = subst IsAlone is (ap (λ (n : ℕ). range_with_len 1 (n - 1)) (sym (length-all_marked last.batches marks)))
 
 -- ---- what it answers

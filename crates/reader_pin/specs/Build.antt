@@ -1,5 +1,5 @@
 -- What is built for a publication: the generation of all edits of a state.
-use Rattle.std.specs.Prelude.{◌≡◌, ℕ, ◌≤◌, length, take, IfOk}
+use Rattle.std.specs.Prelude.{◌≡◌, ℕ, ◌≤◌, length, take, Option, Some, None, IfOk}
 use Rattle.dirty_plan.specs.Dirty.{work, steps_after}
 use Rattle.edit_journal.specs.Leaves.{leaves_of}
 use Rattle.generation.specs.Generation.{GenerationContent}
@@ -23,3 +23,8 @@ pub record Builds (state : StateContent) (before : ℕ) (built : Built) : Type 0
   pub generation : IfOk built.generation (λ generation. generation ≡ whole_generation state)
   pub steps : built.steps ≤ steps_after before (build_work state)
   pub never_falls : before ≤ built.steps
+
+-- that generation; or none, where all edits are published
+abbrev pub BuildsAll : StateContent → Option GenerationContent → Type 0
+BuildsAll state (Some generation) = generation ≡ whole_generation state
+BuildsAll state None = state.tip ≡ length (state_edits state)

@@ -1,8 +1,10 @@
 -- The state after an event.
-use Rattle.std.specs.Prelude.{◌≡◌, ℕ, List, [], ◌∷◌, length, not}
+use Rattle.std.specs.Prelude.{◌≡◌, ℕ, ◌<◌, List, [], ◌∷◌, length, take, not, Contains}
 use Rattle.edit_journal.specs.Edit.{LeafEdit, leaf_of}
 use Rattle.edit_journal.specs.Leaves.{leaves_of}
 use Rattle.edit_journal.specs.Faults.{has_leaf}
+use Rattle.edit_journal.specs.Batches.{ends}
+use Rattle.generation.specs.Generation.{GenerationContent}
 use Rattle.survey_core.specs.History.{SurveyState, AppendsBatch}
 use Rattle.survey_core.specs.State.{StateContent, state_edits, survey_state}
 use Rattle.reader_pin.specs.declared.answer.Accepted.{Accepted}
@@ -37,3 +39,10 @@ TellsRefusedEdit edit last OutOfMemory = Unit {0}
 abbrev pub TellsRefusedBatch : List LeafEdit → StateContent → BoardBatch → Type 0
 TellsRefusedBatch batch last (Faulty at fault edits) = AreRefused last.opening batch (record { at = at; fault = fault }) edits (survey_state last)
 TellsRefusedBatch batch last NoMemory = Unit {0}
+
+-- the generation of a longer prefix of the state's edits than the published one, which an end of its batches bounds
+pub record IsPublishable (last : StateContent) (generation : GenerationContent) : Type 0 where
+  pub conf : generation.conf ≡ last.conf
+  pub rises : last.tip < generation.prefix
+  pub whole : Contains (ends last.batches) generation.prefix
+  pub leaves : generation.leaves ≡ leaves_of last.opening (take generation.prefix (state_edits last))

@@ -42,18 +42,12 @@ unfoldable pub all_marked : List (List LeafEdit) → List Mark → List SurveySt
 all_marked batches marks = map (marked batches) marks
 
 -- the state that is held
-abbrev pub held_of : StateContent → Held → Option SurveyState
+abbrev pub held_of : StateContent → Held StateContent → Option SurveyState
 held_of last Nothing = None
 held_of last Last = Some (survey_state last)
 held_of last (Earlier state) = Some (survey_state state)
 
--- what is held once that state isn't the last any more
-abbrev pub held_behind : StateContent → Held → Held
-held_behind last Nothing = Nothing
-held_behind last Last = Earlier last
-held_behind last (Earlier state) = Earlier state
-
-abbrev pub solo_content : StateContent → List Mark → Held → BoardContent
+abbrev pub solo_content : StateContent → List Mark → Held StateContent → BoardContent
 solo_content last marks held = record {
   conf = last.conf;
   opening = last.opening;
@@ -63,13 +57,13 @@ solo_content last marks held = record {
 }
 
 -- the state that is held is one of the same survey
-abbrev pub IsOfSurvey : StateContent → Held → Type 0
+abbrev pub IsOfSurvey : StateContent → Held StateContent → Type 0
 IsOfSurvey last Nothing = Unit {0}
 IsOfSurvey last Last = Unit {0}
 IsOfSurvey last (Earlier state) = (state.conf ≡ last.conf) × (state.opening ≡ last.opening)
 
 -- what is true of what it keeps
-pub record IsSolo (last : StateContent) (marks : List Mark) (held : Held) : Type 0 where
+pub record IsSolo (last : StateContent) (marks : List Mark) (held : Held StateContent) : Type 0 where
   pub legal : IsHistory last.opening (all_marked last.batches marks)
   pub known : All (λ mark. mark.edits ≤ length (state_edits last)) marks
   pub latest : last_of (all_marked last.batches marks) ≡ survey_state last

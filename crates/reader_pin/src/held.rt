@@ -1,21 +1,19 @@
 //! The state that a board holds.
 ghost use Rattle.std.specs.Prelude.{◌≡◌};
 
-use survey_core::State;
-
 /// None, the last state seen, or one before it. A state that is the last one is kept once.
 #[derive(Drop)]
-pub(crate) enum Held {
+pub(crate) enum Held<S: Drop> {
     Nothing,
     Last,
-    Earlier(State),
+    Earlier(S),
 }
 
-impl Held {
-    ghost use Rattle.reader_pin.specs.Solo.{held_behind};
+impl<S: Drop> Held<S> {
+    ghost use Rattle.reader_pin.specs.Held.{held_behind};
 
     /// What is held once that state isn't the last one any more.
-    pub(crate) fn behind(self, last: State) -> Held
+    pub(crate) fn behind(self, last: S) -> Held<S>
         ensures { result ≡ held_behind last self }
     {
         match self {

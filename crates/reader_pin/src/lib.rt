@@ -1,7 +1,7 @@
 //! Boards: what a connection sees of a survey, and how it changes it.
 //!
 //! A `Board` shows a history of states, the last of them, and one that it holds; edits and publications are steps of that
-//! history. `Solo` is the board of a survey that nobody else changes.
+//! history. `Solo` is the board of a survey that nobody else changes, `Shared` that of one which several connections share.
 #![tactic(auto)]
 
 mod answer;
@@ -11,11 +11,18 @@ mod held;
 pub mod laws;
 mod mark;
 mod next;
+mod shared;
+#[cfg(test)]
+mod shared_tests;
+mod sight;
 mod solo;
+mod survey;
 #[cfg(test)]
 mod tests;
 
 pub use answer::{Accepted, BoardBatch, BoardRefusal, Published};
 pub use board::Board;
 pub use build::Built;
+pub use shared::Shared;
 pub use solo::Solo;
+pub use survey::{SeenSurvey, Survey, SurveyBook, SurveyLaw, SurveySeat, open_shared};

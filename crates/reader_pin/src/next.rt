@@ -5,7 +5,7 @@ ghost use Rattle.edit_journal.specs.Leaves.{FitsEdit};
 ghost use Rattle.survey_core.specs.State.{state_edits};
 ghost use Rattle.reader_pin.specs.Board.{Publishes};
 ghost use Rattle.reader_pin.specs.Build.{whole_generation};
-ghost use Rattle.reader_pin.specs.Next.{Follows, FollowsEdit, FollowsBatch, TellsRefusedEdit, TellsRefusedBatch};
+ghost use Rattle.reader_pin.specs.Next.{Follows, IsPublishable, FollowsEdit, FollowsBatch, TellsRefusedEdit, TellsRefusedBatch};
 
 use crate::answer::{Accepted, BoardBatch, BoardRefusal};
 use edit_journal::{BatchRefusal, Edit, EditRefusal};
@@ -66,6 +66,18 @@ pub(crate) fn after_generation(
     ensures { IfOk result (Follows (Publishes (length (state_edits last.now))) last.now) }
 {
     let _edits = last.edits();
+    after_prefix(alloc, last, generation)
+}
+
+/// The state with the generation of a longer prefix of its edits published.
+pub(crate) fn after_prefix(
+    alloc: Global,
+    last: &State,
+    generation: Generation,
+) -> Result<State, AllocError>
+    requires { IsPublishable last.now generation }
+    ensures { IfOk result (Follows (Publishes generation.prefix) last.now) }
+{
     match last.install(Arc::new(alloc, generation)?) {
         Ok(next) => Ok(next),
         Err(InstallRefusal::OutOfMemory) => Err(AllocError),

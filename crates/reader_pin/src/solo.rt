@@ -32,7 +32,7 @@ pub struct Solo {
     alloc: Global,
     last: State,
     seen: Vec<Mark>,
-    held: Held,
+    held: Held<State>,
 }
 
 impl Model for Solo {

@@ -1,5 +1,5 @@
 //! A survey through the board of its only connection.
-ghost use Rattle.std.specs.Prelude.{map, All, IsTrue};
+ghost use Rattle.std.specs.Prelude.{◌≡◌, [], map, All, IfOk, IsTrue};
 ghost use Rattle.edit_journal.specs.Edit.{edit_of};
 ghost use Rattle.edit_journal.specs.Leaves.{FitsEdit};
 
@@ -29,8 +29,10 @@ survey_bitpix = 16
 survey_blank = -32768
 ";
 
-// The board of the survey, which has no leaf yet.
-fn opened<R: Threads + Sync>(rt: &R, alloc: Global) -> Result<Solo, Fail> {
+// The first state of the survey, which has no leaf yet.
+pub(crate) fn first_state<R: Threads + Sync>(rt: &R, alloc: Global) -> Result<State, Fail>
+    ensures { IfOk result (λ state. state.batches ≡ []) }
+{
     let conf = Arc::new(alloc, Conf::read(alloc, SURVEY.as_bytes())?)?;
     let gate = OpenGate::new();
     let generation = Generation::start(
@@ -41,12 +43,11 @@ fn opened<R: Threads + Sync>(rt: &R, alloc: Global) -> Result<Solo, Fail> {
         &gate,
         &mut Steps::new(),
     )?;
-    let state = State::start(alloc, Arc::new(alloc, generation)?)?;
-    Ok(Solo::new(alloc, state)?)
+    Ok(State::start(alloc, Arc::new(alloc, generation)?)?)
 }
 
 // A tile of two columns and two lines of 16 bits.
-fn tile(alloc: Global, depth: Depth) -> Result<Arc<Tile>, Fail> {
+pub(crate) fn tile(alloc: Global, depth: Depth) -> Result<Arc<Tile>, Fail> {
     if depth.bytes() != 2 {
         return Err("other tiles".into());
     }
@@ -55,7 +56,7 @@ fn tile(alloc: Global, depth: Depth) -> Result<Arc<Tile>, Fail> {
 }
 
 // The edit that a letter and a number stand for: P to put, A to add, R to replace, D to remove.
-fn edit(alloc: Global, depth: Depth, text: &str) -> Result<Edit, Fail> {
+pub(crate) fn edit(alloc: Global, depth: Depth, text: &str) -> Result<Edit, Fail> {
     let (letter, leaf) = text.split_once(' ').ok_or("no leaf")?;
     let leaf = leaf.parse::<u64>()?;
     let tile = tile(alloc, depth)?;
@@ -77,7 +78,7 @@ fn edits(alloc: Global, depth: Depth, text: &str) -> Result<Vec<Edit>, Fail> {
 }
 
 // Whether the edit fits the board's survey.
-fn fits<B: Board>(board: &B, edit: &Edit) -> bool
+pub(crate) fn fits<B: Board>(board: &B, edit: &Edit) -> bool
     ensures { IsTrue result → FitsEdit (B.content board.now).conf.shape (edit_of edit.now) }
 {
     let shape = board.last().conf().shape();
@@ -156,7 +157,7 @@ fn told_of_publication<B: Board, R: Threads + Wait + Sync>(
 }
 
 // What it answers to a call by its word.
-fn told<B: Board, R: Threads + Wait + Sync>(
+pub(crate) fn told<B: Board, R: Threads + Wait + Sync>(
     rt: &R,
     alloc: Global,
     board: &mut B,
@@ -182,7 +183,7 @@ fn told<B: Board, R: Threads + Wait + Sync>(
 }
 
 // How many edits a state has, how many of them are published, and how many leaves these leave.
-fn shown(alloc: Global, state: Option<&State>) -> Result<String, AllocError> {
+pub(crate) fn shown(alloc: Global, state: Option<&State>) -> Result<String, AllocError> {
     match state {
         Some(state) => {
             let leaves = state.generation().leaves().len();
@@ -219,7 +220,7 @@ publish||already 7 by 0|7 7 2|none";
 #[test]
 fn a_survey_has_one_board(rt: HostRuntime) -> Result<(), Fail> {
     let alloc = rt.alloc();
-    let mut board = opened(&rt, alloc)?;
+    let mut board = Solo::new(alloc, first_state(&rt, alloc)?)?;
     for line in CALLS.lines() {
         let (word, rest) = line.split_once('|').ok_or("no word")?;
         let (rest, expected) = rest.split_once('|').ok_or("no answer")?;

@@ -1,5 +1,5 @@
 -- Beginnings of one list.
-use Rattle.std.proofs.Common.{◌≡◌, ℕ, ◌-◌, ◌≤◌, List, [], ◌∷◌, ◌++◌, length, slice_get, Some, refl, ap, subst, arith}
+use Rattle.std.proofs.Common.{◌≡◌, ◌-◌, ◌≤◌, List, [], ◌∷◌, length, slice_get, Some, refl, subst, arith}
 use mathlib.Core.List.{IsPrefix}
 use Rattle.shared_history.specs.Histories.{SeenHistory, IsSeenHistory}
 

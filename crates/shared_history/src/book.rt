@@ -3,7 +3,7 @@ ghost use Rattle.std.specs.Prelude.{◌≡◌, ◌+◌, ◌++◌, ◌∷◌, [],
 ghost use Rattle.shared_history.specs.Book.{head_of};
 
 use logbook::{Gain, Offer, Plain, Play, Rule, Seen, Start, Word};
-use std::marker::{Brand, PhantomData};
+use std::marker::{Brand, Model, PhantomData};
 
 /// Which histories of states of type `S` there may be.
 pub trait Law<S> {
@@ -73,12 +73,23 @@ impl<S> Plain<S, S, u64> for Add {
     ghost state = { λ state. None };
 }
 
-/// A book with an empty history, which has no name yet.
+/// A book with an empty history, which has no name yet. Contracts see which book it is.
+#[derive(Drop)]
 pub struct Blank<S, L: Law<S>> {
-    pub(crate) head: Word<S, u64, Kept<L>>,
-    pub(crate) seen: Seen<S, u64, Kept<L>>,
-    pub ghost empty: { seen.log ≡ [] },
-    pub ghost head_is: { head ≡ head_of seen.book },
+    head: Word<S, u64, Kept<L>>,
+    seen: Seen<S, u64, Kept<L>>,
+}
+
+impl<S, L: Law<S>> Model for Blank<S, L> {
+    ghost use Rattle.std.specs.Prelude.{◌≡◌, []};
+    ghost use Rattle.logbook.specs.Pages.{Book};
+    ghost use Rattle.shared_history.specs.Book.{head_of};
+
+    ghost Value = { Book };
+
+    ghost view = { λ b. b.seen.book };
+
+    ghost invariant = { λ b. (b.head ≡ head_of b.seen.book) × (b.seen.log ≡ []) };
 }
 
 impl<S, L: Law<S>> Blank<S, L> {
@@ -89,6 +100,16 @@ impl<S, L: Law<S>> Blank<S, L> {
             head: Word::tracked(0, &mut first),
             seen,
         }
+    }
+
+    /// Its word, and what is seen of it.
+    pub(crate) fn into_parts(self) -> (Word<S, u64, Kept<L>>, Seen<S, u64, Kept<L>>)
+        ensures head { result.0 ≡ head_of self }
+        ensures book { result.1.book ≡ self }
+        ensures empty { result.1.log ≡ [] }
+    {
+        let Blank { head, seen } = self;
+        (head, seen)
     }
 }
 

@@ -7,6 +7,7 @@ use crate::desk::Desk;
 use crate::seat::Seat;
 use crate::shown::{Showable, Shown};
 use std::alloc::{AllocError, Global};
+use std::mem::ManuallyDrop;
 use std::sync::{Arc, Mutex, MutexGuard, Wait};
 
 /// A history under its lock. It can't be dropped: end it by `close`.
@@ -14,7 +15,8 @@ pub struct SharedHistory<S: Drop, L: Law<S>, J: Naming>
 where
     Shown<S, L, J>: Showable,
 {
-    desk: Mutex<Desk<S, L, J>>,
+    // The writer within can't be dropped, and a guard's drop would be asked to.
+    desk: Mutex<ManuallyDrop<Desk<S, L, J>>>,
 }
 
 impl<S: Drop, L: Law<S>, J: Naming> SharedHistory<S, L, J>
@@ -22,14 +24,14 @@ where
     Shown<S, L, J>: Showable,
 {
     /// The desk, which nobody else has then. It waits until the desk is free.
-    pub fn lock<R: Wait>(&self, rt: &R) -> MutexGuard<'_, Desk<S, L, J>> {
+    pub fn lock<R: Wait>(&self, rt: &R) -> MutexGuard<'_, ManuallyDrop<Desk<S, L, J>>> {
         self.desk.lock(rt)
     }
 
     /// Ends it.
     pub fn close<R: Wait>(self, rt: &R) {
         let SharedHistory { desk } = self;
-        desk.into_inner().close(rt);
+        ManuallyDrop::into_inner(desk.into_inner()).close(rt);
     }
 }
 
@@ -48,20 +50,20 @@ impl<S: Drop, L: Law<S>> Blank<S, L> {
     ) -> Result<(SharedHistory<S, L, J>, Vec<Seat<S, L, J>>), AllocError>
     where
         Shown<S, L, J>: Showable,
-        requires book { self.seen.book ≡ J.book }
+        requires book { self ≡ J.book }
         requires legal { L.legal (first ∷ []) }
         requires some { 0 < seats }
         requires most { seats < 2 ^ 32 }
         ensures seats { IfOk result (λ opened. length opened.1.items ≡ seats) }
         ensures seen { IfOk result (λ opened. All (λ seat. seat ≡ one_state first) opened.1.items) }
     {
-        let Blank { head, seen } = self;
+        let (head, seen) = self.into_parts();
         let newest = Shown::begin(&head, seen, Arc::new(alloc, first)?)?;
         let desk = Desk::new(alloc, head, newest, seats)?;
         match desk.seats(seats) {
             Ok(taken) => Ok((
                 SharedHistory {
-                    desk: Mutex::new(desk),
+                    desk: Mutex::new(unsafe { ManuallyDrop::new_unchecked(desk) }),
                 },
                 taken,
             )),

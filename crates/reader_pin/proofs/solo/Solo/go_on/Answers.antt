@@ -2,7 +2,8 @@ use Rattle.std.proofs.Common.{◌≡◌, List, [], ◌∷◌, ◌++◌, ap, ◌�
 use Rattle.survey_core.specs.State.{StateContent}
 use Rattle.reader_pin.specs.declared.mark.Mark.{Mark}
 use Rattle.reader_pin.specs.declared.held.Held.{Held}
-use Rattle.reader_pin.specs.Solo.{mark_of, held_behind, solo_content}
+use Rattle.reader_pin.specs.Held.{held_behind}
+use Rattle.reader_pin.specs.Solo.{mark_of, solo_content}
 use Rattle.reader_pin.proofs.SoloLemmas.{went}
 use Rattle.reader_pin.proofs.solo.Solo.go_on.Goals as goal
 
@@ -22,7 +23,7 @@ returns-clause-went c =
     let held : c.behind.result ≡ held_behind c.self.inside.last c.self.inside.held = c.behind.ensures ∙ (ap (λ (s : StateContent). held_behind s c.replace-held.result) c.replace-last.ensures.value ∙ ap (held_behind c.self.inside.last) c.replace-held.ensures.value) in
     ap (λ (s : StateContent). solo_content s c.push.new.self.items c.behind.result) c.replace-last.ensures.after
     ∙ (ap (λ (marks : List Mark). solo_content c.args.next marks c.behind.result) items
-    ∙ (ap (λ (h : Held). solo_content c.args.next (seen ++ mark_of c.args.next ∷ []) h) held ∙ w.content))
+    ∙ (ap (λ (h : Held StateContent). solo_content c.args.next (seen ++ mark_of c.args.next ∷ []) h) held ∙ w.content))
 
 pub returns-clause-legal : goal.returns-clause-legal
 returns-clause-legal c =
