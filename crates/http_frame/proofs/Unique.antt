@@ -10,7 +10,7 @@ use Rattle.http_frame.specs.declared.request.Request.{Request}
 use Rattle.http_frame.specs.Request.{request_of}
 use Rattle.http_frame.specs.Target.{path_of}
 use Rattle.http_frame.specs.Refusal.{IsOneHead, IsAccepted, IsRefused, refusal_of}
-use Rattle.http_frame.specs.Next.{most_head, IsHeadLength, HasNoHead, IsCut, IsFound, IsTaken, IsRefusedNext, IsWhole, IsCutInBody, IsNext, Next, no_request, cut_request, refused_request, whole_request}
+use Rattle.http_frame.specs.Next.{most_head, IsHeadLength, HasNoHead, IsCut, IsFound, IsTaken, IsRefusedNext, IsWhole, IsCutInBody, IsNextHead, NextHead, ended, cut_off, refused, found, IsNext, Next, no_request, cut_request, refused_request, whole_request}
 
 abbrev value_or : ℕ → Option ℕ → ℕ
 value_or n None = n
@@ -166,3 +166,23 @@ one_next room bytes (whole_request asked path body rest) (refused_request code) 
 one_next room bytes (whole_request asked path body rest) (whole_request asked' path' body' rest') first second =
     let same = one_whole room bytes asked asked' path path' body body' rest rest' first second in
     rw (same.0, same.1, same.2, same.3) refl
+
+pub one_next_head : (room : ℕ) (bytes : List ℕ) (next next' : NextHead) → IsNextHead room bytes next → IsNextHead room bytes next' → next ≡ next'
+one_next_head room bytes ended ended first second = refl
+one_next_head room bytes ended cut_off first second = absurd (empty_or_cut room bytes first (inl second))
+one_next_head room bytes ended (refused code) first second = absurd (empty_or_refused room bytes code first second)
+one_next_head room bytes ended (found asked path rest) first second = absurd (not_empty bytes second.head_length second.ends first)
+one_next_head room bytes cut_off ended first second = absurd (empty_or_cut room bytes second (inl first))
+one_next_head room bytes cut_off cut_off first second = refl
+one_next_head room bytes cut_off (refused code) first second = absurd (refused_or_cut room bytes code second first)
+one_next_head room bytes cut_off (found asked path rest) first second = absurd (found_or_cut room bytes asked path rest second first)
+one_next_head room bytes (refused code) ended first second = absurd (empty_or_refused room bytes code second first)
+one_next_head room bytes (refused code) cut_off first second = absurd (refused_or_cut room bytes code first second)
+one_next_head room bytes (refused code) (refused code') first second = ap refused (one_refusal room bytes code code' first second)
+one_next_head room bytes (refused code) (found asked path rest) first second = absurd (found_or_refused room bytes asked path rest code second first)
+one_next_head room bytes (found asked path rest) ended first second = absurd (not_empty bytes first.head_length first.ends second)
+one_next_head room bytes (found asked path rest) cut_off first second = absurd (found_or_cut room bytes asked path rest first second)
+one_next_head room bytes (found asked path rest) (refused code) first second = absurd (found_or_refused room bytes asked path rest code first second)
+one_next_head room bytes (found asked path rest) (found asked' path' rest') first second =
+    let same = one_found room bytes asked asked' path path' rest rest' first second in
+    rw (same.0, same.1, same.2) refl

@@ -1,6 +1,6 @@
 //! What follows from the definitions: each law is the whole contract of its function.
 ghost use Rattle.std.specs.Prelude.{◌≤◌, ◌^◌};
-ghost use Rattle.http_frame.specs.Laws.{NextIsOne, SomeStands};
+ghost use Rattle.http_frame.specs.Laws.{NextIsOne, NextHeadIsOne, SomeStands};
 
 use crate::fill::{MAX_HEAD, head_length};
 use crate::head::read_head;
@@ -8,6 +8,11 @@ use crate::head::read_head;
 /// One thing stands next in the unread bytes of a connection, and no other.
 pub fn next_is_one()
     ensures { NextIsOne }
+{}
+
+/// One head, one refusal of a head or one end of the input stands next in the unread bytes of a connection, and no other.
+pub fn next_head_is_one()
+    ensures { NextHeadIsOne }
 {}
 
 /// Something stands next in the unread bytes of a connection, where a body may have `room` bytes: it is found by looking at
