@@ -1,0 +1,232 @@
+//! The bytes that the rows of the tables stand for.
+//!
+//! A row is the lines of a head with `;` between them, and behind a `|` the parts of a body with `&` between them. Each part
+//! is a word and what it takes.
+
+ghost use Rattle.std.specs.Prelude.{◌≤◌};
+
+use std::alloc::Global;
+use std::test::Fail;
+
+// The cards of each tile of a survey whose tiles have two columns and two lines of 16 bits, but for those of its cell.
+const TILE: &str = "SIMPLE  =                    T
+BITPIX  =                   16
+NAXIS   =                    2
+NAXIS1  =                    2
+NAXIS2  =                    2
+BSCALE  =                1.0E0
+BZERO   =                0.0E0
+BLANK   =               -32768
+";
+
+// The cards of the mosaic of such a survey.
+const MOSAIC: &str = "SIMPLE  =                    T
+BITPIX  =                   16
+NAXIS   =                    2
+NAXIS1  =                   54
+NAXIS2  =                   58
+BSCALE  =                1.0E0
+BZERO   =                0.0E0
+BLANK   =               -32768
+END";
+
+// The cards of a tile as an outside tool writes them, in two blocks.
+const OUTSIDE: &str = "SIMPLE  =                    T / conforms to FITS
+BITPIX  = 16
+NAXIS   = 2
+NAXIS1  = 2
+NAXIS2  = 2
+DATE    = '2024-05-01T00:00:00'
+BSCALE  = 1.0 / scale
+COMMENT   BLANK = 7
+COMMENT   BZERO = 1
+COMMENT 1\nCOMMENT 2\nCOMMENT 3\nCOMMENT 4\nCOMMENT 5\nCOMMENT 6\nCOMMENT 7\nCOMMENT 8\nCOMMENT 9
+COMMENT 1\nCOMMENT 2\nCOMMENT 3\nCOMMENT 4\nCOMMENT 5\nCOMMENT 6\nCOMMENT 7\nCOMMENT 8\nCOMMENT 9
+COMMENT 1\nCOMMENT 2\nCOMMENT 3\nCOMMENT 4\nCOMMENT 5\nCOMMENT 6\nCOMMENT 7\nCOMMENT 8\nCOMMENT 9
+END";
+
+// The cards of the coverage: those of its first header, and those of its table, but for the last ones.
+const COVERAGE: &str = "SIMPLE  =                    T
+BITPIX  =                    8
+NAXIS   =                    0
+EXTEND  =                    T
+END";
+
+const TABLE: &str = "XTENSION= 'BINTABLE'
+BITPIX  =                    8
+NAXIS   =                    2
+NAXIS1  =                    8
+";
+
+const COLUMN: &str = "PCOUNT  =                    0
+GCOUNT  =                    1
+TFIELDS =                    1
+TTYPE1  = 'UNIQ    '
+TFORM1  = '1K      '
+PIXTYPE = 'HEALPIX '
+ORDERING= 'NUNIQ   '
+COORDSYS= 'C       '
+";
+
+// The properties of the survey, but for their last lines.
+const PROPERTIES: &str = "creator_did = ivo://example/P/one
+obs_title = Survey one
+dataproduct_type = image
+hips_version = 1.4
+hips_release_date = 2024-05-01T00:00Z
+hips_status = public master clonable
+hips_frame = equatorial
+hips_order = 4
+hips_order_min = 3
+hips_tile_width = 2
+hips_tile_format = fits
+survey_bitpix = 16
+survey_bscale = 1.0E0
+survey_bzero = 0.0E0
+survey_blank = -32768
+";
+
+// Appends the byte until the last block of 2,880 bytes is full.
+fn pad(file: &mut Vec<u8>, byte: u8) -> Result<(), Fail> {
+    for _ in 0..2_880 {
+        if file.len() % 2_880 == 0 {
+            break;
+        }
+        file.push(byte)?;
+    }
+    Ok(())
+}
+
+// Appends a header with a card of each line.
+fn push_header(alloc: Global, file: &mut Vec<u8>, text: &str) -> Result<(), Fail> {
+    let mut header = Vec::new(alloc);
+    for line in text.lines() {
+        header.extend_from_slice(line.as_bytes())?;
+        for _ in line.len()..80 {
+            header.push(b' ')?;
+        }
+    }
+    pad(&mut header, b' ')?;
+    file.extend_from_slice(&header)?;
+    Ok(())
+}
+
+// Appends so many times the same bytes.
+fn push_times(file: &mut Vec<u8>, count: &str, bytes: &[u8]) -> Result<(), Fail> {
+    for _ in 0..count.parse::<u32>()? {
+        file.extend_from_slice(bytes)?;
+    }
+    Ok(())
+}
+
+// Appends numbers of so many bytes, the greatest byte first.
+fn push_numbers(file: &mut Vec<u8>, words: &str, width: usize) -> Result<(), Fail>
+    requires { width ≤ 8 }
+{
+    for word in words.split(' ') {
+        file.extend_from_slice(&word.parse::<i64>()?.to_be_bytes()[8 - width..])?;
+    }
+    Ok(())
+}
+
+// Puts a card into a header of one block: its number, counted from 1, and its text. Where that is `behind`, it goes behind the
+// card with that number, and the last card of the block goes.
+fn put_card(file: &mut Vec<u8>, card: &str, behind: bool) -> Result<(), Fail> {
+    let (number, text) = card.split_once(' ').ok_or("no card")?;
+    let at = usize::from(number.parse::<u8>()?.saturating_sub(1)) * 80;
+    if file.len() < 2_880 || at > 2_720 || text.len() > 80 {
+        return Err("no such card".into());
+    }
+    if behind {
+        file.copy_within(at..2_800, at + 80);
+    }
+    file[at..at + 80].fill(b' ');
+    file[at..at + text.len()].copy_from_slice(text.as_bytes());
+    Ok(())
+}
+
+// Appends a part of a body, or changes what stands there.
+fn push_part(alloc: Global, body: &mut Vec<u8>, part: &str) -> Result<(), Fail> {
+    let (word, rest) = part.split_once(' ').unwrap_or((part, ""));
+    let (first, second) = rest.split_once(' ').unwrap_or((rest, ""));
+    match word {
+        "line" => body.extend_from_slice(format!(in alloc; "{rest}\n")?.as_bytes())?,
+        "text" => body.extend_from_slice(rest.as_bytes())?,
+        "properties" => body.extend_from_slice(PROPERTIES.as_bytes())?,
+        // Headers: of a tile by its order and its number, of the coverage by its order and how many rows it has.
+        "tile" => push_header(
+            alloc,
+            body,
+            &format!(in alloc; "{TILE}ORDER   = {first:>20}\nNPIX    = {second:>20}\nEND")?,
+        )?,
+        "outside" => push_header(alloc, body, OUTSIDE)?,
+        "mosaic" => push_header(alloc, body, MOSAIC)?,
+        "coverage" => {
+            push_header(alloc, body, COVERAGE)?;
+            let table = format!(in alloc;
+                "{TABLE}NAXIS2  = {second:>20}\n{COLUMN}MOCORDER= {first:>20}\nEND"
+            )?;
+            push_header(alloc, body, &table)?;
+        }
+        "card" => put_card(body, rest, false)?,
+        "behind" => put_card(body, rest, true)?,
+        // Numbers of 16 bits and of 64, and zero bytes until the block is full.
+        "short" => push_numbers(body, rest, 2)?,
+        "long" => push_numbers(body, rest, 8)?,
+        "pad" => pad(body, 0)?,
+        "spaces" => push_times(body, rest, b" ")?,
+        "blanks" => push_times(body, rest, &[0x80, 0])?,
+        "removals" => push_times(body, rest, b"remove 0\n")?,
+        "cut" => body.truncate(body.len().saturating_sub(1)),
+        "" => {}
+        _ => return Err("no such part".into()),
+    }
+    Ok(())
+}
+
+// Appends the bytes of a message: the first line of its head stands between `before` and `behind`.
+fn push_message(
+    alloc: Global,
+    bytes: &mut Vec<u8>,
+    before: &str,
+    row: &str,
+    behind: &str,
+) -> Result<(), Fail> {
+    let (head, parts) = row.split_once('|').unwrap_or((row, ""));
+    if !head.is_empty() {
+        let (first, fields) = head.split_once(';').unwrap_or((head, ""));
+        bytes.extend_from_slice(format!(in alloc; "{before}{first}{behind}\r\n")?.as_bytes())?;
+        for field in fields.split_terminator(';') {
+            bytes.extend_from_slice(format!(in alloc; "{field}\r\n")?.as_bytes())?;
+        }
+        bytes.extend_from_slice(b"\r\n")?;
+    }
+    let mut body = Vec::new(alloc);
+    for part in parts.split('&') {
+        push_part(alloc, &mut body, part)?;
+    }
+    bytes.extend_from_slice(&body)?;
+    Ok(())
+}
+
+// The bytes of the requests in these rows, one a line. A row that begins with a space stands as it is; to another the version
+// and Host are added.
+pub(super) fn requests(alloc: Global, rows: &str) -> Result<Vec<u8>, Fail> {
+    let mut bytes = Vec::new(alloc);
+    for row in rows.lines() {
+        match row.strip_prefix(' ') {
+            Some(row) => push_message(alloc, &mut bytes, "", row, "")?,
+            None => push_message(alloc, &mut bytes, "", row, " HTTP/1.1\r\nHost: a")?,
+        }
+    }
+    Ok(bytes)
+}
+
+// The bytes of the replies in these rows, one a line.
+pub(super) fn replies(alloc: Global, rows: &str) -> Result<Vec<u8>, Fail> {
+    let mut bytes = Vec::new(alloc);
+    for row in rows.lines() {
+        push_message(alloc, &mut bytes, "HTTP/1.1 ", row, "")?;
+    }
+    Ok(bytes)
+}
