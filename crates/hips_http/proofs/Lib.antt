@@ -8,3 +8,7 @@ pub mod Runs
 pub mod Truncated
 pub mod Steps
 pub mod Sessions
+pub mod OneKind
+pub mod Same
+pub mod Effects
+pub mod Outcome

@@ -4,3 +4,4 @@ pub mod Replies
 pub mod Answers
 pub mod SessionRun
 pub mod Progress
+pub mod Laws

@@ -11,6 +11,7 @@ mod change;
 mod connection;
 mod control;
 mod file;
+pub mod laws;
 mod reply;
 mod send;
 mod served;
