@@ -1,6 +1,6 @@
 #!/bin/sh
 # Runs the built program as its users do, and compares its exit statuses and what it writes: where `run` answers something
-# else than 0, where a word of the command line is not UTF-8, and over the survey of a folder.
+# else than 0, where a word of the command line is not UTF-8, over the survey of a folder, and of made surveys.
 #
 #     scripts/check-statuses.sh [PROGRAM]
 #
@@ -69,6 +69,37 @@ fi
 mkdir -p Norder4/Dir0 && printf 'SIMPLE  = ' >Norder4/Dir0/Npix0.fits
 check 3 'tile Norder4/Dir0/Npix0.fits 1 header 1\n' '' export
 check 3 'tile Norder4/Dir0/Npix0.fits 1 header 1\n' '' verify
+
+# Connections: over that folder, which is refused, and over a survey without leaves, which stays as it is.
+check 3 'tile Norder4/Dir0/Npix0.fits 1 header 1\n' 'GET /prop' session
+rm -r Norder4
+closed='Content-Length: 0\r\nConnection: close\r\n\r\n'
+check 0 '' '' session
+check 4 '' 'GET /prop' session
+check 14 "HTTP/1.1 411 Length Required\r\n$closed" 'PUT /Norder4/Dir0/Npix0.fits HTTP/1.1\r\nHost: a\r\n\r\n' session
+check 14 "HTTP/1.1 505 HTTP Version Not Supported\r\n$closed" 'GET / HTTP/2.0\r\nHost: a\r\n\r\n' session
+check 0 'HTTP/1.1 200 OK\r\nContent-Type: text/plain\r\nContent-Length: 9\r\nSurvey-Prefix: 0\r\n\r\npinned 0\n' \
+    'POST /pin HTTP/1.1\r\nHost: a\r\n\r\n' session
+check 0 'verified 2\n' '' verify
+
+# 65,536 requests are answered, the last of them with `Connection: close`, and no more.
+yes 'HEAD /Moc.fits HTTP/1.1
+Host: a
+' | head -n 196611 >"$folder/input"
+"$program" session <"$folder/input" >"$folder/output" 2>"$folder/errors"
+ended=$?
+replies=$(grep -c '^HTTP/1.1 200 OK' "$folder/output")
+closing=$(grep -c '^Connection: close' "$folder/output")
+if [ "$ended $replies $closing" != '12 65536 1' ]; then
+    echo "check-statuses: 65,537 requests end with status $ended after $replies replies, $closing of them closing" >&2
+    wrong=1
+fi
+
+# Made surveys. Where 4,096 edits are made all accepted ones are published.
+check 1 "$usage" '' make 0 4097
+check 0 'edits 1 of 1 leaves 1 files 6 prefix 1 sum 103636951\n' '' make 0 1
+made='7 4096|edits 3647 of 4096 leaves 3055 files 5905 prefix 3647 sum 1470804113'
+check 0 "${made#*|}\n" '' make 7 4096
 
 # A full device refuses what is written: status 6.
 if [ -e /dev/full ]; then

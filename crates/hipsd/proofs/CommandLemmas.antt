@@ -1,15 +1,15 @@
 -- Lemmas for the proof that the words of a command line are read exactly.
-use Rattle.std.proofs.Common.{◌≡◌, ◌≢◌, ℕ, zero, suc, ◌^◌, ◌<◌, ◌≤◌, ◌+◌, List, [], ◌∷◌, length, get_or, decimal, codes, Result, Ok, Err, MatchOption, refl, sym, ◌∙◌, ap, subst, arith}
+use Rattle.std.proofs.Common.{◌≡◌, ◌≢◌, ℕ, zero, suc, ◌^◌, ◌<◌, ◌≤◌, ◌+◌, List, [], ◌∷◌, length, get_or, decimal, codes, Result, Ok, Err, Option, Some, None, MatchOption, IfNone, refl, sym, ◌∙◌, ap, subst, arith}
 use Rattle.std.proofs.Math.ListN.{drop, drop_of_length-le}
 use Rattle.std.proofs.Math.Seq.{drop-cons}
 use Rattle.std.specs.Result.{result_ok}
 use Rattle.std.specs.Str.Parse.{AllDigits, digits_value, ParsesUnsigned}
 use Rattle.std.proofs.lemmas.Str.Parse.{IsNumeralModel, numerals_by_value, tells_digits, parse_plain, digit_at}
 use Rattle.std.proofs.lemmas.Fmt.{decimal_digit, decimal_nonempty, first_decimal, digits_decimal, decimal-digits_value, decimal_injective, parse-decimal}
-use Rattle.hipsd.specs.Command.{Asks, IsProbe, IsCommand, words_of}
+use Rattle.hipsd.specs.Command.{Asks, IsProbe, IsMake, IsCommand, words_of}
 use Rattle.hipsd.specs.declared.command.Probe.{Probe}
 use Rattle.hipsd.specs.declared.command.Command.{Command}
-use Rattle.hipsd.specs.declared.command.Command.TheVariants.{Probe as ProbeCommand, Export, Verify}
+use Rattle.hipsd.specs.declared.command.Command.TheVariants.{Probe as ProbeCommand, Session, Export, Verify, Make}
 
 own : IsNumeralModel (AllDigits 10) (digits_value 10)
 own = numerals_by_value (AllDigits 10) tells_digits
@@ -74,8 +74,26 @@ pub no_command : (top n order npix : List ℕ)
     → ((asked : Probe) → ¬ Asks (codes "probe" ∷ top ∷ n ∷ order ∷ npix ∷ []) (ProbeCommand asked))
     → ¬ IsCommand (codes "probe" ∷ top ∷ n ∷ order ∷ npix ∷ [])
 no_command top n order npix none (ProbeCommand asked, asks) = none asked asks
+no_command top n order npix none (Session, asks) = let e = asks.spelled in cc
 no_command top n order npix none (Export, asks) = let e = asks.spelled in cc
 no_command top n order npix none (Verify, asks) = let e = asks.spelled in cc
+no_command top n order npix none (Make number edits, asks) = let e = asks.spelled in cc
+
+-- words that begin with `make` and ask for no made survey ask for nothing
+pub no_make : (number edits : List ℕ)
+    → ((n m : ℕ) → ¬ Asks (codes "make" ∷ number ∷ edits ∷ []) (Make n m))
+    → ¬ IsCommand (codes "make" ∷ number ∷ edits ∷ [])
+no_make number edits none (ProbeCommand asked, asks) = let e = asks.spelled in cc
+no_make number edits none (Session, asks) = let e = asks.spelled in cc
+no_make number edits none (Export, asks) = let e = asks.spelled in cc
+no_make number edits none (Verify, asks) = let e = asks.spelled in cc
+no_make number edits none (Make n m, asks) = none n m asks
+
+pub no_make_command : (found : Option Command) (number edits : List ℕ)
+    → IfNone found ((n m : ℕ) → ¬ Asks (codes "make" ∷ number ∷ edits ∷ []) (Make n m))
+    → IfNone found (¬ IsCommand (codes "make" ∷ number ∷ edits ∷ []))
+no_make_command None number edits none = no_make number edits none
+no_make_command (Some command) number edits none = tt
 
 -- words ask for one probe only
 pub same_probe : (words : List (List ℕ)) (a b : Probe) → Asks words (ProbeCommand a) → Asks words (ProbeCommand b) → a ≡ b
@@ -93,6 +111,16 @@ same_probe words a b asks_a asks_b =
     let same_npix : a.npix ≡ b.npix = decimal_injective a.npix b.npix (omega arith) (omega arith) npix in
     λ i. record { top = same_top i; n = same_n i; order = same_order i; npix = same_npix i }
 
+-- words ask for one made survey only
+pub same_make : (words : List (List ℕ)) (n m n' m' : ℕ) → Asks words (Make n m) → Asks words (Make n' m') → (n ≡ n') × (m ≡ m')
+same_make words n m n' m' asks asks' =
+    let e : words_of (Make n m) ≡ words_of (Make n' m') = sym asks.spelled ∙ asks'.spelled in
+    let number : decimal n ≡ decimal n' = cc in
+    let edits : decimal m ≡ decimal m' = cc in
+    let range : IsMake n m = asks.in_range in
+    let range' : IsMake n' m' = asks'.in_range in
+    (decimal_injective n n' (omega arith) (omega arith) number, decimal_injective m m' (omega arith) (omega arith) edits)
+
 -- the first letter of the first word
 abbrev first_letter : List (List ℕ) → ℕ
 first_letter [] = 0
@@ -100,13 +128,17 @@ first_letter (word ∷ words) = get_or word 0 0
 
 abbrev letter_of : Command → ℕ
 letter_of (ProbeCommand asked) = 112
+letter_of Session = 115
 letter_of Export = 101
 letter_of Verify = 118
+letter_of (Make number edits) = 109
 
 first_letter-words_of : (command : Command) → first_letter (words_of command) ≡ letter_of command
 first_letter-words_of (ProbeCommand asked) = refl
+first_letter-words_of Session = refl
 first_letter-words_of Export = refl
 first_letter-words_of Verify = refl
+first_letter-words_of (Make number edits) = refl
 
 -- commands of the same words begin with the same letter
 same_letter : (words : List (List ℕ)) (a b : Command) → Asks words a → Asks words b → letter_of a ≡ letter_of b
@@ -116,11 +148,10 @@ same_letter words a b asks_a asks_b =
 -- and for one command only
 pub same_command : (words : List (List ℕ)) (a b : Command) → Asks words a → Asks words b → a ≡ b
 same_command words (ProbeCommand a) (ProbeCommand b) asks_a asks_b = ap (λ p. ProbeCommand p) (same_probe words a b asks_a asks_b)
+same_command words Session Session asks_a asks_b = refl
 same_command words Export Export asks_a asks_b = refl
 same_command words Verify Verify asks_a asks_b = refl
-same_command words (ProbeCommand a) Export asks_a asks_b = let e : ◌≡◌ {A = ℕ} 112 101 = same_letter words _ _ asks_a asks_b in absurd (omega arith)
-same_command words (ProbeCommand a) Verify asks_a asks_b = let e : ◌≡◌ {A = ℕ} 112 118 = same_letter words _ _ asks_a asks_b in absurd (omega arith)
-same_command words Export (ProbeCommand b) asks_a asks_b = let e : ◌≡◌ {A = ℕ} 101 112 = same_letter words _ _ asks_a asks_b in absurd (omega arith)
-same_command words Export Verify asks_a asks_b = let e : ◌≡◌ {A = ℕ} 101 118 = same_letter words _ _ asks_a asks_b in absurd (omega arith)
-same_command words Verify (ProbeCommand b) asks_a asks_b = let e : ◌≡◌ {A = ℕ} 118 112 = same_letter words _ _ asks_a asks_b in absurd (omega arith)
-same_command words Verify Export asks_a asks_b = let e : ◌≡◌ {A = ℕ} 118 101 = same_letter words _ _ asks_a asks_b in absurd (omega arith)
+same_command words (Make n m) (Make n' m') asks_a asks_b =
+    let same = same_make words n m n' m' asks_a asks_b in
+    λ i. Make (same.0 i) (same.1 i)
+same_command words a b asks_a asks_b = let e : letter_of a ≡ letter_of b = same_letter words a b asks_a asks_b in absurd (omega arith)

@@ -5,3 +5,5 @@ pub mod Probe
 pub mod Merging
 pub mod Run
 pub mod Survey
+pub mod Session
+pub mod Make

@@ -2,7 +2,7 @@
 ghost use Rattle.std.specs.Prelude.{◌≡◌, ◌≢◌, ℕ, ◌≤◌, [], ◌∷◌, IfSome, IfNone, MatchOption, codes, decimal};
 ghost use Rattle.hipsd.specs.Command.{texts, Asks, IsCommand};
 ghost use Rattle.hipsd.specs.declared.command.Probe.{Probe as AskedProbe};
-ghost use Rattle.hipsd.specs.declared.command.Command.TheVariants.{Probe as ProbeCommand};
+ghost use Rattle.hipsd.specs.declared.command.Command.TheVariants.{Probe as ProbeCommand, Make};
 
 use decimal_scale::plain_decimal;
 
@@ -21,10 +21,19 @@ pub struct Probe {
 pub enum Command {
     /// One tile of the leaves that are read.
     Probe(Probe),
+    /// One connection is served.
+    Session,
     /// The survey's files are put on the shelf.
     Export,
     /// The shelf is compared with the survey.
     Verify,
+    /// The survey that so many edits make is made, and summed up.
+    Make {
+        /// What its edits are made from.
+        number: u64,
+        /// How many edits.
+        edits: u32,
+    },
 }
 
 /// The command that the words ask for; `None` exactly where they are no row of the table of commands.
@@ -37,6 +46,9 @@ pub fn read_command(words: &[String]) -> Option<Command>
             let probe = read_probe(top.as_str(), n.as_str(), order.as_str(), npix.as_str())?;
             Some(Command::Probe(probe))
         }
+        [name, number, edits] if name.as_str() == "make" => {
+            read_make(number.as_str(), edits.as_str())
+        }
         [name] => read_name(name.as_str()),
         _ => None,
     }
@@ -48,6 +60,7 @@ fn read_name(name: &str) -> Option<Command>
     ensures none { IfNone result (¬ IsCommand (name.now ∷ [])) }
 {
     match name {
+        "session" => Some(Command::Session),
         "export" => Some(Command::Export),
         "verify" => Some(Command::Verify),
         _ => None,
@@ -71,6 +84,21 @@ fn read_probe(top: &str, n: &str, order: &str, npix: &str) -> Option<Probe>
         order,
         npix,
     })
+}
+
+// What the words after `make` ask for.
+fn read_make(number: &str, edits: &str) -> Option<Command>
+    ensures asked { IfSome result (Asks (codes "make" ∷ number.now ∷ edits.now ∷ [])) }
+    ensures none { IfNone result ((n : ℕ) (m : ℕ) → ¬ Asks (codes "make" ∷ number.now ∷ edits.now ∷ []) (Make n m)) }
+{
+    let number = plain_decimal(number.as_bytes())?;
+    let edits = plain_decimal(edits.as_bytes())?;
+    if 1 <= edits && edits <= 4096 {
+        let edits = edits as u32;
+        Some(Command::Make { number, edits })
+    } else {
+        None
+    }
 }
 
 // A number from `least` to `greatest`, in plain decimals.
@@ -121,13 +149,34 @@ mod tests {
                 "at {npix}"
             );
         }
+        for (words, number, edits) in [
+            (["make", "0", "1"], 0, 1),
+            (["make", last, "4096"], u64::MAX, 4096),
+        ] {
+            assert_eq!(rt;
+                read_command(&strings(alloc, &words)?),
+                Some(Command::Make { number, edits }),
+                "at {number}"
+            );
+        }
+        for (word, command) in [
+            ("session", Command::Session),
+            ("export", Command::Export),
+            ("verify", Command::Verify),
+        ] {
+            assert_eq!(rt;
+                read_command(&strings(alloc, &[word])?),
+                Some(command),
+                "at {word}"
+            );
+        }
         Ok(())
     }
 
     #[test]
     fn refuses_what_is_no_row_of_the_table(rt: HostRuntime) -> Result<(), Fail> {
         let alloc = rt.alloc();
-        let rows: [&[&str]; 17] = [
+        let rows: [&[&str]; 27] = [
             &[],
             &["probe"],
             &["probe", "4", "1", "3"],
@@ -144,7 +193,17 @@ mod tests {
             &["probe", "4", "1", "3", "18446744073709551616"],
             &["probe", "", "1", "3", "0"],
             &["Probe", "4", "1", "3", "0"],
-            &["session"],
+            &["session", "0"],
+            &["sessions"],
+            &["make"],
+            &["make", "0"],
+            &["make", "0", "1", "1"],
+            &["make", "0", "0"],
+            &["make", "0", "4097"],
+            &["make", "0", "01"],
+            &["make", "+0", "1"],
+            &["make", "18446744073709551616", "1"],
+            &["Make", "0", "1"],
         ];
         for (row, words) in rows.iter().enumerate() {
             assert_eq!(rt; read_command(&strings(alloc, words)?), None, "at {row}");

@@ -1,7 +1,7 @@
 //! `hipsd`: a server for HiPS sky maps.
 //!
 //! `run` is the whole program over the ends that it is given; `main` makes the real ones. The commands of today are `probe`,
-//! `export` and `verify`.
+//! `session`, `export`, `verify` and `make`.
 #![tactic(auto)]
 
 ghost use Rattle.std.specs.Prelude.{◌≡◌, ◌⊎◌, ◌≤◌, IfOk, MatchResult};
@@ -15,6 +15,9 @@ mod command;
 mod exporting;
 mod fault;
 mod leaves;
+#[cfg(test)]
+mod make_tests;
+mod making;
 mod merging;
 #[cfg(test)]
 mod merging_tests;
@@ -23,6 +26,10 @@ mod probe;
 mod records;
 mod refusing;
 mod run;
+mod serving;
+#[cfg(test)]
+mod session_tests;
+mod summary;
 #[cfg(test)]
 mod survey_tests;
 #[cfg(test)]
@@ -35,6 +42,7 @@ use std::alloc::Global;
 use std::io::{BufReader, BufWriter, ErrorKind};
 use std::process::ExitCode;
 use std::rt::Runtime;
+use std::sync::Wait;
 use std::thread::Threads;
 use std::{env, io};
 use survey_link::{FolderShelf, MemDoor, OpenGate, StreamSink, StreamSource};
@@ -60,7 +68,7 @@ fn words(alloc: Global, args: io::Result<env::Args>) -> io::Result<Vec<String>> 
 // Runs the words over standard input and output and the current folder, and passes the status on.
 fn run_words<R>(rt: &R, words: &[String]) -> io::Result<u8>
 where
-    R: Runtime + AllocGlobal + Threads + Sync,
+    R: Runtime + AllocGlobal + Threads + Wait + Sync,
     R::Reader: Drop,
     ensures usage { ¬ IsCommand (texts words.now) → IfOk result (λ status. (status ≡ 1) ⊎ (status ≡ 6)) }
     ensures usage_only { IfOk result (λ status. status ≡ 1 → ¬ IsCommand (texts words.now)) }
@@ -89,7 +97,7 @@ where
 // Runs the command line.
 fn run_here<R>(rt: &R) -> io::Result<u8>
 where
-    R: Runtime + AllocGlobal + Threads + Sync,
+    R: Runtime + AllocGlobal + Threads + Wait + Sync,
     R::Reader: Drop,
 {
     run_words(rt, &words(rt.alloc(), env::args(rt))?)

@@ -5,21 +5,26 @@ ghost use Rattle.survey_link.specs.Link.{Rises, AppendsPrefix};
 ghost use Rattle.healpix_nested.specs.Cells.{cell_count};
 ghost use Rattle.hipsd.specs.declared.command.Probe.{Probe as AskedProbe};
 ghost use Rattle.hipsd.specs.declared.command.Command.{Command as AskedCommand};
-ghost use Rattle.hipsd.specs.declared.command.Command.TheVariants.{Probe as ProbeCommand, Export, Verify};
+ghost use Rattle.hipsd.specs.declared.command.Command.TheVariants.{Probe as ProbeCommand, Session, Export, Verify, Make};
 ghost use Rattle.hipsd.specs.Command.{texts, Asks, IsCommand, IsProbe, reads_source, opens_shelf, writes_files};
 ghost use Rattle.hipsd.specs.Probe.{probe_answer, probe_steps};
 ghost use Rattle.hipsd.specs.Merging.{steps_after};
 ghost use Rattle.hipsd.specs.Reading.{ReadsToTheEnd};
 ghost use Rattle.hipsd.specs.Run.{usage_text, EndsBy};
 ghost use Rattle.hipsd.specs.Survey.{RunsExport, RunsVerify};
+ghost use Rattle.hipsd.specs.Session.{RunsSession, ends_of};
+ghost use Rattle.hipsd.specs.Make.{RunsMake};
 
 use crate::command::{Command, Probe, read_command};
 use crate::exporting::run_export;
+use crate::making::run_make;
 use crate::output::write_out;
 use crate::probe::probe;
+use crate::serving::run_session;
 use crate::verifying::run_verify;
 use parent_rule::Steps;
 use std::alloc::Global;
+use std::sync::Wait;
 use std::thread::Threads;
 use survey_link::{Door, Gate, Shelf, Sink, Source};
 
@@ -31,13 +36,14 @@ use survey_link::{Door, Gate, Shelf, Sink, Source};
 /// | 1 | the words are no row of the table of commands; `usage: hipsd COMMAND` and LF are written |
 /// | 2 | the shelf has no `survey.conf`, and `conf absent` and LF are written; or this has a fault: `conf LINE KIND` and LF |
 /// | 3 | the file of a leaf is refused: `tile PATH FAULT` and LF are written; or there are too many: `leaves N` and LF |
-/// | 4 | `probe`: the input ends within a record |
+/// | 4 | `probe`: the input ends within a record; `session`: within a request |
 /// | 5, 6, 7 | the source's, the sink's, the shelf's count of faults rose |
 /// | 9 | `verify`: the shelf differs from the survey |
 /// | 10 | `probe`: no leaf lies at or under the asked tile |
 /// | 11 | there was no memory |
-/// | 12 | `probe`: the input goes on after 65,536 records |
+/// | 12 | `probe`: the input goes on after 65,536 records; `session`: 65,536 requests were answered, and none asked to close |
 /// | 13 | `probe`: the asked tile is no cell of its order, or a record's number is no leaf's |
+/// | 14 | `session`: the framing of a request is refused |
 ///
 /// Of a tile nothing is written with a status but 0 and 6.
 pub fn run<R, S, K, H, D, G>(
@@ -51,7 +57,7 @@ pub fn run<R, S, K, H, D, G>(
     steps: &mut Steps,
 ) -> u8
 where
-    R: AllocGlobal + Threads + Sync,
+    R: AllocGlobal + Threads + Wait + Sync,
     S: Source,
     K: Sink,
     H: Shelf,
@@ -100,6 +106,18 @@ where
     ensures verify { Asks (texts words.now) Verify → RunsVerify (H.files shelf.old) result
         (K.held sink.old) (K.held sink.new) (K.handed_on sink.old) (K.handed_on sink.new) }
 
+    // A connection over the source and the sink, where the source tells its input.
+    ensures session { (input : List ℕ) → Asks (texts words.now) Session → S.left source.old ≡ Some input
+        → RunsSession (H.files shelf.old) input
+        (ends_of (S.left source.old) (K.held sink.old) (K.handed_on sink.old) (S.faults source.old) (K.faults sink.old))
+        (ends_of (S.left source.new) (K.held sink.new) (K.handed_on sink.new) (S.faults source.new) (K.faults sink.new))
+        result }
+    ensures session_unread { Asks (texts words.now) Session → (result ≡ 2) ⊎ (result ≡ 3) → source.new ≡ source.old }
+
+    // A made survey.
+    ensures make { (number : ℕ) (edits : ℕ) → Asks (texts words.now) (Make number edits) → RunsMake number edits result
+        (K.held sink.old) (K.held sink.new) (K.handed_on sink.old) (K.handed_on sink.new) }
+
     // What a command doesn't use stays.
     ensures source { (command : AskedCommand) → Asks (texts words.now) command → reads_source command ≡ false → source.new ≡ source.old }
     ensures shelf { (command : AskedCommand) → Asks (texts words.now) command → opens_shelf command ≡ false → shelf.new ≡ shelf.old }
@@ -117,8 +135,10 @@ where
         None => usage(sink),
         Some(command) => match command {
             Command::Probe(asked) => run_probe(rt.alloc(), &asked, source, sink, steps),
+            Command::Session => run_session(rt, source, sink, shelf, gate, steps),
             Command::Export => run_export(rt, sink, shelf, gate, steps),
             Command::Verify => run_verify(rt, sink, shelf, gate, steps),
+            Command::Make { number, edits } => run_make(rt, number, edits, sink, gate, steps),
         },
     }
 }

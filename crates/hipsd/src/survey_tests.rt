@@ -15,7 +15,8 @@ hips_status = public master clonable
 ";
 
 // The last lines of a small survey's.
-static SMALL: &str = "hips_order = 4;hips_tile_width = 2;survey_bitpix = 16;survey_blank = -32768";
+pub(crate) static SMALL: &str =
+    "hips_order = 4;hips_tile_width = 2;survey_bitpix = 16;survey_blank = -32768";
 
 // A shelf that isn't opened: how many leaves of which order have a file of 10 bytes, and its description's last lines, or
 // `absent`; then the status and the line that is written.
@@ -29,7 +30,7 @@ static REFUSALS: &str = "\
 ";
 
 // Puts a description of these last lines on the shelf.
-fn describe(alloc: Global, shelf: &mut MemShelf, last: &str) -> Result<(), Fail> {
+pub(crate) fn describe(alloc: Global, shelf: &mut MemShelf, last: &str) -> Result<(), Fail> {
     let mut text = String::from_str(alloc, HEAD)?;
     for line in last.split(';') {
         text.push_str(line)?;
@@ -126,6 +127,7 @@ fn refuses_a_shelf_that_is_no_survey(rt: HostRuntime) -> Result<(), Fail> {
     for row in REFUSALS.lines() {
         assert!(rt; refuses(&rt, "export", row)?, "export: {row}");
         assert!(rt; refuses(&rt, "verify", row)?, "verify: {row}");
+        assert!(rt; refuses(&rt, "session", row)?, "session: {row}");
     }
     Ok(())
 }
@@ -199,7 +201,7 @@ fn status_where<R: AllocGlobal + Threads + Wait + Sync>(
 // The calls 0 and 1 put the description and the note there.
 #[test]
 fn fails_where_the_shelf_does(rt: HostRuntime) -> Result<(), Fail> {
-    for word in ["export", "verify"] {
+    for (word, least) in [("session", 2), ("export", 4), ("verify", 4)] {
         let mut last = 0;
         for call in 2..40 {
             let fails = format!(in rt.alloc(); "{call}")?;
@@ -213,7 +215,7 @@ fn fails_where_the_shelf_does(rt: HostRuntime) -> Result<(), Fail> {
             }
             last = call;
         }
-        assert!(rt; last > 4, "{word}");
+        assert!(rt; last > least, "{word}");
     }
     Ok(())
 }

@@ -25,8 +25,12 @@ pub fn make_conf() -> &'static [u8]
 }
 
 /// The description, as it is read.
+///
+/// # Errors
+///
+/// `AllocError` where there is no memory for it.
 #[tactic(auto, using(crate::proofs::MadeLemmas::made_accepted))]
-pub(crate) fn read_conf(alloc: Global) -> Result<Conf, AllocError>
+pub fn read_conf(alloc: Global) -> Result<Conf, AllocError>
     ensures { IfOk result (λ conf. conf ≡ made) }
 {
     match Conf::read(alloc, make_conf()) {

@@ -11,5 +11,5 @@ mod request;
 #[cfg(test)]
 mod tests;
 
-pub use conf::make_conf;
+pub use conf::{make_conf, read_conf};
 pub use making::script;

@@ -1,4 +1,4 @@
-use Rattle.std.proofs.Common.{◌≡◌, refl, inl, inr}
+use Rattle.std.proofs.Common.{refl, inl, inr}
 use Rattle.hipsd.proofs.refusing.say_why.Goals as goal
 
 pub returns-in-Tile-clause-said : goal.returns-in-Tile-clause-said

@@ -1,5 +1,5 @@
 use Rattle.std.proofs.Common.{◌≡◌}
-use Rattle.hipsd.proofs.CommandLemmas.{same_probe}
+use Rattle.hipsd.proofs.CommandLemmas.{same_probe, same_make}
 use Rattle.hipsd.proofs.run.run.Goals as goal
 
 pub returns-in-Probe-clause-probe : goal.returns-in-Probe-clause-probe
@@ -26,3 +26,9 @@ pub returns-in-Probe-clause-probe_counted : goal.returns-in-Probe-clause-probe_c
 returns-in-Probe-clause-probe_counted g c = λ asked input asks e done.
     let one : c.in-Probe.asked ≡ asked = same_probe _ _ _ (rw c.in-Probe.is at c.in-Some.ensures.asked) asks in
     (rw one at c.run_probe.ensures.counted) input e done
+
+pub returns-in-Make-clause-make : goal.returns-in-Make-clause-make
+returns-in-Make-clause-make g c = λ number edits asks.
+    let same : (c.in-Make.number ≡ number) × (c.in-Make.edits ≡ edits) =
+    same_make _ _ _ _ _ (rw c.in-Make.is at c.in-Some.ensures.asked) asks in
+    rw (same.0, same.1) at c.run_make.ensures.run

@@ -1,0 +1,201 @@
+//! Runs of `session`: requests and replies, byte for byte.
+use crate::run::run;
+use crate::survey_tests::{SMALL, describe};
+use parent_rule::Steps;
+use std::alloc::Global;
+use std::sync::Wait;
+use std::test::Fail;
+use std::thread::Threads;
+use survey_link::{MemDoor, MemShelf, MemSink, MemSource, OpenGate, Shelf};
+
+// In the tables `~` stands for CR LF, `^` for LF, and `%` before and behind a name for some bytes.
+
+// The properties of the survey without leaves.
+static PROPERTIES: &str =
+    "creator_did = ivo://example/P/one^obs_title = Survey one^dataproduct_type = image^hips_version = 1.4^\
+hips_release_date = 2024-05-01T00:00Z^hips_status = public master clonable^hips_frame = equatorial^hips_order = 4^\
+hips_order_min = 3^hips_tile_width = 2^hips_tile_format = fits^survey_bitpix = 16^survey_bscale = 1.0E0^survey_bzero = 0.0E0^\
+survey_blank = -32768^survey_leaves = 0^";
+
+// The cards of a tile file: of leaf 0, and of tile 0 of order 3.
+static LEAF_CARDS: &str = "\
+SIMPLE  =                    T
+BITPIX  =                   16
+NAXIS   =                    2
+NAXIS1  =                    2
+NAXIS2  =                    2
+BSCALE  =                1.0E0
+BZERO   =                0.0E0
+BLANK   =               -32768
+ORDER   =                    4
+NPIX    =                    0
+END
+";
+
+static PARENT_CARDS: &str = "\
+SIMPLE  =                    T
+BITPIX  =                   16
+NAXIS   =                    2
+NAXIS1  =                    2
+NAXIS2  =                    2
+BSCALE  =                1.0E0
+BZERO   =                0.0E0
+BLANK   =               -32768
+ORDER   =                    3
+NPIX    =                    0
+END
+";
+
+// The requests of a connection, the status, and all that is written.
+static SESSIONS: &str = "\
+||0|
+|GET /properties HTTP/1.1~Host: a~~|0|HTTP/1.1 200 OK~Content-Type: text/plain~Content-Length: 380~Survey-Prefix: 0~~%properties%
+|HEAD /properties HTTP/1.1~Host: a~~|0|HTTP/1.1 200 OK~Content-Type: text/plain~Content-Length: 380~Survey-Prefix: 0~~
+|PUT /Norder4/Dir0/Npix0.fits HTTP/1.1~Host: a~Content-Length: 2888~~%leaf%GET /Norder3/Dir0/Npix0.fits HTTP/1.1~Host: a~~POST /publish HTTP/1.1~Host: a~~GET /Norder3/Dir0/Npix0.fits HTTP/1.1~Host: a~~|0|HTTP/1.1 201 Created~Content-Length: 0~Survey-Edits: 1~~HTTP/1.1 404 Not Found~Content-Type: text/plain~Content-Length: 10~Survey-Prefix: 0~~not found^HTTP/1.1 200 OK~Content-Type: text/plain~Content-Length: 12~Survey-Prefix: 1~~published 1^HTTP/1.1 200 OK~Content-Type: application/fits~Content-Length: 5760~Survey-Prefix: 1~~%parent%
+|PUT /Norder4/Dir0/Npix0.fits HTTP/1.1~Host: a~~|14|HTTP/1.1 411 Length Required~Content-Length: 0~Connection: close~~
+|GET / HTTP/2.0~Host: a~~|14|HTTP/1.1 505 HTTP Version Not Supported~Content-Length: 0~Connection: close~~
+|GET /Moc.fits HTTP/1.1~~|14|HTTP/1.1 400 Bad Request~Content-Length: 0~Connection: close~~
+|GET /prop|4|
+|PUT /Norder4/Dir0/Npix0.fits HTTP/1.1~Host: a~Content-Length: 2888~~SIMPLE|4|
+|POST /unpin HTTP/1.1~Host: a~Connection: close~~GET /prop|0|HTTP/1.1 200 OK~Content-Type: text/plain~Content-Length: 9~Connection: close~~released^
+";
+
+// The file of a tile: its cards, its stored numbers, and zero bytes up to the end of so many bytes.
+fn push_tile(bytes: &mut Vec<u8>, cards: &str, numbers: &[u16], until: usize) -> Result<(), Fail> {
+    let start = bytes.len();
+    for card in cards.lines() {
+        bytes.extend_from_slice(card.as_bytes())?;
+        let spaces = (80 - card.len() % 80) % 80;
+        bytes.resize(bytes.len() + spaces, b' ')?;
+    }
+    bytes.resize(start + 2_880, b' ')?;
+    for number in numbers {
+        bytes.extend_from_slice(&number.to_be_bytes())?;
+    }
+    bytes.resize(start.saturating_add(until), 0)?;
+    Ok(())
+}
+
+// Some text, with its line ends.
+fn push_text(bytes: &mut Vec<u8>, text: &str) -> Result<(), Fail> {
+    for byte in text.as_bytes() {
+        match byte {
+            b'~' => bytes.extend_from_slice(b"\r\n")?,
+            b'^' => bytes.push(b'\n')?,
+            _ => bytes.push(*byte)?,
+        }
+    }
+    Ok(())
+}
+
+// The bytes that a text of the tables stands for.
+fn bytes_of(alloc: Global, text: &str) -> Result<Vec<u8>, Fail> {
+    let mut bytes = Vec::new(alloc);
+    for part in text.split('%') {
+        match part {
+            "properties" => push_text(&mut bytes, PROPERTIES)?,
+            "leaf" => push_tile(&mut bytes, LEAF_CARDS, &[1, 2, 3, 5], 2_888)?,
+            "parent" => {
+                push_tile(
+                    &mut bytes,
+                    PARENT_CARDS,
+                    &[0x8000, 0x8000, 3, 0x8000],
+                    5_760,
+                )?;
+            }
+            _ => push_text(&mut bytes, part)?,
+        }
+    }
+    Ok(bytes)
+}
+
+// Runs `session` over these ends on the small survey without leaves, and answers its status; 255 where the shelf changed.
+fn serve<R: AllocGlobal + Threads + Wait + Sync>(
+    rt: &R,
+    source: &mut MemSource,
+    sink: &mut MemSink,
+) -> Result<u8, Fail> {
+    let alloc = rt.alloc();
+    let mut words = Vec::new(alloc);
+    words.push(String::from_str(alloc, "session")?)?;
+    let mut shelf = MemShelf::new(alloc, Vec::new(alloc));
+    describe(alloc, &mut shelf, SMALL)?;
+    let mut doors: Vec<MemDoor> = Vec::new(alloc);
+    let ended = run(
+        rt,
+        &words,
+        source,
+        sink,
+        &mut shelf,
+        &mut doors,
+        &OpenGate::new(),
+        &mut Steps::new(),
+    );
+    let stays = shelf.list(alloc)?.len() == 1;
+    Ok(if stays { ended } else { 255 })
+}
+
+// Whether the connection of a row ends so, read in pieces of so many bytes.
+fn answers<R: AllocGlobal + Threads + Wait + Sync>(
+    rt: &R,
+    row: &str,
+    piece: usize,
+) -> Result<bool, Fail> {
+    let alloc = rt.alloc();
+    let mut fields = row.split('|').skip(1);
+    let input = bytes_of(alloc, fields.next().unwrap_or(""))?;
+    let status = fields.next().unwrap_or("");
+    let output = bytes_of(alloc, fields.next().unwrap_or(""))?;
+    let mut source = MemSource::new(input, piece, Vec::new(alloc));
+    let mut sink = MemSink::new(alloc, 65_536, Vec::new(alloc))?;
+    let ended = serve(rt, &mut source, &mut sink)?;
+    Ok(status.parse::<u8>() == Ok(ended) && sink.bytes() == output.as_slice())
+}
+
+#[test]
+fn serves_one_connection(rt: HostRuntime) -> Result<(), Fail> {
+    for row in SESSIONS.lines() {
+        assert!(rt; answers(&rt, row, 65_536)?, "{row}");
+        assert!(rt; answers(&rt, row, 1_000)?, "in pieces: {row}");
+    }
+    Ok(())
+}
+
+// The status where that read, and where that write or flush, fails of the connection that edits and publishes, and whether the
+// output is a first part of its own.
+fn with_failing<R: AllocGlobal + Threads + Wait + Sync>(
+    rt: &R,
+    reads: &[u64],
+    writes: &[u64],
+) -> Result<(u8, bool), Fail> {
+    let alloc = rt.alloc();
+    let row = SESSIONS.lines().nth(3).unwrap_or("");
+    let input = bytes_of(alloc, row.split('|').nth(1).unwrap_or(""))?;
+    let output = bytes_of(alloc, row.split('|').nth(3).unwrap_or(""))?;
+    let mut source = MemSource::new(input, 1_000, Vec::from_slice(alloc, reads)?);
+    let mut sink = MemSink::new(alloc, 65_536, Vec::from_slice(alloc, writes)?)?;
+    let ended = serve(rt, &mut source, &mut sink)?;
+    Ok((ended, output.starts_with(sink.bytes())))
+}
+
+// Calls that fail up to the first whose number is beyond the last call.
+#[test]
+fn fails_where_an_end_does(rt: HostRuntime) -> Result<(), Fail> {
+    let mut failed = 0;
+    for call in 0..40 {
+        let (status, is_part) = with_failing(&rt, &[call], &[])?;
+        assert!(rt;
+            is_part && (status == 5 || status == 0),
+            "read {call}: {status}"
+        );
+        failed += u32::from(status == 5);
+        let (status, is_part) = with_failing(&rt, &[], &[call])?;
+        assert!(rt;
+            is_part && (status == 6 || status == 0),
+            "write {call}: {status}"
+        );
+        failed += u32::from(status == 6);
+    }
+    assert!(rt; 8 < failed && failed < 40, "{failed}");
+    Ok(())
+}
