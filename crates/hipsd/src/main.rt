@@ -22,6 +22,9 @@ mod merging;
 #[cfg(test)]
 mod merging_tests;
 mod output;
+mod place;
+#[cfg(test)]
+mod place_tests;
 mod probe;
 mod records;
 mod refusing;
