@@ -146,7 +146,7 @@ fn answers<R: AllocGlobal + Threads + Wait + Sync>(
     let input = bytes_of(alloc, fields.next().unwrap_or(""))?;
     let status = fields.next().unwrap_or("");
     let output = bytes_of(alloc, fields.next().unwrap_or(""))?;
-    let mut source = MemSource::new(input, piece, Vec::new(alloc));
+    let mut source = MemSource::new(input, piece.max(1), Vec::new(alloc));
     let mut sink = MemSink::new(alloc, 65_536, Vec::new(alloc))?;
     let ended = serve(rt, &mut source, &mut sink)?;
     Ok(status.parse::<u8>() == Ok(ended) && sink.bytes() == output.as_slice())
@@ -181,20 +181,20 @@ fn with_failing<R: AllocGlobal + Threads + Wait + Sync>(
 // Calls that fail up to the first whose number is beyond the last call.
 #[test]
 fn fails_where_an_end_does(rt: HostRuntime) -> Result<(), Fail> {
-    let mut failed = 0;
+    let mut failed = 0_u32;
     for call in 0..40 {
         let (status, is_part) = with_failing(&rt, &[call], &[])?;
         assert!(rt;
             is_part && (status == 5 || status == 0),
             "read {call}: {status}"
         );
-        failed += u32::from(status == 5);
+        failed = failed.saturating_add(u32::from(status == 5));
         let (status, is_part) = with_failing(&rt, &[], &[call])?;
         assert!(rt;
             is_part && (status == 6 || status == 0),
             "write {call}: {status}"
         );
-        failed += u32::from(status == 6);
+        failed = failed.saturating_add(u32::from(status == 6));
     }
     assert!(rt; 8 < failed && failed < 40, "{failed}");
     Ok(())
