@@ -83,9 +83,7 @@ check 0 'HTTP/1.1 200 OK\r\nContent-Type: text/plain\r\nContent-Length: 9\r\nSur
 check 0 'verified 2\n' '' verify
 
 # 65,536 requests are answered, the last of them with `Connection: close`, and no more.
-yes 'HEAD /Moc.fits HTTP/1.1
-Host: a
-' | head -n 196611 >"$folder/input"
+yes "$(printf 'HEAD /Moc.fits HTTP/1.1\r\nHost: a\r\n\r')" | head -n 196611 >"$folder/input"
 "$program" session <"$folder/input" >"$folder/output" 2>"$folder/errors"
 ended=$?
 replies=$(grep -c '^HTTP/1.1 200 OK' "$folder/output")
