@@ -12,8 +12,6 @@ pub mod laws;
 mod mark;
 mod next;
 mod shared;
-#[cfg(test)]
-mod shared_tests;
 mod sight;
 mod solo;
 mod survey;
