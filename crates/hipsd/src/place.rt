@@ -31,8 +31,8 @@ pub enum PlaceEnd {
 /// it back. It keeps one frame for all; a connection for which there was no memory for one ends for want of it, with nothing
 /// read or written, and the next one is served where there is.
 ///
-/// `Failed` exactly where the door fails, also after a session that ended for want of memory; then its count of faults rose.
-/// `OutOfMemory` where an accept answers it, or a session ended so and no accept failed.
+/// `Failed` only where the door's count of faults rose: it is answered where an accept fails, also after a session that ended
+/// for want of memory. `OutOfMemory` is answered where an accept answers it, or a session ended so and no accept failed.
 pub fn serve_place<R: Threads + Wait + Sync, B: Board, D: Door, G: Gate + Sync>(
     rt: &R,
     alloc: Global,
