@@ -1,2 +1,5 @@
+pub mod Chunks
 pub mod Entries
+pub mod Places
 pub mod Store
+pub mod Tree

@@ -3,39 +3,45 @@ ghost use Rattle.std.specs.Prelude.{◌≡◌, ℕ, ◌+◌, ◌≢◌, [], leng
 ghost use Rattle.std.specs.Arc.{arc_value};
 ghost use Rattle.leaf_store.specs.Store.{IsAscending, value_at, any_key_in, with_value, without_key};
 
+use crate::chunk::{Changing, Chunk};
+use crate::level::Level;
+use crate::page::Page;
 use crate::pairs::Pairs;
+use crate::slot::Slot;
 use std::alloc::{AllocError, Global};
-use std::collections::BTreeMap;
 use std::fmt::{self, Debug, Formatter, Write};
 use std::marker::Model;
 use std::sync::Arc;
 
+/// A shared list of pages.
+pub(crate) type Group<T> = Level<Page<T>>;
+
 /// A map from `u64` keys to shared values. Contracts see its pairs of a key and a value, by ascending key.
 #[derive(Drop)]
 pub struct Store<T> {
-    entries: BTreeMap<u64, Arc<T>>,
+    alloc: Global,
+    // The list of groups, in a slot that counts all pairs; none where there is no pair.
+    root: Option<Slot<Level<Group<T>>>>,
 }
 
 impl<T> Model for Store<T> {
     ghost use Rattle.std.specs.Prelude.{ℕ, List};
-    ghost use Rattle.leaf_store.specs.Store.{IsAscending};
-    ghost use Rattle.leaf_store.specs.Entries.{pairs_of};
+    ghost use Rattle.leaf_store.specs.Tree.{root_pairs, IsTree};
 
     ghost Value = { List (ℕ × T) };
 
-    ghost view = { λ s. pairs_of s.entries.entries };
+    ghost view = { λ s. root_pairs s.root };
 
-    ghost invariant = { λ s. IsAscending (pairs_of s.entries.entries) };
+    ghost invariant = { λ s. IsTree s.root };
 }
 
+#[tactic(auto, unfolding(crate::specs::Tree::root_pairs, crate::specs::Tree::IsRoot))]
 impl<T> Store<T> {
     /// The empty store, which takes its memory from `alloc` as it grows.
     pub fn new(alloc: Global) -> Store<T>
         ensures { result ≡ [] }
     {
-        Store {
-            entries: BTreeMap::new(alloc),
-        }
+        Store { alloc, root: None }
     }
 
     /// How many pairs there are.
@@ -43,7 +49,10 @@ impl<T> Store<T> {
         ensures pairs { result ≡ length self.now }
         ensures ascending { IsAscending self.now }
     {
-        self.entries.len()
+        match &self.root {
+            Some(root) => root.count,
+            None => 0,
+        }
     }
 
     /// The value of the key; `None` exactly where the store doesn't have the key.
@@ -51,17 +60,21 @@ impl<T> Store<T> {
         ensures value { option_map (λ found. arc_value found.now) result ≡ value_at key self.now }
         ensures ascending { IsAscending self.now }
     {
-        self.entries.get(&key)
+        match &self.root {
+            Some(root) => root.chunk.get(key),
+            None => None,
+        }
     }
 
     /// Pair `i` by ascending key, from 0; `None` exactly where `i` is at least the number of pairs.
-    ///
-    /// It goes over the pairs before it: to go over all pairs take `iter`.
     pub fn at(&self, i: usize) -> Option<(u64, &Arc<T>)>
         ensures pair { option_map (λ pair. (pair.0, arc_value pair.1.now)) result ≡ slice_get self.now i }
         ensures ascending { IsAscending self.now }
     {
-        self.iter().nth(i)
+        match &self.root {
+            Some(root) => root.chunk.at(i),
+            None => None,
+        }
     }
 
     /// All pairs, by ascending key.
@@ -69,17 +82,24 @@ impl<T> Store<T> {
         ensures all { result ≡ self.now }
         ensures ascending { IsAscending self.now }
     {
-        Pairs::new(&self.entries)
+        match &self.root {
+            Some(root) => Pairs::new(&root.chunk.slots, root.count),
+            None => Pairs::new(&[], 0),
+        }
     }
 
     /// Whether a key from `low` to below `high` is there.
     pub fn any_in(&self, low: u64, high: u64) -> bool
         ensures { result ≡ any_key_in low high self.now }
     {
-        low < high && self.entries.range(low..high).next().is_some()
+        match &self.root {
+            Some(root) => low < high && root.chunk.any_in(low, high),
+            None => false,
+        }
     }
 }
 
+#[tactic(auto, unfolding(crate::specs::Tree::root_pairs, crate::specs::Tree::IsRoot))]
 impl<T: Drop> Store<T> {
     /// Gives the key this value, and answers the key's old value, if it had one. All other pairs stay.
     ///
@@ -95,7 +115,18 @@ impl<T: Drop> Store<T> {
         ensures refused { OnErr result (self.new ≡ self.old) }
         ensures ascending { IsAscending self.new }
     {
-        Ok(self.entries.insert(key, value)?)
+        match &mut self.root {
+            Some(root) => {
+                if root.count == usize::MAX {
+                    return Err(AllocError);
+                }
+                root.put(key, value)
+            }
+            None => {
+                self.root = Some(Slot::one(self.alloc, key, value)?);
+                Ok(None)
+            }
+        }
     }
 
     /// Takes the key and its value out, and answers the value, if the key was there. All other pairs stay.
@@ -113,7 +144,19 @@ impl<T: Drop> Store<T> {
         ensures refused { OnErr result (self.new ≡ self.old) }
         ensures ascending { IsAscending self.new }
     {
-        Ok(self.entries.remove(&key))
+        if self.get(key).is_none() {
+            return Ok(None);
+        }
+        match &mut self.root {
+            Some(root) => {
+                let old = root.remove(key)?;
+                if root.count == 0 {
+                    self.root = None;
+                }
+                Ok(old)
+            }
+            None => Ok(None),
+        }
     }
 
     /// Another store with the same pairs, whose values are shared with this one. Later changes to one leave the other as it is.
@@ -125,8 +168,11 @@ impl<T: Drop> Store<T> {
         ensures same { IfOk result (λ other. other ≡ self.now) }
         ensures ascending { IsAscending self.now }
     {
-        let entries = self.entries.clone()?;
-        Ok(Store { entries })
+        let root = self.root.clone()?;
+        Ok(Store {
+            alloc: self.alloc,
+            root,
+        })
     }
 }
 

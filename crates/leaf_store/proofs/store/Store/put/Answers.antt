@@ -1,25 +1,32 @@
-use Rattle.std.proofs.Common.{sym, ◌∙◌, ap}
-use Rattle.std.proofs.Common.{option_map}
+use Rattle.std.proofs.Common.{rules, ◌≡◌, ℕ, List, option_map, subst}
+use Rattle.std.specs.Prelude.{IfOk, OnOk, OnErr}
 use Rattle.std.specs.Arc.{arc_value}
-use Rattle.leaf_store.specs.Store.{value_at, with_value}
-use Rattle.leaf_store.specs.Entries.{pairs_of}
-use Rattle.leaf_store.proofs.PairLemmas.{ascending_pairs, value_of_pairs, pairs_of-insert_entry, other_stays}
+use Rattle.leaf_store.specs.Store.{IsAscending, value_at, with_value}
+use Rattle.leaf_store.specs.Tree.{root_pairs, top_pairs, IsRoot}
+use Rattle.leaf_store.proofs.Roots.{put_there, put_others, put_count}
 use Rattle.leaf_store.proofs.store.Store.put.Goals as goal
 
-pub invariant_of-self-2 : goal.invariant_of-self-2
-invariant_of-self-2 g c = ascending_pairs c.insert.new.self.entries c.insert.ensures.ordered
+pub returns-in_err-one-in-None-clause-ascending : goal.returns-in_err-one-in-None-clause-ascending
+returns-in_err-one-in-None-clause-ascending g c = c.self.invariant.ascending
 
-pub returns-clause-old : goal.returns-clause-old
-returns-clause-old g c = ap (option_map arc_value) c.in_ok-insert.ensures.old ∙ sym (value_of_pairs c.args.key c.self.inside.entries.entries) ∙ ap (value_at c.args.key) c.self.view_is
+pub returns-else-root-clause-there : goal.returns-else-root-clause-there
+unfolding root_pairs IsRoot
+returns-else-root-clause-there g c =
+    let put : OnOk c.put.result (top_pairs (arc_value c.put.new.self.chunk) ≡ with_value c.args.key (arc_value c.args.value) c.args.self.now) = search rules in
+    put_there c.args.key c.args.self.now (top_pairs (arc_value c.put.new.self.chunk)) (arc_value c.args.value) c.put.result put
 
-pub returns-clause-put : goal.returns-clause-put
-returns-clause-put g c = ap pairs_of c.in_ok-insert.ensures.entries ∙ pairs_of-insert_entry c.self.inside.entries.entries c.args.key c.args.value ∙ ap (with_value c.args.key (arc_value c.args.value)) c.self.view_is
+pub returns-else-root-clause-others : goal.returns-else-root-clause-others
+unfolding root_pairs IsRoot
+returns-else-root-clause-others g c =
+    let put : OnOk c.put.result (top_pairs (arc_value c.put.new.self.chunk) ≡ with_value c.args.key (arc_value c.args.value) c.args.self.now) = search rules in
+    let refused : OnErr c.put.result (top_pairs (arc_value c.put.new.self.chunk) ≡ c.args.self.now) = search rules in
+    put_others c.args.key c.args.self.now (top_pairs (arc_value c.put.new.self.chunk)) (arc_value c.args.value) c.put.result put refused
 
-pub returns-clause-there : goal.returns-clause-there
-returns-clause-there g c = value_of_pairs c.args.key c.insert.new.self.entries ∙ ap (option_map arc_value) c.in_ok-insert.ensures.updates.1
-
-pub returns-clause-others : goal.returns-clause-others
-returns-clause-others g c = λ other h. other_stays c.args.key other c.self.inside.entries.entries c.insert.new.self.entries c.in_ok-insert.ensures.updates.2 h ∙ ap (value_at other) c.self.view_is
-
-pub returns-clause-ascending : goal.returns-clause-ascending
-returns-clause-ascending g c = ascending_pairs c.insert.new.self.entries c.insert.ensures.ordered
+pub returns-else-root-clause-count : goal.returns-else-root-clause-count
+unfolding root_pairs IsRoot
+returns-else-root-clause-count g c =
+    let P : List (ℕ × g.row.T.Denot) → Type 0 = λ l. IsAscending l in
+    let ascends : IsAscending c.args.self.now = subst P c.self.view_is c.self.invariant.ascending in
+    let put : OnOk c.put.result (top_pairs (arc_value c.put.new.self.chunk) ≡ with_value c.args.key (arc_value c.args.value) c.args.self.now) = search rules in
+    let old : IfOk c.put.result (λ old. option_map arc_value old ≡ value_at c.args.key c.args.self.now) = search rules in
+    put_count c.args.key c.args.self.now (top_pairs (arc_value c.put.new.self.chunk)) (arc_value c.args.value) c.put.result ascends old put

@@ -1,27 +1,44 @@
-use Rattle.std.proofs.Common.{sym, ◌∙◌, ap}
-use Rattle.std.proofs.Common.{option_map}
+use Rattle.std.proofs.Common.{rules, ◌≡◌, ℕ, List, None, option_map, sym, ◌∙◌, ap, subst}
 use Rattle.std.specs.Arc.{arc_value}
-use Rattle.leaf_store.specs.Store.{value_at, without_key}
-use Rattle.std.specs.Ordering.{nat_cmp}
-use Rattle.std.specs.BTreeMap.{is_at}
-use Rattle.leaf_store.specs.Entries.{pairs_of}
-use Rattle.leaf_store.proofs.PairLemmas.{ascending_pairs, value_of_pairs, pairs_of-remove_entry, other_stays}
+use Rattle.leaf_store.specs.Store.{IsAscending, value_at, without_key}
+use Rattle.leaf_store.specs.Tree.{root_pairs, IsRoot}
+use Rattle.leaf_store.proofs.Changed.{without-missing, value-without_same, value-without_other, ascending-without}
+use Rattle.leaf_store.proofs.Roots.{tree_none, removed_count}
 use Rattle.leaf_store.proofs.store.Store.remove.Goals as goal
 
-pub invariant_of-self : goal.invariant_of-self
-invariant_of-self g c = ascending_pairs c.remove.new.self.entries c.remove.ensures.ordered
+pub invariant_of-self-then-root-eq0 : goal.invariant_of-self-then-root-eq0
+invariant_of-self-then-root-eq0 g c = tree_none
 
-pub returns-clause-old : goal.returns-clause-old
-returns-clause-old g c = ap (option_map arc_value) c.remove.ensures.value ∙ sym (value_of_pairs c.args.key c.self.inside.entries.entries) ∙ ap (value_at c.args.key) c.self.view_is
+pub returns-then-is_none-clause-removed : goal.returns-then-is_none-clause-removed
+unfolding root_pairs IsRoot
+returns-then-is_none-clause-removed g c =
+    let missing : value_at c.args.key c.args.self.now ≡ None = search rules in
+    sym (without-missing c.args.key c.args.self.now missing)
 
-pub returns-clause-removed : goal.returns-clause-removed
-returns-clause-removed g c = ap pairs_of c.remove.ensures.entries ∙ pairs_of-remove_entry (is_at (nat_cmp c.args.key)) c.self.inside.entries.entries ∙ ap (without_key c.args.key) c.self.view_is
+pub returns-after-root-eq0-clause-absent : goal.returns-after-root-eq0-clause-absent
+unfolding root_pairs IsRoot
+returns-after-root-eq0-clause-absent g c =
+    let P : List (ℕ × g.row.T.Denot) → Type 0 = λ l. IsAscending l in
+    let ascends : IsAscending c.args.self.now = c.get.ensures.ascending in
+    let removed : c.if-root-eq0.self ≡ without_key c.args.key c.args.self.now = search rules in
+    ap (value_at c.args.key) removed ∙ value-without_same c.args.key c.args.self.now ascends
 
-pub returns-clause-absent : goal.returns-clause-absent
-returns-clause-absent g c = value_of_pairs c.args.key c.remove.new.self.entries ∙ ap (option_map arc_value) c.remove.ensures.updates.1
+pub returns-after-root-eq0-clause-others : goal.returns-after-root-eq0-clause-others
+unfolding root_pairs IsRoot
+returns-after-root-eq0-clause-others g c = λ other h.
+    let removed : c.if-root-eq0.self ≡ without_key c.args.key c.args.self.now = search rules in
+    ap (value_at other) removed ∙ value-without_other c.args.key other c.args.self.now h
 
-pub returns-clause-others : goal.returns-clause-others
-returns-clause-others g c = λ other h. other_stays c.args.key other c.self.inside.entries.entries c.remove.new.self.entries c.remove.ensures.updates.2 h ∙ ap (value_at other) c.self.view_is
+pub returns-after-root-eq0-clause-count : goal.returns-after-root-eq0-clause-count
+unfolding root_pairs IsRoot
+returns-after-root-eq0-clause-count g c =
+    let removed : c.if-root-eq0.self ≡ without_key c.args.key c.args.self.now = search rules in
+    let old : option_map arc_value c.in_ok-old-in-Some.old ≡ value_at c.args.key c.args.self.now = search rules in
+    removed_count c.args.key c.args.self.now c.if-root-eq0.self c.in_ok-old-in-Some.old old removed
 
-pub returns-clause-ascending : goal.returns-clause-ascending
-returns-clause-ascending g c = ascending_pairs c.remove.new.self.entries c.remove.ensures.ordered
+pub returns-after-root-eq0-clause-ascending : goal.returns-after-root-eq0-clause-ascending
+unfolding root_pairs IsRoot
+returns-after-root-eq0-clause-ascending g c =
+    let P : List (ℕ × g.row.T.Denot) → Type 0 = λ l. IsAscending l in
+    let removed : c.if-root-eq0.self ≡ without_key c.args.key c.args.self.now = search rules in
+    subst P (sym removed) (ascending-without c.args.key c.args.self.now c.get.ensures.ascending)

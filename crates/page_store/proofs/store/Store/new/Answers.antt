@@ -1,5 +1,0 @@
-use Rattle.page_store.proofs.Roots.{tree_none}
-use Rattle.page_store.proofs.store.Store.new.Goals as goal
-
-pub invariant_of-result : goal.invariant_of-result
-invariant_of-result g c = tree_none
