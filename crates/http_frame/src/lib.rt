@@ -23,5 +23,3 @@ pub use reply::{Allow, Kind, Number, Reply, write_continue, write_reply, write_r
 pub use request::{Method, Request, Tags};
 pub use stop::{Stop, Turn};
 
-#[cfg(test)]
-mod tests;

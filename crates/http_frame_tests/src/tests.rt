@@ -3,7 +3,7 @@ ghost use Rattle.std.specs.Prelude.{◌≡◌, ◌<◌};
 ghost use Rattle.http_frame.specs.Frame.{AwaitsHead, AwaitsBody};
 ghost use Rattle.http_frame.specs.Reply.{is_reply_code};
 
-use super::*;
+use http_frame::*;
 use std::alloc::{AllocError, Global};
 use std::str;
 use std::test::Fail;
