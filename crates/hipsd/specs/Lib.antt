@@ -7,4 +7,3 @@ pub mod Run
 pub mod Survey
 pub mod Session
 pub mod Make
-pub mod Place

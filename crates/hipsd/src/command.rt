@@ -34,6 +34,34 @@ pub enum Command {
         /// How many edits.
         edits: u32,
     },
+    /// Connections are served at many doors at once.
+    Serve {
+        /// How many connections of each door.
+        connections: u32,
+        /// How many doors.
+        places: usize,
+    },
+}
+
+impl Command {
+    // How many doors it needs.
+    fn doors(self) -> usize {
+        match self {
+            Command::Serve { places, .. } => places,
+            _ => 0,
+        }
+    }
+}
+
+/// The command that the words ask for, where there are so many doors; `None` exactly where they are no row of the table of
+/// commands, or it needs more doors.
+pub fn command_for(words: &[String], doors: usize) -> Option<Command> {
+    let command = read_command(words)?;
+    if command.doors() <= doors {
+        Some(command)
+    } else {
+        None
+    }
 }
 
 /// The command that the words ask for; `None` exactly where they are no row of the table of commands.
@@ -48,6 +76,9 @@ pub fn read_command(words: &[String]) -> Option<Command>
         }
         [name, number, edits] if name.as_str() == "make" => {
             read_make(number.as_str(), edits.as_str())
+        }
+        [name, _, connections, places] if name.as_str() == "serve" => {
+            read_serve(connections.as_str(), places.as_str())
         }
         [name] => read_name(name.as_str()),
         _ => None,
@@ -96,6 +127,22 @@ fn read_make(number: &str, edits: &str) -> Option<Command>
     if 1 <= edits && edits <= 4096 {
         let edits = edits as u32;
         Some(Command::Make { number, edits })
+    } else {
+        None
+    }
+}
+
+// What the words after `serve` and its address ask for.
+fn read_serve(connections: &str, places: &str) -> Option<Command> {
+    let connections = plain_decimal(connections.as_bytes())?;
+    let places = small_number(places, 1, 64)?;
+    if 1 <= connections && connections <= 65_536 {
+        let connections = connections as u32;
+        let places = usize::from(places);
+        Some(Command::Serve {
+            connections,
+            places,
+        })
     } else {
         None
     }

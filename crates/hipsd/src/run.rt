@@ -15,12 +15,13 @@ ghost use Rattle.hipsd.specs.Survey.{RunsExport, RunsVerify};
 ghost use Rattle.hipsd.specs.Session.{RunsSession, ends_of};
 ghost use Rattle.hipsd.specs.Make.{RunsMake};
 
-use crate::command::{Command, Probe, read_command};
+use crate::command::{Command, Probe, command_for};
 use crate::exporting::run_export;
 use crate::making::run_make;
 use crate::output::write_out;
 use crate::probe::probe;
 use crate::serving::run_session;
+use crate::sharing::run_serve;
 use crate::verifying::run_verify;
 use parent_rule::Steps;
 use std::alloc::Global;
@@ -131,7 +132,7 @@ where
     ensures doors { doors.new ≡ doors.old }
     ensures steps_never_fall { steps.old ≤ steps.new }
 {
-    match read_command(words) {
+    match command_for(words, doors.len()) {
         None => usage(sink),
         Some(command) => match command {
             Command::Probe(asked) => run_probe(rt.alloc(), &asked, source, sink, steps),
@@ -139,6 +140,13 @@ where
             Command::Export => run_export(rt, sink, shelf, gate, steps),
             Command::Verify => run_verify(rt, sink, shelf, gate, steps),
             Command::Make { number, edits } => run_make(rt, number, edits, sink, gate, steps),
+            Command::Serve {
+                connections,
+                places,
+            } => {
+                let (doors, _) = doors.split_at_mut(places);
+                run_serve(rt, connections, doors, sink, shelf, gate, steps)
+            }
         },
     }
 }

@@ -10,8 +10,8 @@ use Rattle.reader_pin.specs.Board.{BoardContent}
 use Rattle.hips_http.specs.declared.served.SessionEnd.{SessionEnd}
 use Rattle.hips_http.specs.declared.served.SessionEnd.TheVariants.{OutOfMemory}
 use Rattle.hips_http.specs.SessionRun.{SessionRun, most_requests}
-use Rattle.hipsd.specs.declared.place.PlaceEnd.{PlaceEnd}
-use Rattle.hipsd.specs.declared.place.PlaceEnd.TheVariants.{Done}
+use Rattle.hips_place.specs.declared.place.PlaceEnd.{PlaceEnd}
+use Rattle.hips_place.specs.declared.place.PlaceEnd.TheVariants.{Done}
 
 -- ---- a connection
 
