@@ -4,10 +4,12 @@
 //! once (`serve_places`).
 #![tactic(auto)]
 
+mod doors;
 mod place;
 mod places;
 #[cfg(test)]
 mod tests;
 
+pub use doors::serve_doors;
 pub use place::{PlaceEnd, serve_place};
 pub use places::serve_places;

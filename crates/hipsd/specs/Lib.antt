@@ -7,3 +7,4 @@ pub mod Run
 pub mod Survey
 pub mod Session
 pub mod Make
+pub mod Serve

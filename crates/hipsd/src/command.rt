@@ -1,8 +1,8 @@
 //! What the words of a command line ask for.
-ghost use Rattle.std.specs.Prelude.{◌≡◌, ◌≢◌, ℕ, ◌≤◌, [], ◌∷◌, IfSome, IfNone, MatchOption, codes, decimal};
-ghost use Rattle.hipsd.specs.Command.{texts, Asks, IsCommand};
+ghost use Rattle.std.specs.Prelude.{◌≡◌, ◌≢◌, ℕ, ◌≤◌, List, [], ◌∷◌, IfSome, IfNone, MatchOption, codes, decimal};
+ghost use Rattle.hipsd.specs.Command.{texts, Asks, IsCommand, IsCommandFor, doors_of};
 ghost use Rattle.hipsd.specs.declared.command.Probe.{Probe as AskedProbe};
-ghost use Rattle.hipsd.specs.declared.command.Command.TheVariants.{Probe as ProbeCommand, Make};
+ghost use Rattle.hipsd.specs.declared.command.Command.TheVariants.{Probe as ProbeCommand, Make, Serve};
 
 use decimal_scale::plain_decimal;
 
@@ -45,7 +45,9 @@ pub enum Command {
 
 impl Command {
     // How many doors it needs.
-    fn doors(self) -> usize {
+    fn doors(self) -> usize
+        ensures { result ≡ doors_of self }
+    {
         match self {
             Command::Serve { places, .. } => places,
             _ => 0,
@@ -55,7 +57,11 @@ impl Command {
 
 /// The command that the words ask for, where there are so many doors; `None` exactly where they are no row of the table of
 /// commands, or it needs more doors.
-pub fn command_for(words: &[String], doors: usize) -> Option<Command> {
+pub fn command_for(words: &[String], doors: usize) -> Option<Command>
+    ensures asked { IfSome result (Asks (texts words.now)) }
+    ensures fits { IfSome result (λ command. doors_of command ≤ doors) }
+    ensures none { IfNone result (¬ IsCommandFor doors (texts words.now)) }
+{
     let command = read_command(words)?;
     if command.doors() <= doors {
         Some(command)
@@ -133,7 +139,11 @@ fn read_make(number: &str, edits: &str) -> Option<Command>
 }
 
 // What the words after `serve` and its address ask for.
-fn read_serve(connections: &str, places: &str) -> Option<Command> {
+fn read_serve(connections: &str, places: &str) -> Option<Command>
+    ensures asked { IfSome result (λ command. (address : List ℕ) → Asks (codes "serve" ∷ address ∷ connections.now ∷ places.now ∷ []) command) }
+    ensures none { IfNone result ((address : List ℕ) (n : ℕ) (m : ℕ)
+        → ¬ Asks (codes "serve" ∷ address ∷ connections.now ∷ places.now ∷ []) (Serve n m)) }
+{
     let connections = plain_decimal(connections.as_bytes())?;
     let places = small_number(places, 1, 64)?;
     if 1 <= connections && connections <= 65_536 {

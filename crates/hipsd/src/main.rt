@@ -26,6 +26,8 @@ mod probe;
 mod records;
 mod refusing;
 mod run;
+#[cfg(test)]
+mod serve_tests;
 mod serving;
 #[cfg(test)]
 mod session_tests;
@@ -35,6 +37,8 @@ mod summary;
 mod survey_tests;
 #[cfg(test)]
 mod tests;
+#[cfg(test)]
+mod together_tests;
 mod verifying;
 
 use parent_rule::Steps;
