@@ -4,6 +4,7 @@ ghost use Rattle.survey_link.specs.Link.{Rises};
 ghost use Rattle.edit_journal.specs.Leaves.{charge_of};
 ghost use Rattle.edit_journal.specs.Faults.{most_charge};
 ghost use Rattle.shelf_io.specs.Opening.{OpenedSurvey};
+ghost use Rattle.hipsd.specs.Serve.{state_of};
 ghost use Rattle.hipsd.specs.Session.{OpensAs, OpensNot, Serves, RunsSession, board_of, ends_of, end_status};
 
 use crate::refusing::say_why;
@@ -85,8 +86,21 @@ pub fn first_board(alloc: Global, generation: Generation) -> Result<Solo, AllocE
     requires charge { charge_of generation.leaves [] ≤ most_charge }
     ensures { IfOk result (λ board. board ≡ board_of (record { conf = generation.conf; leaves = generation.leaves })) }
 {
+    Solo::new(alloc, first_state(alloc, generation)?)
+}
+
+/// The first state of a survey of which this is the first generation.
+///
+/// # Errors
+///
+/// `AllocError` where there is no memory for it.
+pub fn first_state(alloc: Global, generation: Generation) -> Result<State, AllocError>
+    requires first { generation.prefix ≡ 0 }
+    requires charge { charge_of generation.leaves [] ≤ most_charge }
+    ensures { IfOk result (λ state. state ≡ state_of (record { conf = generation.conf; leaves = generation.leaves })) }
+{
     match State::start(alloc, Arc::new(alloc, generation)?) {
-        Ok(state) => Solo::new(alloc, state),
+        Ok(state) => Ok(state),
         Err(StartRefusal::OutOfMemory) => Err(AllocError),
         Err(StartRefusal::TooMany { .. }) => unreachable!(),
     }

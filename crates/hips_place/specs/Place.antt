@@ -1,17 +1,19 @@
 -- One place of the server: the connections that it takes from its door, serves one after another, and gives back. This
 -- project's profile.
-use Rattle.std.specs.Prelude.{◌≡◌, ◌≢◌, ◌⊎◌, ℕ, ◌*◌, ◌≤◌, List, [], ◌∷◌, ◌++◌, length, All, Option, Some, None, IfSome, option_map, ⊤}
+use Rattle.std.specs.Prelude.{◌≡◌, ◌≢◌, ◌⊎◌, ℕ, ◌*◌, ◌≤◌, List, [], ◌∷◌, ◌++◌, length, map, All, Contains, Option, Some, None, IfSome, option_map, ⊤}
+use Rattle.std.specs.List.{AllZip}
 use Rattle.std.specs.Io.KnownBytes.{Appends}
 use Rattle.survey_conf.specs.Description.{Description}
+use Rattle.survey_link.specs.Link.{Rises}
 use Rattle.survey_link.specs.Door.{Connection, Connections, Takes, NoneWaits, given_back}
 use Rattle.edit_journal.specs.Leaves.{LeafTiles}
-use Rattle.survey_core.specs.History.{SurveyState, IsHistory, Begins}
+use Rattle.survey_core.specs.History.{SurveyState, opening_state, IsHistory, Begins}
 use Rattle.reader_pin.specs.Board.{BoardContent}
 use Rattle.hips_http.specs.declared.served.SessionEnd.{SessionEnd}
-use Rattle.hips_http.specs.declared.served.SessionEnd.TheVariants.{OutOfMemory}
+use Rattle.hips_http.specs.declared.served.SessionEnd.TheVariants.{OutOfMemory as WantOfMemory}
 use Rattle.hips_http.specs.SessionRun.{SessionRun, most_requests}
-use Rattle.hipsd.specs.declared.place.PlaceEnd.{PlaceEnd}
-use Rattle.hipsd.specs.declared.place.PlaceEnd.TheVariants.{Done}
+use Rattle.hips_place.specs.declared.place.PlaceEnd.{PlaceEnd}
+use Rattle.hips_place.specs.declared.place.PlaceEnd.TheVariants.{Done, Failed, OutOfMemory}
 
 -- ---- a connection
 
@@ -77,7 +79,7 @@ pub record IsPlace (old new : BoardContent) (door door' : Option Connections) (m
   pub handed : HandsOut door takens backs door'
   pub few : length takens ≤ most
   pub all : end ≡ Done → (length takens ≡ most) ⊎ NoneWaits door'
-  pub none_wanted : end ≡ Done → All (λ end. end ≢ OutOfMemory) ends
+  pub none_wanted : end ≡ Done → All (λ end. end ≢ WantOfMemory) ends
 
 -- what is true of it, also where nothing is told: the history that its board sees goes on, with as many events of its own as
 -- so many connections may make
@@ -106,3 +108,85 @@ pub record GivesBack (door door' : Option Connections) (old new : BoardContent) 
   pub back : Connection
   pub returned : door' ≡ option_map (given_back back) door
   pub served : IsServedOnce new.conf new.opening old.history taken back new.history end
+
+-- ---- the places of a server
+
+-- a place: its board, its door and the door's count of faults, before and after, and how it ended
+pub record OnePlace : Type 0 where
+  pub board : BoardContent
+  pub board_then : BoardContent
+  pub door : Option Connections
+  pub door_then : Option Connections
+  pub faults : ℕ
+  pub faults_then : ℕ
+  pub end : PlaceEnd
+
+-- it is one of which so many connections were to be taken
+pub record IsServedPlace (most : ℕ) (place : OnePlace) : Type 0 where
+  pub served : AllReturned place.door → IsPlace place.board place.board_then place.door place.door_then most place.end
+  pub goes : PlaceGoes place.board place.board_then most
+  pub failed : place.end ≡ Failed → Rises place.faults place.faults_then
+  pub never_falls : place.faults ≤ place.faults_then
+
+-- the worse of two ends: `Failed`, before `OutOfMemory`, before `Done`
+abbrev pub worse : PlaceEnd → PlaceEnd → PlaceEnd
+worse Failed other = Failed
+worse OutOfMemory Failed = Failed
+worse OutOfMemory OutOfMemory = OutOfMemory
+worse OutOfMemory Done = OutOfMemory
+worse Done other = other
+
+-- places that ended so ended all in all so: `Failed` where one did so; else `OutOfMemory` where one did; else `Done`
+pub record EndAs (ends : List PlaceEnd) (end : PlaceEnd) : Type 0 where
+  pub done : end ≡ Done → All (λ each. each ≡ Done) ends
+  pub failed : end ≡ Failed → Contains ends Failed
+  pub wanted : end ≡ OutOfMemory → Contains ends OutOfMemory × All (λ each. each ≢ Failed) ends
+
+-- the places of a server, one for each board and the door beside it, of each of which so many connections were to be taken
+pub record ArePlaces (most : ℕ) (boards boards' : List BoardContent) (doors doors' : List (Option Connections)) (faults faults' : List ℕ) (end : PlaceEnd) : Type 0 where
+  pub places : List OnePlace
+  pub each : All (IsServedPlace most) places
+  pub boards_are : map (λ p. p.board) places ≡ boards
+  pub boards_then : map (λ p. p.board_then) places ≡ boards'
+  pub doors_are : map (λ p. p.door) places ≡ doors
+  pub doors_then : map (λ p. p.door_then) places ≡ doors'
+  pub faults_are : map (λ p. p.faults) places ≡ faults
+  pub faults_then : map (λ p. p.faults_then) places ≡ faults'
+  pub ends : EndAs (map (λ p. p.end) places) end
+
+-- ---- the doors of a survey's server
+
+-- the board of a survey that nobody has changed yet
+abbrev pub first_board : Description → LeafTiles → BoardContent
+first_board conf opening = record { conf = conf; opening = opening; history = opening_state ∷ []; own = []; held = None }
+
+-- a door of the server, of which so many connections were to be taken, where the server's places ended all in all so: those
+-- that it handed out and got back lead from the survey's first state to states with which these begin
+pub record ServesDoor (conf : Description) (opening : LeafTiles) (states : List SurveyState) (most : ℕ) (end : PlaceEnd) (door door' : Option Connections) : Type 0 where
+  pub takens : List Connection
+  pub backs : List Connection
+  pub ends : List SessionEnd
+  pub seen : List SurveyState
+  pub run : PlaceRun conf opening (opening_state ∷ []) takens backs ends seen
+  pub begins : Begins seen states
+  pub handed : HandsOut door takens backs door'
+  pub few : length takens ≤ most
+  pub all : end ≡ Done → (length takens ≡ most) ⊎ NoneWaits door'
+  pub none_wanted : end ≡ Done → All (λ end. end ≢ WantOfMemory) ends
+
+-- the doors of the server, each of which had got back all that it had handed out: one history holds what happened at all of them
+pub record ServesDoors (conf : Description) (opening : LeafTiles) (most : ℕ) (doors doors' : List (Option Connections)) (end : PlaceEnd) : Type 0 where
+  pub states : List SurveyState
+  pub legal : IsHistory opening states
+  pub each : AllZip (λ door door'. AllReturned door → ServesDoor conf opening states most end door door') doors doors'
+
+-- the count of one of them rose
+abbrev pub SomeRises : List ℕ → List ℕ → Type 0
+SomeRises (old ∷ olds) (new ∷ news) = Rises old new ⊎ SomeRises olds news
+SomeRises olds news = ⊥
+
+-- what each of the boards has seen is the beginning of the states of one history
+pub record HaveAllMet (boards : List BoardContent) : Type 0 where
+  pub states : List SurveyState
+  pub legal : (opening : LeafTiles) → All (λ board. board.opening ≡ opening) boards → IsHistory opening states
+  pub each : All (λ board. Begins board.history states) boards

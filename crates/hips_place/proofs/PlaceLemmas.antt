@@ -13,7 +13,7 @@ use Rattle.reader_pin.specs.Board.{BoardContent, holding_none}
 use Rattle.hips_http.specs.declared.served.SessionEnd.{SessionEnd}
 use Rattle.hips_http.specs.declared.served.SessionEnd.TheVariants.{OutOfMemory}
 use Rattle.hips_http.specs.SessionRun.{Goes, first_point}
-use Rattle.hipsd.specs.Place.{IsSession, IsServedOnce, PlaceRun, AllReturned, HandsOut, PlaceGoes, TakesOne}
+use Rattle.hips_place.specs.Place.{IsSession, IsServedOnce, PlaceRun, AllReturned, HandsOut, PlaceGoes, TakesOne}
 
 -- ---- one connection
 

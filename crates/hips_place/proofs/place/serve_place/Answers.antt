@@ -1,6 +1,6 @@
 use Rattle.std.proofs.Common.{arith}
-use Rattle.hipsd.proofs.PlaceLemmas.{begins_place, one_more, goes_first, goes_more}
-use Rattle.hipsd.proofs.place.serve_place.Goals as goal
+use Rattle.hips_place.proofs.PlaceLemmas.{begins_place, one_more, goes_first, goes_more}
+use Rattle.hips_place.proofs.place.serve_place.Goals as goal
 
 pub loop-init : goal.loop-init
 loop-init g c = (

@@ -1,5 +1,5 @@
-use Rattle.hipsd.proofs.PlaceLemmas.{starved_once}
-use Rattle.hipsd.proofs.place.serve.Goals as goal
+use Rattle.hips_place.proofs.PlaceLemmas.{starved_once}
+use Rattle.hips_place.proofs.place.serve.Goals as goal
 
 pub returns-in-None-clause-served : goal.returns-in-None-clause-served
 returns-in-None-clause-served g c =

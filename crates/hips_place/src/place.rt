@@ -4,7 +4,7 @@ ghost use Rattle.survey_link.specs.Link.{Rises};
 ghost use Rattle.survey_link.specs.Door.{NoneWaits};
 ghost use Rattle.survey_core.specs.History.{IsHistory};
 ghost use Rattle.hips_http.specs.SessionRun.{Goes, room_of};
-ghost use Rattle.hipsd.specs.Place.{AllReturned, IsPlace, IsServedOnce, PlaceGoes, TakesOne, GivesBack};
+ghost use Rattle.hips_place.specs.Place.{AllReturned, IsPlace, IsServedOnce, PlaceGoes, TakesOne, GivesBack, worse};
 
 use hips_http::{SessionEnd, session_in};
 use http_frame::Frame;
@@ -25,6 +25,19 @@ pub enum PlaceEnd {
     Failed,
     /// A session ended for want of memory, or a connection wasn't accepted for want of it.
     OutOfMemory,
+}
+
+impl PlaceEnd {
+    /// The worse of two ends: `Failed` where one is so; else `OutOfMemory` where one is; else `Done`.
+    pub(crate) fn worse(self, other: PlaceEnd) -> PlaceEnd
+        ensures { result ≡ worse self other }
+    {
+        match (self, other) {
+            (PlaceEnd::Failed, _) | (_, PlaceEnd::Failed) => PlaceEnd::Failed,
+            (PlaceEnd::OutOfMemory, _) | (_, PlaceEnd::OutOfMemory) => PlaceEnd::OutOfMemory,
+            (PlaceEnd::Done, PlaceEnd::Done) => PlaceEnd::Done,
+        }
+    }
 }
 
 /// Takes up to `most` connections from the door, one after another, serves each from the states that the board sees, and gives

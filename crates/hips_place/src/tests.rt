@@ -1,5 +1,5 @@
 //! Places over a door in memory.
-use crate::place::{PlaceEnd, serve_place};
+use crate::{PlaceEnd, serve_place};
 use generation::Generation;
 use leaf_store::Store;
 use parent_rule::Steps;
