@@ -10,12 +10,14 @@ ghost use Rattle.hips_place.specs.Place.{ServesDoors, SomeRises, HaveAllMet};
 
 use crate::place::PlaceEnd;
 use crate::places::serve_places;
+use log::Log;
 use reader_pin::{Board, SeenSurvey, Shared, Survey, SurveyBook, SurveySeat, open_shared};
-use shared_history::{Naming, Showable};
+use shared_history::Naming;
 use std::alloc::{AllocError, Global};
 use std::marker::Brand;
 use std::sync::Wait;
 use std::thread::Threads;
+use std::time::Clock;
 use survey_core::State;
 use survey_link::{Door, Gate};
 
@@ -28,7 +30,7 @@ use survey_link::{Door, Gate};
 /// # Errors
 ///
 /// `AllocError` where there is no memory to open the survey, or for boards to meet.
-pub fn serve_doors<R: Threads + Wait + Sync, D: Door + Send, G: Gate + Sync>(
+pub fn serve_doors<R: Threads + Wait + Sync + Clock + Log, D: Door + Send, G: Gate + Sync>(
     rt: &R,
     alloc: Global,
     state: State,
@@ -57,8 +59,7 @@ fn serve_named<J, R, D, G>(
 ) -> Result<PlaceEnd, AllocError>
 where
     J: Naming + Send + Sync,
-    SeenSurvey<J>: Showable,
-    R: Threads + Wait + Sync,
+    R: Threads + Wait + Sync + Clock + Log,
     D: Door + Send,
     G: Gate + Sync,
     requires book { book ≡ J.book }
@@ -86,8 +87,7 @@ fn serve_seats<'a, J, R, D, G>(
 ) -> Result<PlaceEnd, AllocError>
 where
     J: Naming + Send + Sync,
-    SeenSurvey<J>: Showable,
-    R: Threads + Wait + Sync,
+    R: Threads + Wait + Sync + Clock + Log,
     D: Door + Send,
     G: Gate + Sync,
     requires same { length seats.items ≡ length doors.old }
@@ -109,7 +109,6 @@ fn boards_at<'a, J: Naming>(
     seats: Vec<SurveySeat<J>>,
 ) -> Result<Vec<Shared<'a, J>>, AllocError>
 where
-    SeenSurvey<J>: Showable,
     ensures { IfOk result (λ boards. boards.items ≡ map seated seats.items) }
 {
     let mut boards = Vec::new(alloc);
@@ -122,7 +121,6 @@ where
 // The first board meets each other one.
 fn meet_first<'a, J: Naming>(boards: &mut [Shared<'a, J>]) -> Result<(), AllocError>
 where
-    SeenSurvey<J>: Showable,
     requires { 0 < length boards.old }
     ensures { OnOk result (HaveAllMet boards.old) }
 {
@@ -136,7 +134,6 @@ fn meet_others<'a, J: Naming>(
     others: &mut [Shared<'a, J>],
 ) -> Result<(), AllocError>
 where
-    SeenSurvey<J>: Showable,
     ensures stays { OnOk result (Stays first.old first.new) }
     ensures met { OnOk result (All (λ board. Begins board.history first.new.history) others.old) }
 {

@@ -8,11 +8,13 @@ ghost use Rattle.hips_place.specs.Place.{AllReturned, IsPlace, IsServedOnce, Pla
 
 use hips_http::{SessionEnd, session_in};
 use http_frame::Frame;
+use log::{Log, debug};
 use parent_rule::Steps;
 use reader_pin::Board;
 use std::alloc::Global;
 use std::sync::Wait;
 use std::thread::Threads;
+use std::time::Clock;
 use survey_core::batch_room;
 use survey_link::{Door, DoorFault, Gate, Sink, Source};
 
@@ -46,7 +48,7 @@ impl PlaceEnd {
 ///
 /// `Failed` only where the door's count of faults rose: it is answered where an accept fails, also after a session that ended
 /// for want of memory. `OutOfMemory` is answered where an accept answers it, or a session ended so and no accept failed.
-pub fn serve_place<R: Threads + Wait + Sync, B: Board, D: Door, G: Gate + Sync>(
+pub fn serve_place<R: Threads + Wait + Sync + Clock + Log, B: Board, D: Door, G: Gate + Sync>(
     rt: &R,
     alloc: Global,
     board: &mut B,
@@ -114,7 +116,7 @@ fn frame_for<B: Board>(alloc: Global, board: &B) -> Option<Frame>
 
 // Takes the next connection, serves it and gives it back; how it ended, or `None` where none is left. Where there is no frame,
 // one is asked for before.
-fn serve_next<R: Threads + Wait + Sync, B: Board, D: Door, G: Gate + Sync>(
+fn serve_next<R: Threads + Wait + Sync + Clock + Log, B: Board, D: Door, G: Gate + Sync>(
     rt: &R,
     alloc: Global,
     frame: &mut Option<Frame>,
@@ -148,7 +150,7 @@ fn serve_next<R: Threads + Wait + Sync, B: Board, D: Door, G: Gate + Sync>(
 }
 
 // Serves a connection and gives it back; how it ended.
-fn serve_connection<R: Threads + Wait + Sync, B: Board, D: Door, G: Gate + Sync>(
+fn serve_connection<R: Threads + Wait + Sync + Clock + Log, B: Board, D: Door, G: Gate + Sync>(
     rt: &R,
     alloc: Global,
     frame: &mut Option<Frame>,
@@ -182,11 +184,12 @@ fn serve_connection<R: Threads + Wait + Sync, B: Board, D: Door, G: Gate + Sync>
         steps,
     );
     door.done(input, output);
+    debug!(rt; "a connection ended: {end:?}");
     end
 }
 
 // Serves a connection over the frame; how it ended. Where there is no frame it ends for want of memory.
-fn serve<R: Threads + Wait + Sync, B: Board, S: Source, K: Sink, G: Gate + Sync>(
+fn serve<R: Threads + Wait + Sync + Clock + Log, B: Board, S: Source, K: Sink, G: Gate + Sync>(
     rt: &R,
     alloc: Global,
     frame: &mut Option<Frame>,

@@ -4,11 +4,13 @@ ghost use denote.Param.Send.{IsSync, IsSend};
 ghost use Rattle.hips_place.specs.Place.{ArePlaces};
 
 use crate::place::{PlaceEnd, serve_place};
+use log::Log;
 use parent_rule::Steps;
 use reader_pin::Board;
 use std::alloc::Global;
 use std::sync::Wait;
 use std::thread::{Threads, join_mut};
+use std::time::Clock;
 use survey_link::{Door, Gate};
 
 /// Serves the doors at once, each by the board at its place: up to `most` connections of each, one after another. Each place
@@ -17,14 +19,12 @@ use survey_link::{Door, Gate};
 ///
 /// It answers `Failed` where a place ended so; else `OutOfMemory` where one did; else `Done`.
 #[cycle(places)]
-pub fn serve_places<R: Threads + Wait + Sync, B: Board + Send, D: Door + Send, G: Gate + Sync>(
-    rt: &R,
-    alloc: Global,
-    most: u32,
-    gate: &G,
-    boards: &mut [B],
-    doors: &mut [D],
-) -> PlaceEnd
+pub fn serve_places<
+    R: Threads + Wait + Sync + Clock + Log,
+    B: Board + Send,
+    D: Door + Send,
+    G: Gate + Sync,
+>(rt: &R, alloc: Global, most: u32, gate: &G, boards: &mut [B], doors: &mut [D]) -> PlaceEnd
     requires { length boards.old ≡ length doors.old }
     ensures { ArePlaces most (map B.content boards.old) (map B.content boards.new) (map D.connections doors.old) (map D.connections doors.new)
         (map D.faults doors.old) (map D.faults doors.new) result }
@@ -49,7 +49,12 @@ pub fn serve_places<R: Threads + Wait + Sync, B: Board + Send, D: Door + Send, G
 
 // Serves the places of two parts of the server at once.
 #[cycle(places)]
-fn serve_both<R: Threads + Wait + Sync, B: Board + Send, D: Door + Send, G: Gate + Sync>(
+fn serve_both<
+    R: Threads + Wait + Sync + Clock + Log,
+    B: Board + Send,
+    D: Door + Send,
+    G: Gate + Sync,
+>(
     rt: &R,
     alloc: Global,
     most: u32,
@@ -85,7 +90,7 @@ fn serve_both<R: Threads + Wait + Sync, B: Board + Send, D: Door + Send, G: Gate
 }
 
 // Serves the one place, where there is one.
-fn serve_first<R: Threads + Wait + Sync, B: Board, D: Door, G: Gate + Sync>(
+fn serve_first<R: Threads + Wait + Sync + Clock + Log, B: Board, D: Door, G: Gate + Sync>(
     rt: &R,
     alloc: Global,
     most: u32,

@@ -2,12 +2,14 @@
 use crate::{PlaceEnd, serve_place};
 use generation::Generation;
 use leaf_store::Store;
+use log::Log;
 use parent_rule::Steps;
 use reader_pin::Solo;
 use std::alloc::{AllocError, Global};
 use std::sync::{Arc, Wait};
 use std::test::Fail;
 use std::thread::Threads;
+use std::time::Clock;
 use survey_conf::Conf;
 use survey_core::State;
 use survey_link::{MemDoor, MemSink, MemSource, OpenGate};
@@ -68,7 +70,7 @@ fn served(door: &MemDoor) -> usize {
 }
 
 // How a place ends that takes so many connections, and how many of them it serves.
-fn place<R: Threads + Wait + Sync>(
+fn place<R: Threads + Wait + Sync + Clock + Log>(
     rt: &R,
     alloc: Global,
     most: u32,

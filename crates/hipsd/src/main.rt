@@ -41,13 +41,15 @@ mod tests;
 mod together_tests;
 mod verifying;
 
+use log::sink::Console;
+use log::{LevelFilter, Log, Logged};
 use parent_rule::Steps;
 use run::run;
 use std::alloc::Global;
 use std::io::{BufReader, BufWriter, ErrorKind};
 use std::net::{Net, TcpListener, TcpStream};
 use std::process::ExitCode;
-use std::rt::Runtime;
+use std::rt::{Env, Runtime};
 use std::sync::Wait;
 use std::thread::Threads;
 use std::{env, io};
@@ -78,7 +80,7 @@ fn words(alloc: Global, args: io::Result<env::Args>) -> io::Result<Vec<String>> 
 // Runs the words over standard input and output and the current folder, and passes the status on.
 fn run_words<R>(rt: &R, words: &[String]) -> io::Result<u8>
 where
-    R: Runtime + AllocGlobal + Threads + Wait + Send + Sync + Clone + Drop,
+    R: Runtime + AllocGlobal + Threads + Wait + Log + Send + Sync + Clone + Drop,
     R: Net<Listener = TcpListener, Stream = TcpStream>,
     R::Reader: Drop,
     ensures usage { ¬ IsCommand (texts words.now) → IfOk result (λ status. (status ≡ 1) ⊎ (status ≡ 6)) }
@@ -109,7 +111,7 @@ where
 // Runs the command line.
 fn run_here<R>(rt: &R) -> io::Result<u8>
 where
-    R: Runtime + AllocGlobal + Threads + Wait + Send + Sync + Clone + Drop,
+    R: Runtime + AllocGlobal + Threads + Wait + Log + Send + Sync + Clone + Drop,
     R: Net<Listener = TcpListener, Stream = TcpStream>,
     R::Reader: Drop,
 {
@@ -126,6 +128,14 @@ fn exit_code(ended: io::Result<u8>) -> ExitCode
     }
 }
 
+// The level up to which is logged: that of the environment variable `HIPSD_LOG`, and `info` where it names none.
+fn log_level<R: AllocGlobal + Env>(rt: &R) -> LevelFilter {
+    match env::var(rt, "HIPSD_LOG") {
+        Ok(level) => level.as_str().parse().unwrap_or(LevelFilter::Info),
+        Err(_) => LevelFilter::Info,
+    }
+}
+
 fn main(rt: HostRuntime) -> ExitCode {
-    exit_code(run_here(&rt))
+    exit_code(run_here(&Logged::new(rt, log_level(&rt), Console(rt))))
 }

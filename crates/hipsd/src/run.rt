@@ -25,10 +25,12 @@ use crate::probe::probe;
 use crate::serving::run_session;
 use crate::sharing::run_serve;
 use crate::verifying::run_verify;
+use log::Log;
 use parent_rule::Steps;
 use std::alloc::Global;
 use std::sync::Wait;
 use std::thread::Threads;
+use std::time::Clock;
 use survey_link::{Door, Gate, Shelf, Sink, Source};
 
 /// Runs the command that the words ask for, over these ends, and answers its status.
@@ -61,7 +63,7 @@ pub fn run<R, S, K, H, D, G>(
     steps: &mut Steps,
 ) -> u8
 where
-    R: AllocGlobal + Threads + Wait + Sync,
+    R: AllocGlobal + Threads + Wait + Sync + Clock + Log,
     S: Source,
     K: Sink,
     H: Shelf,

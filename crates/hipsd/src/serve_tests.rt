@@ -2,11 +2,13 @@
 use crate::run::run;
 use crate::session_tests::bytes_of;
 use crate::survey_tests::{SMALL, describe};
+use log::Log;
 use parent_rule::Steps;
 use std::alloc::Global;
 use std::sync::Wait;
 use std::test::Fail;
 use std::thread::Threads;
+use std::time::Clock;
 use survey_link::{Door, MemDoor, MemShelf, MemSink, MemSource, OpenGate, Shelf};
 
 // Runs `serve` on the small survey without leaves over all these doors, up to so many connections of each, and answers the
@@ -18,7 +20,7 @@ pub(crate) fn serve<R, D>(
     doors: &mut Vec<D>,
 ) -> Result<u8, Fail>
 where
-    R: AllocGlobal + Threads + Wait + Sync,
+    R: AllocGlobal + Threads + Wait + Sync + Clock + Log,
     D: Door + Send,
     D::In: Send,
     D::Out: Send,
@@ -57,11 +59,7 @@ fn door_of(alloc: Global, fails: u64) -> Result<MemDoor, Fail> {
     let sink = MemSink::new(alloc, 1_024, Vec::new(alloc))?;
     let mut clients = Vec::new(alloc);
     clients.push((source, sink))?;
-    Ok(MemDoor::new(
-        alloc,
-        clients,
-        Vec::from_slice(alloc, &[fails])?,
-    )?)
+    Ok(MemDoor::new(alloc, clients, Vec::from_slice(alloc, &[fails])?)?)
 }
 
 // The words CONNECTIONS and PLACES, the accept of the first door that fails, the status, and how many of two doors' clients
@@ -89,7 +87,10 @@ fn serves_the_doors_of_its_places(rt: HostRuntime) -> Result<(), Fail> {
                 None => false,
             })
             .count();
-        assert!(rt; (ended, count) == (*status, *served), "{connections} {places} {fails}");
+        assert!(rt;
+            (ended, count) == (*status, *served),
+            "{connections} {places} {fails}"
+        );
     }
     Ok(())
 }

@@ -11,12 +11,14 @@ use crate::refusing::say_why;
 use edit_journal::StartRefusal;
 use generation::Generation;
 use hips_http::{SessionEnd, session};
+use log::Log;
 use parent_rule::Steps;
 use reader_pin::{Board, Solo};
 use shelf_io::{LoadRefusal, load};
 use std::alloc::{AllocError, Global};
 use std::sync::{Arc, Wait};
 use std::thread::Threads;
+use std::time::Clock;
 use survey_core::State;
 use survey_link::{Failed, Gate, Shelf, Sink, Source};
 
@@ -32,7 +34,7 @@ pub fn run_session<R, S, K, H, G>(
     steps: &mut Steps,
 ) -> u8
 where
-    R: AllocGlobal + Threads + Wait + Sync,
+    R: AllocGlobal + Threads + Wait + Sync + Clock + Log,
     S: Source,
     K: Sink,
     H: Shelf,
@@ -63,7 +65,7 @@ fn open_board<R, H, G>(
     steps: &mut Steps,
 ) -> Result<Solo, LoadRefusal>
 where
-    R: AllocGlobal + Threads + Sync,
+    R: AllocGlobal + Threads + Sync + Clock + Log,
     H: Shelf,
     G: Gate + Sync,
     ensures opened { IfOk result (λ board. (survey : OpenedSurvey) × OpensAs (H.files shelf.old) survey × (board ≡ board_of survey)) }
@@ -116,7 +118,7 @@ fn serve_source<R, S, K, G>(
     steps: &mut Steps,
 ) -> u8
 where
-    R: AllocGlobal + Threads + Wait + Sync,
+    R: AllocGlobal + Threads + Wait + Sync + Clock + Log,
     S: Source,
     K: Sink,
     G: Gate + Sync,

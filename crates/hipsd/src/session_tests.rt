@@ -1,11 +1,13 @@
 //! Runs of `session`: requests and replies, byte for byte.
 use crate::run::run;
 use crate::survey_tests::{SMALL, describe};
+use log::Log;
 use parent_rule::Steps;
 use std::alloc::Global;
 use std::sync::Wait;
 use std::test::Fail;
 use std::thread::Threads;
+use std::time::Clock;
 use survey_link::{MemDoor, MemShelf, MemSink, MemSource, OpenGate, Shelf};
 
 // In the tables `~` stands for CR LF, `^` for LF, and `%` before and behind a name for some bytes.
@@ -110,7 +112,7 @@ pub(crate) fn bytes_of(alloc: Global, text: &str) -> Result<Vec<u8>, Fail> {
 }
 
 // Runs `session` over these ends on the small survey without leaves, and answers its status; 255 where the shelf changed.
-fn serve<R: AllocGlobal + Threads + Wait + Sync>(
+fn serve<R: AllocGlobal + Threads + Wait + Sync + Clock + Log>(
     rt: &R,
     source: &mut MemSource,
     sink: &mut MemSink,
@@ -136,7 +138,7 @@ fn serve<R: AllocGlobal + Threads + Wait + Sync>(
 }
 
 // Whether the connection of a row ends so, read in pieces of so many bytes.
-fn answers<R: AllocGlobal + Threads + Wait + Sync>(
+fn answers<R: AllocGlobal + Threads + Wait + Sync + Clock + Log>(
     rt: &R,
     row: &str,
     piece: usize,
@@ -163,7 +165,7 @@ fn serves_one_connection(rt: HostRuntime) -> Result<(), Fail> {
 
 // The status where that read, and where that write or flush, fails of the connection that edits and publishes, and whether the
 // output is a first part of its own.
-fn with_failing<R: AllocGlobal + Threads + Wait + Sync>(
+fn with_failing<R: AllocGlobal + Threads + Wait + Sync + Clock + Log>(
     rt: &R,
     reads: &[u64],
     writes: &[u64],

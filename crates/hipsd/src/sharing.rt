@@ -8,12 +8,15 @@ ghost use Rattle.hipsd.specs.Serve.{state_of, Serves, RunsServe, place_status};
 
 use crate::refusing::say_why;
 use crate::serving::first_state;
+use generation::Generation;
 use hips_place::{PlaceEnd, serve_doors};
+use log::{Log, error, info};
 use parent_rule::Steps;
 use shelf_io::{LoadRefusal, load};
 use std::alloc::AllocError;
 use std::sync::Wait;
 use std::thread::Threads;
+use std::time::{Clock, Instant};
 use survey_core::State;
 use survey_link::{Door, Gate, Shelf, Sink};
 
@@ -30,7 +33,7 @@ pub fn run_serve<R, K, H, D, G>(
     doors: &mut [D],
 ) -> u8
 where
-    R: AllocGlobal + Threads + Wait + Sync,
+    R: AllocGlobal + Threads + Wait + Sync + Clock + Log,
     K: Sink,
     H: Shelf,
     D: Door + Send,
@@ -65,7 +68,7 @@ fn open_state<R, H, G>(
     steps: &mut Steps,
 ) -> Result<State, LoadRefusal>
 where
-    R: AllocGlobal + Threads + Sync,
+    R: AllocGlobal + Threads + Sync + Clock + Log,
     H: Shelf,
     G: Gate + Sync,
     ensures opened { IfOk result (λ state. (survey : OpenedSurvey) × OpensAs (H.files shelf.old) survey × (state ≡ state_of survey)) }
@@ -74,14 +77,25 @@ where
     ensures failed { IsErrOf result LoadRefusal.ShelfFault → Rises (H.faults shelf.old) (H.faults shelf.new) }
     ensures steps_never_fall { steps.old ≤ steps.new }
 {
+    let begun = Instant::now(rt).ok();
     let generation = load(rt, rt.alloc(), shelf, gate, steps)?;
+    say_loaded(rt, &generation, begun);
     Ok(first_state(rt.alloc(), generation)?)
+}
+
+// Says what was loaded since then.
+fn say_loaded<R: Clock + Log>(rt: &R, generation: &Generation, begun: Option<Instant>) {
+    let leaves = generation.leaves().len();
+    let files = generation.file_count();
+    let took = begun.and_then(|begun| begun.elapsed(rt).ok());
+    let millis = took.map_or(0, |took| took.as_millis());
+    info!(rt; "loaded {leaves} leaves in {millis} ms: {files} files are served");
 }
 
 // Serves the doors over the survey of which this is the first state, and answers the status.
 fn serve_state<R, D, G>(rt: &R, state: State, connections: u32, gate: &G, doors: &mut [D]) -> u8
 where
-    R: AllocGlobal + Threads + Wait + Sync,
+    R: AllocGlobal + Threads + Wait + Sync + Clock + Log,
     D: Door + Send,
     G: Gate + Sync,
     requires some { 0 < length doors.old }
@@ -91,9 +105,16 @@ where
     ensures status { (result ≡ 0) ⊎ ((result ≡ 8) ⊎ (result ≡ 11)) }
     ensures door_fault { result ≡ 8 → SomeRises (map D.faults doors.old) (map D.faults doors.new) }
 {
+    info!(rt; "{} places, up to {connections} connections at each", doors.len());
     match serve_doors(rt, rt.alloc(), state, connections, gate, doors) {
-        Ok(end) => place_status(end),
-        Err(AllocError) => 11,
+        Ok(end) => {
+            info!(rt; "all places have ended: {end:?}");
+            place_status(end)
+        }
+        Err(AllocError) => {
+            error!(rt; "there was no memory to serve the survey");
+            11
+        }
     }
 }
 

@@ -5,9 +5,11 @@ ghost use Rattle.hipsd.specs.Survey.{IsComparison, RunsVerify, verdict_status};
 
 use crate::output::say;
 use crate::refusing::say_why;
+use log::Log;
 use parent_rule::Steps;
 use shelf_io::{LoadRefusal, Verdict, load, verify};
 use std::thread::Threads;
+use std::time::Clock;
 use survey_link::{Gate, Shelf, Sink};
 
 /// Opens the shelf, says whether it has the survey's files and no others, and answers the status.
@@ -19,7 +21,7 @@ pub fn run_verify<R, K, H, G>(
     steps: &mut Steps,
 ) -> u8
 where
-    R: AllocGlobal + Threads + Sync,
+    R: AllocGlobal + Threads + Sync + Clock + Log,
     K: Sink,
     H: Shelf,
     G: Gate + Sync,
@@ -56,7 +58,7 @@ fn verify_survey<R, H, G>(
     steps: &mut Steps,
 ) -> Result<Verdict, LoadRefusal>
 where
-    R: AllocGlobal + Threads + Sync,
+    R: AllocGlobal + Threads + Sync + Clock + Log,
     H: Shelf,
     G: Gate + Sync,
     ensures outcome { IsComparison (H.files shelf.old) result }
@@ -65,7 +67,7 @@ where
     ensures steps_never_fall { steps.old ≤ steps.new }
 {
     let generation = load(rt, rt.alloc(), shelf, gate, steps)?;
-    match verify(rt.alloc(), shelf, &generation) {
+    match verify(rt, rt.alloc(), shelf, &generation) {
         Ok(verdict) => Ok(verdict),
         Err(fault) => Err(LoadRefusal::from(fault)),
     }
