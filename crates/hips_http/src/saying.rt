@@ -7,7 +7,19 @@ use std::time::{Clock, Instant};
 /// Says that a request was answered, and by which code.
 pub(crate) fn say_answered<R: Log>(rt: &R, method: Method, path: Option<&[u8]>, code: u16) {
     let path = path.and_then(|text| str::from_utf8(text).ok());
-    debug!(rt; "{method:?} /{}: {code}", path.unwrap_or("?"));
+    debug!(rt; "{} /{}: {code}", name(method), path.unwrap_or("?"));
+}
+
+// How a method is written (RFC 9110, section 9.3).
+fn name(method: Method) -> &'static str {
+    match method {
+        Method::Get => "GET",
+        Method::Head => "HEAD",
+        Method::Put => "PUT",
+        Method::Delete => "DELETE",
+        Method::Post => "POST",
+        Method::Other => "another method",
+    }
 }
 
 /// A publication under way.
