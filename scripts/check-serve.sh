@@ -7,6 +7,7 @@
 #
 # PROGRAM is crates/hipsd/out/hipsd if none is named, which `rt run` leaves there (check-statuses.sh has it built). SECONDS is how
 # long the many connections go on, 20 if not said. Where curl or Python is missing this fails if CI=true, and else says so.
+PATH=$PATH:/usr/sbin
 cd "$(dirname "$0")/.." || exit 1
 program=$(realpath -e "${1:-crates/hipsd/out/hipsd}") || { echo "check-serve: there is no built hipsd" >&2; exit 1; }
 seconds=${2:-20}
@@ -59,7 +60,7 @@ start() {
     base=http://127.0.0.1:$port
     "$program" serve "127.0.0.1:$port" "$1" "$2" >"$folder/output" 2>"$folder/log" &
     server=$!
-    for _ in $(seq 200); do
+    for _ in $(seq 1200); do
         (exec 3<>"/dev/tcp/127.0.0.1/$port") 2>/dev/null && return
         kill -0 "$server" 2>/dev/null || break
         sleep 0.05
@@ -195,7 +196,7 @@ if command -v nginx >/dev/null 2>&1; then
         asks 204 -u editor:secret -X DELETE "$proxy/edit/Norder5/Dir0/Npix9.fits"
         asks 201 -u editor:secret -T "$folder/leaf" "$proxy/edit/Norder5/Dir0/Npix10.fits"
         asks 200 -u editor:secret -X POST "$proxy/edit/publish"
-        sleep 1.1
+        sleep 2
         asks 404 "$proxy/survey/Norder5/Dir0/Npix9.fits"
         asks 200 "$proxy/survey/Norder5/Dir0/Npix10.fits"
         kill "$(cat "$folder/nginx.pid")"
