@@ -45,9 +45,9 @@ pub meets_more : (first now new : BoardContent) (met : List BoardContent) (other
 meets_more first now new met other other' so_far stays that both = record {
   stays = stays_on first now new so_far.stays stays;
   each = All-push (λ board. Begins board.history new.history) met other
-    (All-weaker (λ board. Begins board.history now.history) (λ board. Begins board.history new.history)
+      (All-weaker (λ board. Begins board.history now.history) (λ board. Begins board.history new.history)
       (λ board begins. begins_trans board.history now.history new.history begins stays.earlier) met so_far.each)
-    (subst (λ (states : List SurveyState). Begins other.history states) (sym both.history) that.earlier);
+      (subst (λ (states : List SurveyState). Begins other.history states) (sym both.history) that.earlier);
 }
 
 pub all_met : (first now : BoardContent) (others : List BoardContent) → Stays first now → All (λ board. Begins board.history now.history) others → HaveAllMet (first ∷ others)
@@ -73,8 +73,8 @@ serves_one conf opening states most end p is first begins done all =
       ends = place.ends;
       seen = p.board_then.history;
       run = subst (λ (c : Description). PlaceRun c opening (opening_state ∷ []) place.takens place.backs place.ends p.board_then.history) conf_is
-        (subst (λ (l : LeafTiles). PlaceRun p.board_then.conf l (opening_state ∷ []) place.takens place.backs place.ends p.board_then.history) opening_is
-        (subst (λ (h : List SurveyState). PlaceRun p.board_then.conf p.board_then.opening h place.takens place.backs place.ends p.board_then.history) history_is place.run));
+          (subst (λ (l : LeafTiles). PlaceRun p.board_then.conf l (opening_state ∷ []) place.takens place.backs place.ends p.board_then.history) opening_is
+          (subst (λ (h : List SurveyState). PlaceRun p.board_then.conf p.board_then.opening h place.takens place.backs place.ends p.board_then.history) history_is place.run));
       begins = begins;
       handed = place.handed;
       few = place.few;
@@ -89,11 +89,11 @@ serves_each : (conf : Description) (opening : LeafTiles) (states : List SurveySt
 serves_each conf opening states most end [] each first begins done = tt
 serves_each conf opening states most end (p ∷ ps) each first begins done = (
   serves_one conf opening states most end p (All-head (IsServedPlace most) p ps each) (All-head (λ board. board ≡ first_board conf opening) p.board (map (λ (p : OnePlace). p.board) ps) first)
-    (All-head (λ board. Begins board.history states) p.board_then (map (λ (p : OnePlace). p.board_then) ps) begins)
-    (λ e. All-head (λ each. each ≡ Done) p.end (map (λ (p : OnePlace). p.end) ps) (done e)),
+      (All-head (λ board. Begins board.history states) p.board_then (map (λ (p : OnePlace). p.board_then) ps) begins)
+      (λ e. All-head (λ each. each ≡ Done) p.end (map (λ (p : OnePlace). p.end) ps) (done e)),
   serves_each conf opening states most end ps (All-tail (IsServedPlace most) p ps each) (All-tail (λ board. board ≡ first_board conf opening) p.board (map (λ (p : OnePlace). p.board) ps) first)
-    (All-tail (λ board. Begins board.history states) p.board_then (map (λ (p : OnePlace). p.board_then) ps) begins)
-    (λ e. All-tail (λ each. each ≡ Done) p.end (map (λ (p : OnePlace). p.end) ps) (done e)),
+      (All-tail (λ board. Begins board.history states) p.board_then (map (λ (p : OnePlace). p.board_then) ps) begins)
+      (λ e. All-tail (λ each. each ≡ Done) p.end (map (λ (p : OnePlace). p.end) ps) (done e)),
 )
 
 -- their boards are still of the survey
@@ -102,8 +102,8 @@ openings_stay : (conf : Description) (opening : LeafTiles) (most : ℕ) (ps : Li
 openings_stay conf opening most [] each first = All-nil (λ board. board.opening ≡ opening)
 openings_stay conf opening most (p ∷ ps) each first =
     All-cons (λ board. board.opening ≡ opening) p.board_then (map (λ (p : OnePlace). p.board_then) ps)
-      ((All-head (IsServedPlace most) p ps each).goes.opening ∙ ap (λ b. b.opening) (All-head (λ board. board ≡ first_board conf opening) p.board (map (λ (p : OnePlace). p.board) ps) first))
-      (openings_stay conf opening most ps (All-tail (IsServedPlace most) p ps each) (All-tail (λ board. board ≡ first_board conf opening) p.board (map (λ (p : OnePlace). p.board) ps) first))
+    ((All-head (IsServedPlace most) p ps each).goes.opening ∙ ap (λ b. b.opening) (All-head (λ board. board ≡ first_board conf opening) p.board (map (λ (p : OnePlace). p.board) ps) first))
+    (openings_stay conf opening most ps (All-tail (IsServedPlace most) p ps each) (All-tail (λ board. board ≡ first_board conf opening) p.board (map (λ (p : OnePlace). p.board) ps) first))
 
 -- the boards at the seats of a survey in its first state
 seated_first : (state : StateContent) → state.batches ≡ [] → state.tip ≡ 0 → (seats : List (SeenHistory StateContent)) → All (λ seat. seat ≡ one_state state) seats
@@ -111,32 +111,32 @@ seated_first : (state : StateContent) → state.batches ≡ [] → state.tip ≡
 seated_first state none zero_tip [] all = All-nil (λ board. board ≡ first_board state.conf state.opening)
 seated_first state none zero_tip (seat ∷ seats) all =
     let first : seated seat ≡ first_board state.conf state.opening =
-      ap seated (All-head (λ seat. seat ≡ one_state state) seat seats all) ∙ (λ i. record {
-        conf = state.conf;
-        opening = state.opening;
-        history = record { batches = none i; tip = zero_tip i } ∷ [];
-        own = [];
-        held = None;
-      }) in
+    ap seated (All-head (λ seat. seat ≡ one_state state) seat seats all) ∙ (λ i. record {
+      conf = state.conf;
+      opening = state.opening;
+      history = record { batches = none i; tip = zero_tip i } ∷ [];
+      own = [];
+      held = None;
+    }) in
     All-cons (λ board. board ≡ first_board state.conf state.opening) (seated seat) (map seated seats) first
-      (seated_first state none zero_tip seats (All-tail (λ seat. seat ≡ one_state state) seat seats all))
+    (seated_first state none zero_tip seats (All-tail (λ seat. seat ≡ one_state state) seat seats all))
 
 pub serves_doors : (state : StateContent) (seats : List (SeenHistory StateContent)) (most : ℕ) (boards' : List BoardContent) (doors doors' : List (Option Connections)) (faults faults' : List ℕ) (end : PlaceEnd)
     → All (λ seat. seat ≡ one_state state) seats → state.batches ≡ [] → state.tip ≡ 0 → ArePlaces most (map seated seats) boards' doors doors' faults faults' end → HaveAllMet boards'
     → ServesDoors state.conf state.opening most doors doors' end
 serves_doors state seats most boards' doors doors' faults faults' end all none zero_tip a met =
     let first : All (λ board. board ≡ first_board state.conf state.opening) (map (λ (p : OnePlace). p.board) a.places) =
-      subst (λ (boards : List BoardContent). All (λ board. board ≡ first_board state.conf state.opening) boards) (sym a.boards_are) (seated_first state none zero_tip seats all) in
+    subst (λ (boards : List BoardContent). All (λ board. board ≡ first_board state.conf state.opening) boards) (sym a.boards_are) (seated_first state none zero_tip seats all) in
     let begins : All (λ board. Begins board.history met.states) (map (λ (p : OnePlace). p.board_then) a.places) =
-      subst (λ (boards : List BoardContent). All (λ board. Begins board.history met.states) boards) (sym a.boards_then) met.each in
+    subst (λ (boards : List BoardContent). All (λ board. Begins board.history met.states) boards) (sym a.boards_then) met.each in
     let same : All (λ board. board.opening ≡ state.opening) boards' =
-      subst (λ (boards : List BoardContent). All (λ board. board.opening ≡ state.opening) boards) a.boards_then (openings_stay state.conf state.opening most a.places a.each first) in
+    subst (λ (boards : List BoardContent). All (λ board. board.opening ≡ state.opening) boards) a.boards_then (openings_stay state.conf state.opening most a.places a.each first) in
     record {
       states = met.states;
       legal = met.legal state.opening same;
       each = subst (λ (ds : List (Option Connections)). AllZip (λ door door'. AllReturned door → ServesDoor state.conf state.opening met.states most end door door') ds doors') a.doors_are
-        (subst (λ (ds : List (Option Connections)). AllZip (λ door door'. AllReturned door → ServesDoor state.conf state.opening met.states most end door door') (map (λ (p : OnePlace). p.door) a.places) ds) a.doors_then
-        (serves_each state.conf state.opening met.states most end a.places a.each first begins a.ends.done));
+          (subst (λ (ds : List (Option Connections)). AllZip (λ door door'. AllReturned door → ServesDoor state.conf state.opening met.states most end door door') (map (λ (p : OnePlace). p.door) a.places) ds) a.doors_then
+          (serves_each state.conf state.opening met.states most end a.places a.each first begins a.ends.done));
     }
 
 -- ---- a door that failed

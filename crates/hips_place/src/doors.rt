@@ -36,6 +36,9 @@ pub fn serve_doors<R: Threads + Wait + Sync, D: Door + Send, G: Gate + Sync>(
     gate: &G,
     doors: &mut [D],
 ) -> Result<PlaceEnd, AllocError>
+where
+    D::In: Send,
+    D::Out: Send,
     requires first { (state.batches ≡ []) × (state.tip ≡ 0) }
     requires some { 0 < length doors.old }
     requires most { length doors.old ≤ 64 }
@@ -60,6 +63,8 @@ where
     SeenSurvey<J>: Showable,
     R: Threads + Wait + Sync,
     D: Door + Send,
+    D::In: Send,
+    D::Out: Send,
     G: Gate + Sync,
     requires book { book ≡ J.book }
     requires first { (state.batches ≡ []) × (state.tip ≡ 0) }
@@ -89,6 +94,8 @@ where
     SeenSurvey<J>: Showable,
     R: Threads + Wait + Sync,
     D: Door + Send,
+    D::In: Send,
+    D::Out: Send,
     G: Gate + Sync,
     requires same { length seats.items ≡ length doors.old }
     requires some { 0 < length doors.old }
