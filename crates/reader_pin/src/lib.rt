@@ -12,6 +12,8 @@ pub mod laws;
 mod mark;
 mod next;
 mod shared;
+#[cfg(test)]
+mod shared_tests;
 mod sight;
 mod solo;
 mod survey;

@@ -17,7 +17,7 @@ use crate::survey::{SeenSurvey, Survey, SurveySeat, SurveyWindow};
 use dirty_plan::laws::more_touched_is_more_work;
 use edit_journal::Edit;
 use parent_rule::Steps;
-use shared_history::{Naming, Showable};
+use shared_history::Naming;
 use std::alloc::{AllocError, Global};
 use std::marker::Model;
 use std::sync::Wait;
@@ -27,19 +27,13 @@ use survey_core::State;
 /// other. `pin` looks at what is shown and waits for nobody; the calls that make events take the survey's lock. A publication
 /// is built before it takes the lock, and built again only where what was built is published by then.
 #[derive(Drop)]
-pub struct Shared<'a, J: Naming>
-where
-    SeenSurvey<J>: Showable,
-{
+pub struct Shared<'a, J: Naming> {
     survey: &'a Survey<J>,
     window: SurveyWindow<J>,
     sight: Sight<J>,
 }
 
-impl<'a, J: Naming> Model for Shared<'a, J>
-where
-    SeenSurvey<J>: Showable,
-{
+impl<'a, J: Naming> Model for Shared<'a, J> {
     ghost use Rattle.reader_pin.specs.Board.{BoardContent};
 
     ghost Value = { BoardContent };
@@ -47,10 +41,7 @@ where
     ghost view = { λ s. s.sight };
 }
 
-impl<'a, J: Naming> Shared<'a, J>
-where
-    SeenSurvey<J>: Showable,
-{
+impl<'a, J: Naming> Shared<'a, J> {
     /// A board at a place of the survey.
     pub fn new(alloc: Global, survey: &'a Survey<J>, seat: SurveySeat<J>) -> Shared<'a, J>
         ensures { result ≡ seated seat }
@@ -80,10 +71,7 @@ where
     }
 }
 
-impl<'a, J: Naming> Board for Shared<'a, J>
-where
-    SeenSurvey<J>: Showable,
-{
+impl<'a, J: Naming> Board for Shared<'a, J> {
     ghost content = { λ board. board };
 
     fn pin(&mut self) {

@@ -22,7 +22,7 @@ use dirty_plan::laws::more_touched_is_more_work;
 use edit_journal::Edit;
 use generation::Generation;
 use parent_rule::Steps;
-use shared_history::{Naming, Showable};
+use shared_history::Naming;
 use std::alloc::{AllocError, Global};
 use std::marker::Model;
 use std::mem::replace;
@@ -145,8 +145,6 @@ impl<J: Naming> Sight<J> {
         desk: &mut SurveyDesk<J>,
         next: State,
     ) -> Result<(), AllocError>
-    where
-        SeenSurvey<J>: Showable,
         requires seen { HasSeen desk.old self.old }
         requires conf { next.conf ≡ self.old.conf }
         requires opening { next.opening ≡ self.old.opening }
@@ -173,8 +171,6 @@ impl<J: Naming> Sight<J> {
         desk: &mut SurveyDesk<J>,
         edit: Edit,
     ) -> Result<Accepted, BoardRefusal>
-    where
-        SeenSurvey<J>: Showable,
         requires fits { FitsEdit self.old.conf.shape (edit_of edit) }
         ensures accepted { IfOk result (Accepts (edit_of edit) self.old self.new) }
         ensures unchanged { OnErr result (Stays self.old self.new) }
@@ -197,8 +193,6 @@ impl<J: Naming> Sight<J> {
         desk: &mut SurveyDesk<J>,
         edits: Vec<Edit>,
     ) -> Result<u32, BoardBatch>
-    where
-        SeenSurvey<J>: Showable,
         requires some { 0 < length edits.items }
         requires most { length edits.items ≤ 1024 }
         requires fits { All (FitsEdit self.old.conf.shape) (map edit_of edits.items) }
@@ -250,8 +244,6 @@ impl<J: Naming> Sight<J> {
         build: &F,
         steps: Steps,
     ) -> (Result<Published, AllocError>, Steps)
-    where
-        SeenSurvey<J>: Showable,
         requires callable { (state : _) (before : _) → F.pre build.now state before }
         requires builds { (state : _) (before : _) (built : _) → F.post build.now state before built → Builds state.now before built }
         requires built { BuildsAll (state_in self.old (last_seen self.old)) built }
@@ -284,8 +276,6 @@ impl<J: Naming> Sight<J> {
         build: &F,
         steps: Steps,
     ) -> (Result<Published, AllocError>, Steps)
-    where
-        SeenSurvey<J>: Showable,
         requires callable { (state : _) (before : _) → F.pre build.now state before }
         requires builds { (state : _) (before : _) (built : _) → F.post build.now state before built → Builds state.now before built }
         requires seen { HasSeen desk.old self.old }
@@ -311,8 +301,6 @@ impl<J: Naming> Sight<J> {
         desk: &mut SurveyDesk<J>,
         generation: Result<Generation, AllocError>,
     ) -> Result<Published, AllocError>
-    where
-        SeenSurvey<J>: Showable,
         requires seen { HasSeen desk.old self.old }
         requires unpublished { (last_seen self.old).tip < edit_count (last_seen self.old) }
         requires whole { IfOk generation (λ generation. generation ≡ whole_generation (state_in self.old (last_seen self.old))) }
@@ -331,8 +319,6 @@ impl<J: Naming> Sight<J> {
         desk: &mut SurveyDesk<J>,
         generation: Generation,
     ) -> Result<Published, AllocError>
-    where
-        SeenSurvey<J>: Showable,
         requires seen { HasSeen desk.old self.old }
         requires publishable { IsPublishable (state_in self.old (last_seen self.old)) generation }
         ensures published { IfOk result (λ published. published ≡ Published.New generation.prefix) }

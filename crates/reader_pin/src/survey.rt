@@ -2,7 +2,7 @@
 ghost use Rattle.std.specs.Prelude.{◌≡◌, ◌<◌, ◌≤◌, [], length, All, IfOk};
 ghost use Rattle.shared_history.specs.Histories.{one_state};
 
-use shared_history::{Blank, Desk, Law, Naming, Seat, SharedHistory, Showable, Shown, Window};
+use shared_history::{Blank, Desk, Law, Naming, Seat, SharedHistory, Shown, Window};
 use std::alloc::{AllocError, Global};
 use std::sync::Wait;
 use survey_core::State;
@@ -25,7 +25,7 @@ pub type SurveySeat<J> = Seat<State, SurveyLaw, J>;
 /// The right to append to a survey's history.
 pub(crate) type SurveyDesk<J> = Desk<State, SurveyLaw, J>;
 
-/// What was seen of a survey's history. Who is generic in the name `J` says by a bound that it is `Showable`.
+/// What was seen of a survey's history.
 pub type SeenSurvey<J> = Shown<State, SurveyLaw, J>;
 
 /// What a board looks through at what is shown of a survey.
@@ -47,8 +47,6 @@ pub fn open_shared<J: Naming, R: Wait>(
     state: State,
     places: usize,
 ) -> Result<(Survey<J>, Vec<SurveySeat<J>>), AllocError>
-where
-    SeenSurvey<J>: Showable,
     requires book { book ≡ J.book }
     requires first { state.batches ≡ [] }
     requires some { 0 < places }

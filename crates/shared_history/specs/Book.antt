@@ -15,8 +15,12 @@ head_of book = record { tracked = true; key = 0; book = book }
 abbrev pub Adds : {S : Type 0} → Step S → View S ℕ → ℕ → View S ℕ → Type 0
 Adds step before found after = found ≡ step.old → after.0 ≡ before.0 ++ step.ask ∷ []
 
--- how a history that was seen is kept: its length, its book, and the states of the book that were seen
-pub record IsKeptSeen {S : Type 0} (Legal : List S → Type 0) (name : Book) (states : ℕ) (of : Book) (history : SeenHistory S) : Type 0 where
+-- what is shown: a history that was seen, and the book that has it
+pub record Shows (S : Type 0) : Type 0 where
+  pub book : Book
+  pub history : SeenHistory S
+
+-- how a history that was seen is kept: its length, and the states that were seen
+pub record IsKeptSeen {S : Type 0} (Legal : List S → Type 0) (states : ℕ) (history : SeenHistory S) : Type 0 where
   pub count : states ≡ length history.states
-  pub book : of ≡ name
   pub seen : IsSeenHistory Legal history

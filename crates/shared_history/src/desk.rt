@@ -4,9 +4,10 @@ ghost use Rattle.shared_history.specs.Book.{head_of};
 ghost use Rattle.shared_history.specs.Histories.{and_then};
 
 use crate::book::{Kept, Law, Naming};
+use crate::page::{Page, Showable};
 use crate::seat::Seat;
 use crate::showing::Showing;
-use crate::shown::{Showable, Shown};
+use crate::shown::Shown;
 use crate::window::Window;
 use logbook::Word;
 use std::alloc::{AllocError, Global};
@@ -17,17 +18,17 @@ use std::sync::{Arc, Wait};
 /// see the history. It can't be dropped: end it by `close`.
 pub struct Desk<S: Drop, L: Law<S>, J: Naming>
 where
-    Shown<S, L, J>: Showable,
+    Page<S, L>: Showable,
 {
     alloc: Global,
     head: Word<S, u64, Kept<L>>,
-    showing: Showing<Shown<S, L, J>>,
+    showing: Showing<S, L, J>,
     newest: Shown<S, L, J>,
 }
 
 impl<S: Drop, L: Law<S>, J: Naming> Model for Desk<S, L, J>
 where
-    Shown<S, L, J>: Showable,
+    Page<S, L>: Showable,
 {
     ghost use Rattle.std.specs.Prelude.{◌≡◌};
     ghost use Rattle.shared_history.specs.Book.{head_of};
@@ -42,7 +43,7 @@ where
 
 impl<S: Drop, L: Law<S>, J: Naming> Desk<S, L, J>
 where
-    Shown<S, L, J>: Showable,
+    Page<S, L>: Showable,
 {
     /// A desk where `newest` is shown to so many readers.
     pub(crate) fn new(
@@ -55,7 +56,7 @@ where
         requires readers { (0 < readers) × (readers < 2 ^ 32) }
         ensures { IfOk result (λ desk. desk ≡ newest) }
     {
-        let showing = Showing::new(alloc, newest.again()?, newest.again()?, readers)?;
+        let showing = Showing::new(alloc, newest.page()?, newest.page()?, readers)?;
         Ok(Desk {
             alloc,
             head,
@@ -109,8 +110,8 @@ where
         let newest = self.newest.after(&self.head, last)?;
         let answer = newest.beside(same);
         self.newest = newest;
-        if let Ok(shown) = self.newest.again() {
-            self.showing.show(rt, shown);
+        if let Ok(page) = self.newest.page() {
+            self.showing.show(rt, page);
         }
         Ok(answer)
     }

@@ -7,6 +7,7 @@
 
 mod book;
 mod desk;
+mod page;
 mod seat;
 mod shared_history;
 mod showing;
@@ -15,7 +16,8 @@ mod window;
 
 pub use book::{Blank, Law, Naming};
 pub use desk::Desk;
+pub use page::{Page, Showable};
 pub use seat::Seat;
 pub use shared_history::SharedHistory;
-pub use shown::{Showable, Shown};
+pub use shown::Shown;
 pub use window::Window;

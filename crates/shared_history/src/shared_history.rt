@@ -4,8 +4,9 @@ ghost use Rattle.shared_history.specs.Histories.{one_state};
 
 use crate::book::{Blank, Law, Naming};
 use crate::desk::Desk;
+use crate::page::{Page, Showable};
 use crate::seat::Seat;
-use crate::shown::{Showable, Shown};
+use crate::shown::Shown;
 use std::alloc::{AllocError, Global};
 use std::mem::ManuallyDrop;
 use std::sync::{Arc, Mutex, MutexGuard, Wait};
@@ -13,7 +14,7 @@ use std::sync::{Arc, Mutex, MutexGuard, Wait};
 /// A history under its lock. It can't be dropped: end it by `close`.
 pub struct SharedHistory<S: Drop, L: Law<S>, J: Naming>
 where
-    Shown<S, L, J>: Showable,
+    Page<S, L>: Showable,
 {
     // The writer within can't be dropped, and a guard's drop would be asked to.
     desk: Mutex<ManuallyDrop<Desk<S, L, J>>>,
@@ -21,7 +22,7 @@ where
 
 impl<S: Drop, L: Law<S>, J: Naming> SharedHistory<S, L, J>
 where
-    Shown<S, L, J>: Showable,
+    Page<S, L>: Showable,
 {
     /// The desk, which nobody else has then. It waits until the desk is free.
     pub fn lock<R: Wait>(&self, rt: &R) -> MutexGuard<'_, ManuallyDrop<Desk<S, L, J>>> {
@@ -49,7 +50,7 @@ impl<S: Drop, L: Law<S>> Blank<S, L> {
         seats: usize,
     ) -> Result<(SharedHistory<S, L, J>, Vec<Seat<S, L, J>>), AllocError>
     where
-        Shown<S, L, J>: Showable,
+        Page<S, L>: Showable,
         requires book { self ≡ J.book }
         requires legal { L.legal (first ∷ []) }
         requires some { 0 < seats }

@@ -1,42 +1,39 @@
-//! A history that was seen, with its last state.
-ghost use Rattle.std.specs.Prelude.{◌≡◌, ◌<◌, ◌++◌, ◌∷◌, [], length, IfOk, option_map};
+//! A history that was seen.
+ghost use Rattle.std.specs.Prelude.{◌≡◌, ◌<◌, ◌++◌, ◌∷◌, [], length, IfOk};
 ghost use Rattle.std.specs.Arc.{arc_value};
 ghost use Rattle.shared_history.specs.Book.{head_of};
 ghost use Rattle.shared_history.specs.Histories.{IsSeenHistory, one_state, and_then, TellsMore};
 
-use crate::book::{Kept, Law, Naming, append};
-use left_right::Absorb;
+use crate::book::{Kept, Law, Naming};
+use crate::page::Page;
 use logbook::{Seen, Word};
 use std::alloc::AllocError;
 use std::marker::{Model, PhantomData};
 use std::sync::Arc;
 
-/// A history that was seen. Contracts see its states; it has the last of them. A copy is a count that rises.
+/// A history that was seen of the book `J`. Contracts see its states; it has the last of them. A copy is a count that rises.
 #[derive(Drop)]
 pub struct Shown<S: Drop, L: Law<S>, J: Naming> {
-    last: Arc<S>,
-    count: u64,
-    past: Seen<S, u64, Kept<L>>,
+    page: Page<S, L>,
     of: PhantomData<J>,
 }
 
 impl<S: Drop, L: Law<S>, J: Naming> Model for Shown<S, L, J> {
-    ghost use Rattle.std.specs.Arc.{arc_value};
-    ghost use Rattle.shared_history.specs.Book.{IsKeptSeen};
+    ghost use Rattle.std.specs.Prelude.{◌≡◌};
     ghost use Rattle.shared_history.specs.Histories.{SeenHistory};
 
     ghost Value = { SeenHistory S };
 
-    ghost view = { λ s. record { states = s.past.log; last = arc_value s.last } };
+    ghost view = { λ s. s.page.history };
 
-    ghost invariant = { λ s. IsKeptSeen L.legal J.book s.count s.past.book (record { states = s.past.log; last = arc_value s.last }) };
+    ghost invariant = { λ s. s.page.book ≡ J.book };
 }
 
 impl<S: Drop, L: Law<S>, J: Naming> Shown<S, L, J> {
     /// The history of one state, which is the first of its book.
     pub(crate) fn begin(
         head: &Word<S, u64, Kept<L>>,
-        mut past: Seen<S, u64, Kept<L>>,
+        past: Seen<S, u64, Kept<L>>,
         first: Arc<S>,
     ) -> Result<Shown<S, L, J>, AllocError>
         requires head { head.now ≡ head_of J.book }
@@ -45,15 +42,18 @@ impl<S: Drop, L: Law<S>, J: Naming> Shown<S, L, J> {
         requires legal { L.legal (arc_value first ∷ []) }
         ensures { IfOk result (λ shown. shown ≡ one_state (arc_value first)) }
     {
-        if !append(head, &mut past, 0, 1, &*first) {
-            return Err(AllocError);
-        }
-        Ok(Shown {
-            last: first,
-            count: 1,
-            past,
+        Ok(Shown::of(Page::begin(head, past, first)?))
+    }
+
+    /// What is seen of the book.
+    pub(crate) fn of(page: Page<S, L>) -> Shown<S, L, J>
+        requires { page.book ≡ J.book }
+        ensures { result ≡ page.history }
+    {
+        Shown {
+            page,
             of: PhantomData,
-        })
+        }
     }
 
     /// The history with a state more, which becomes the last of its book.
@@ -70,17 +70,7 @@ impl<S: Drop, L: Law<S>, J: Naming> Shown<S, L, J> {
         requires legal { L.legal (self.now.states ++ arc_value next ∷ []) }
         ensures { IfOk result (λ shown. shown ≡ and_then self.now (arc_value next)) }
     {
-        let more = self.count.checked_add(1).ok_or(AllocError)?;
-        let mut past = self.past.again();
-        if !append(head, &mut past, self.count, more, &*next) {
-            return Err(AllocError);
-        }
-        Ok(Shown {
-            last: next,
-            count: more,
-            past,
-            of: PhantomData,
-        })
+        Ok(Shown::of(self.page.after(head, next)?))
     }
 
     /// A copy, for which the count was raised before.
@@ -88,12 +78,7 @@ impl<S: Drop, L: Law<S>, J: Naming> Shown<S, L, J> {
         requires { arc_value last ≡ self.now.last }
         ensures { result ≡ self.now }
     {
-        Shown {
-            last,
-            count: self.count,
-            past: self.past.again(),
-            of: PhantomData,
-        }
+        Shown::of(self.page.beside(last))
     }
 
     /// A copy.
@@ -104,7 +89,19 @@ impl<S: Drop, L: Law<S>, J: Naming> Shown<S, L, J> {
     pub fn again(&self) -> Result<Shown<S, L, J>, AllocError>
         ensures { IfOk result (λ shown. shown ≡ self.now) }
     {
-        Ok(self.beside(self.last.clone()?))
+        Ok(Shown::of(self.page.again()?))
+    }
+
+    /// A copy that can be shown.
+    ///
+    /// # Errors
+    ///
+    /// `AllocError` where the count of owners is full.
+    pub(crate) fn page(&self) -> Result<Page<S, L>, AllocError>
+        ensures book { IfOk result (λ page. page.book ≡ J.book) }
+        ensures history { IfOk result (λ page. page.history ≡ self.now) }
+    {
+        self.page.again()
     }
 
     /// The last state.
@@ -112,27 +109,22 @@ impl<S: Drop, L: Law<S>, J: Naming> Shown<S, L, J> {
         ensures last { arc_value result.now ≡ self.now.last }
         ensures seen { IsSeenHistory L.legal self.now }
     {
-        &self.last
+        self.page.last()
     }
 
     /// The last state, all else let go.
     pub fn into_last(self) -> Arc<S>
         ensures { arc_value result ≡ self.last }
     {
-        let Shown {
-            last,
-            count: _,
-            past: _past,
-            of: _,
-        } = self;
-        last
+        let Shown { page, of: _ } = self;
+        page.into_last()
     }
 
     /// How many states it has.
     pub fn len(&self) -> u64
         ensures { result ≡ length self.now.states }
     {
-        self.count
+        self.page.len()
     }
 
     /// A copy of another of the same history, where that one has seen more; `None` where both have seen the same.
@@ -143,36 +135,20 @@ impl<S: Drop, L: Law<S>, J: Naming> Shown<S, L, J> {
     pub fn newer(&self, other: &Shown<S, L, J>) -> Result<Option<Shown<S, L, J>>, AllocError>
         ensures { IfOk result (TellsMore self.now other.now) }
     {
-        let mut both = self.past.again();
-        both.learn(&other.past);
-        if other.count < self.count {
-            return Err(AllocError);
-        }
-        if other.count == self.count {
-            return Ok(None);
-        }
-        Ok(Some(other.again()?))
+        self.newer_page(&other.page)
     }
-}
 
-/// A value of which `left_right` keeps two copies. Each `Shown` is one; a type that holds a `Desk` has to say so by a bound.
-pub trait Showable: Absorb<Self, State = Self> + Drop + Sized {}
-
-impl<S: Drop, L: Law<S>, J: Naming> Showable for Shown<S, L, J> {}
-
-impl<S: Drop, L: Law<S>, J: Naming> Absorb<Shown<S, L, J>> for Shown<S, L, J> {
-    type State = Shown<S, L, J>;
-
-    ghost state = { λ shown. shown };
-
-    ghost applied = { λ shown next. next };
-
-    fn absorb_first(
-        &mut self,
-        operation: &Shown<S, L, J>,
-        _other: &Shown<S, L, J>,
-    ) -> Result<(), AllocError> {
-        *self = operation.again()?;
-        Ok(())
+    /// As `newer`, of what is shown of the book.
+    pub(crate) fn newer_page(
+        &self,
+        other: &Page<S, L>,
+    ) -> Result<Option<Shown<S, L, J>>, AllocError>
+        requires { other.now.book ≡ J.book }
+        ensures { IfOk result (TellsMore self.now other.now.history) }
+    {
+        match self.page.newer(other)? {
+            Some(page) => Ok(Some(Shown::of(page))),
+            None => Ok(None),
+        }
     }
 }
