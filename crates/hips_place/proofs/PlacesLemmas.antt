@@ -58,8 +58,8 @@ ends_both Done Done ends others first second = record {
 one_end : (end : PlaceEnd) → EndAs (end ∷ []) end
 one_end end = record {
   done = λ e. All-cons (λ each. each ≡ Done) end [] e (All-nil (λ each. each ≡ Done));
-  failed = λ e. (0, (omega arith, e));
-  wanted = λ e. ((0, (omega arith, e)), All-cons (λ each. each ≢ Failed) end [] (λ failed. cc) (All-nil (λ each. each ≢ Failed)));
+  failed = λ e. (0, omega arith, e);
+  wanted = λ e. ((0, omega arith, e), All-cons (λ each. each ≢ Failed) end [] (λ failed. cc) (All-nil (λ each. each ≢ Failed)));
 }
 
 -- ---- the places

@@ -10,8 +10,8 @@ ghost use Rattle.hips_place.specs.Place.{ServesDoors, SomeRises, HaveAllMet};
 
 use crate::place::PlaceEnd;
 use crate::places::serve_places;
-use reader_pin::{Board, SeenSurvey, Shared, Survey, SurveyBook, SurveySeat, open_shared};
-use shared_history::{Naming, Showable};
+use reader_pin::{Board, Shared, Survey, SurveyBook, SurveySeat, open_shared};
+use shared_history::Naming;
 use std::alloc::{AllocError, Global};
 use std::marker::Brand;
 use std::sync::Wait;
@@ -60,7 +60,6 @@ fn serve_named<J, R, D, G>(
 ) -> Result<PlaceEnd, AllocError>
 where
     J: Naming + Send + Sync,
-    SeenSurvey<J>: Showable,
     R: Threads + Wait + Sync,
     D: Door + Send,
     D::In: Send,
@@ -91,7 +90,6 @@ fn serve_seats<'a, J, R, D, G>(
 ) -> Result<PlaceEnd, AllocError>
 where
     J: Naming + Send + Sync,
-    SeenSurvey<J>: Showable,
     R: Threads + Wait + Sync,
     D: Door + Send,
     D::In: Send,
@@ -104,8 +102,9 @@ where
     ensures failed { result ≡ Ok Failed → SomeRises (map D.faults doors.old) (map D.faults doors.new) }
 {
     let mut boards = boards_at(alloc, survey, seats)?;
-    let end = serve_places(rt, alloc, most, gate, &mut boards, doors);
-    meet_first(&mut boards)?;
+    let boards = boards.as_mut_slice();
+    let end = serve_places(rt, alloc, most, gate, boards, doors);
+    meet_first(boards)?;
     Ok(end)
 }
 
@@ -115,8 +114,6 @@ fn boards_at<'a, J: Naming>(
     survey: &'a Survey<J>,
     seats: Vec<SurveySeat<J>>,
 ) -> Result<Vec<Shared<'a, J>>, AllocError>
-where
-    SeenSurvey<J>: Showable,
     ensures { IfOk result (λ boards. boards.items ≡ map seated seats.items) }
 {
     let mut boards = Vec::new(alloc);
@@ -128,8 +125,6 @@ where
 
 // The first board meets each other one.
 fn meet_first<'a, J: Naming>(boards: &mut [Shared<'a, J>]) -> Result<(), AllocError>
-where
-    SeenSurvey<J>: Showable,
     requires { 0 < length boards.old }
     ensures { OnOk result (HaveAllMet boards.old) }
 {
@@ -142,8 +137,6 @@ fn meet_others<'a, J: Naming>(
     first: &mut Shared<'a, J>,
     others: &mut [Shared<'a, J>],
 ) -> Result<(), AllocError>
-where
-    SeenSurvey<J>: Showable,
     ensures stays { OnOk result (Stays first.old first.new) }
     ensures met { OnOk result (All (λ board. Begins board.history first.new.history) others.old) }
 {
