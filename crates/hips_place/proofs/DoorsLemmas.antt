@@ -3,7 +3,7 @@ use Rattle.std.proofs.Common.{◌≡◌, ◌≢◌, inl, inr, ℕ, zero, suc, �
 use Rattle.std.specs.Prelude.{All, Contains, Result, Ok, Err, OnOk}
 use Rattle.std.specs.List.{AllZip}
 
-use Rattle.std.proofs.lemmas.List.{length-set, take_more, take_all, drop-set-lt}
+use Rattle.std.proofs.lemmas.List.{length-set, take_more, drop-set-lt}
 use Rattle.std.proofs.lemmas.List.Elements.{All-nil, All-cons, All-head, All-tail, All-push, All-weaker}
 use Rattle.survey_conf.specs.Description.{Description}
 use Rattle.survey_link.specs.Link.{Rises}
@@ -68,22 +68,17 @@ pub record IsMeeting (first now : BoardContent) (initial items : List BoardConte
 pub meets_first : (first : BoardContent) (boards : List BoardContent) → IsHistory first.opening first.history → IsMeeting first first boards boards 0
 meets_first first boards legal = record { met = meets_none first legal; rest = refl; len = refl }
 
-pub meets_next : (first now new : BoardContent) (initial items : List BoardContent) (count : ℕ) (other other' : BoardContent) → IsMeeting first now initial items count → count < length items
+pub meets_next : (first now new : BoardContent) (initial items : List BoardContent) (count : ℕ) (other other' : BoardContent) → IsMeeting first now initial items count → count < length initial
     → other ≡ get_or items count other → Stays now new → Stays other other' → HaveMet new other' → IsMeeting first new initial (slice_set items count other') (count + 1)
 meets_next first now new initial items count other other' so_far within is stays that both =
-    let inside : count < length initial = (let len = so_far.len in omega arith) in
-    let same = same_from items initial count other within inside so_far.rest in
-    let more : take (count + 1) initial ≡ take count initial ++ other ∷ [] = take_more initial count other inside ∙ ap (λ b. take count initial ++ b ∷ []) (sym (is ∙ same.0)) in
+    let inside : count < length items = (let len = so_far.len in omega arith) in
+    let same = same_from items initial count other inside within so_far.rest in
+    let more : take (count + 1) initial ≡ take count initial ++ other ∷ [] = take_more initial count other within ∙ ap (λ b. take count initial ++ b ∷ []) (sym (is ∙ same.0)) in
     record {
       met = subst (λ (met : List BoardContent). HasMet first new met) (sym more) (meets_more first now new (take count initial) other other' so_far.met stays that both);
       rest = drop-set-lt (count + 1) items count other' (omega arith) ∙ same.1;
       len = length-set items count other' ∙ so_far.len;
     }
-
-pub all_were_met : (first now : BoardContent) (initial items : List BoardContent) (count : ℕ) → IsMeeting first now initial items count → length items ≤ count
-    → Stays first now × All (λ board. Begins board.history now.history) initial
-all_were_met first now initial items count so_far done =
-    (so_far.met.stays, subst (λ (met : List BoardContent). All (λ board. Begins board.history now.history) met) (take_all count initial (let len = so_far.len in omega arith)) so_far.met.each)
 
 pub all_met : (first now : BoardContent) (others : List BoardContent) → Stays first now → All (λ board. Begins board.history now.history) others → HaveAllMet (first ∷ others)
 all_met first now others stays met = record {
