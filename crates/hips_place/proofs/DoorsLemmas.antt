@@ -1,7 +1,8 @@
 -- The doors of a survey.
-use Rattle.std.proofs.Common.{◌≡◌, ◌≢◌, inl, inr, ℕ, zero, suc, ◌<◌, ◌≤◌, List, [], ◌∷◌, ◌++◌, length, map, get_or, Option, Some, None, refl, sym, ap, ◌∙◌, subst, arith}
-use Rattle.std.specs.Prelude.{All, Contains}
+use Rattle.std.proofs.Common.{◌≡◌, ◌≢◌, inl, inr, ℕ, zero, suc, ◌+◌, ◌<◌, ◌≤◌, List, [], ◌∷◌, ◌++◌, length, map, take, drop, get_or, slice_set, add-one, drop-cons, Option, Some, None, refl, sym, ap, ◌∙◌, subst, arith}
+use Rattle.std.specs.Prelude.{All, Contains, Result, Ok, Err, OnOk}
 use Rattle.std.specs.List.{AllZip}
+use Rattle.std.proofs.lemmas.List.{length-set, take_more, drop-set-lt}
 use Rattle.std.proofs.lemmas.List.Elements.{All-nil, All-cons, All-head, All-tail, All-push, All-weaker}
 use Rattle.survey_conf.specs.Description.{Description}
 use Rattle.survey_link.specs.Link.{Rises}
@@ -50,12 +51,52 @@ meets_more first now new met other other' so_far stays that both = record {
       (subst (λ (states : List SurveyState). Begins other.history states) (sym both.history) that.earlier);
 }
 
+-- lists that are the same from a place on
+same_from : {X : Type 0} (xs ys : List X) (i : ℕ) (d : X) → i < length xs → i < length ys → drop i xs ≡ drop i ys → (get_or xs i d ≡ get_or ys i d) × (drop (i + 1) xs ≡ drop (i + 1) ys)
+same_from xs ys i d within within' same =
+    let one : drop i xs ≡ get_or xs i d ∷ drop (i + 1) xs = rw (add-one, drop-cons xs i d) in
+    let other : drop i ys ≡ get_or ys i d ∷ drop (i + 1) ys = rw (add-one, drop-cons ys i d) in
+    (cc, cc)
+
+-- the loop over boards, of which the first ones were met
+pub record IsMeeting (first now : BoardContent) (initial items : List BoardContent) (count : ℕ) : Type 0 where
+  pub met : HasMet first now (take count initial)
+  pub rest : drop count items ≡ drop count initial
+  pub len : length items ≡ length initial
+
+pub meets_first : (first : BoardContent) (boards : List BoardContent) → IsHistory first.opening first.history → IsMeeting first first boards boards 0
+meets_first first boards legal = record { met = meets_none first legal; rest = refl; len = refl }
+
+pub meets_next : (first now new : BoardContent) (initial items : List BoardContent) (count : ℕ) (other other' : BoardContent) → IsMeeting first now initial items count → count < length initial
+    → other ≡ get_or items count other → Stays now new → Stays other other' → HaveMet new other' → IsMeeting first new initial (slice_set items count other') (count + 1)
+meets_next first now new initial items count other other' so_far within is stays that both =
+    let inside : count < length items = (let len = so_far.len in omega arith) in
+    let same = same_from items initial count other inside within so_far.rest in
+    let more : take (count + 1) initial ≡ take count initial ++ other ∷ [] = take_more initial count other within ∙ ap (λ b. take count initial ++ b ∷ []) (sym (is ∙ same.0)) in
+    record {
+      met = subst (λ (met : List BoardContent). HasMet first new met) (sym more) (meets_more first now new (take count initial) other other' so_far.met stays that both);
+      rest = drop-set-lt (count + 1) items count other' (omega arith) ∙ same.1;
+      len = length-set items count other' ∙ so_far.len;
+    }
+
 pub all_met : (first now : BoardContent) (others : List BoardContent) → Stays first now → All (λ board. Begins board.history now.history) others → HaveAllMet (first ∷ others)
 all_met first now others stays met = record {
   states = now.history;
   legal = λ opening all. subst (λ (o : LeafTiles). IsHistory o now.history) (stays.opening ∙ All-head (λ board. board.opening ≡ opening) first others all) stays.legal;
   each = All-cons (λ board. Begins board.history now.history) first others stays.earlier met;
 }
+
+one_item : {X : Type 0} (xs : List X) (d : X) → length xs ≡ 1 → xs ≡ get_or xs 0 d ∷ []
+one_item [] d one = absurd (omega arith)
+one_item (x ∷ []) d one = refl
+one_item (x ∷ y ∷ xs) d one = absurd (omega arith)
+
+-- the front of some boards, one of them, meets the rest
+pub front_met : {A E : Type 0} (r : Result A E) (boards front rest : List BoardContent) (d now : BoardContent) → boards ≡ front ++ rest → length front ≡ 1
+    → OnOk r (Stays (get_or front 0 d) now) → OnOk r (All (λ board. Begins board.history now.history) rest) → OnOk r (HaveAllMet boards)
+front_met (Ok done) boards front rest d now is one stays met =
+    subst HaveAllMet (sym (is ∙ ap (λ xs. xs ++ rest) (one_item front d one))) (all_met (get_or front 0 d) now rest stays met)
+front_met (Err error) boards front rest d now is one stays met = tt
 
 -- ---- the doors
 
@@ -143,12 +184,31 @@ serves_doors state seats most boards' doors doors' faults faults' end all none z
 
 rises_at : (most : ℕ) (ps : List OnePlace) → All (IsServedPlace most) ps → Contains (map (λ (p : OnePlace). p.end) ps) Failed
     → SomeRises (map (λ (p : OnePlace). p.faults) ps) (map (λ (p : OnePlace). p.faults_then) ps)
-rises_at most [] each (k, (within, is)) = absurd (omega arith)
-rises_at most (p ∷ ps) each (zero, (within, is)) = inl ((All-head (IsServedPlace most) p ps each).failed is)
-rises_at most (p ∷ ps) each (suc k, (within, is)) = inr (rises_at most ps (All-tail (IsServedPlace most) p ps each) (k, (omega arith, is)))
+rises_at most [] each (k, within, is) = absurd (omega arith)
+rises_at most (p ∷ ps) each (zero, within, is) = inl ((All-head (IsServedPlace most) p ps each).failed is)
+rises_at most (p ∷ ps) each (suc k, within, is) = inr (rises_at most ps (All-tail (IsServedPlace most) p ps each) (k, omega arith, is))
 
 pub some_rises : (most : ℕ) (boards boards' : List BoardContent) (doors doors' : List (Option Connections)) (faults faults' : List ℕ)
     → ArePlaces most boards boards' doors doors' faults faults' Failed → SomeRises faults faults'
 some_rises most boards boards' doors doors' faults faults' a =
     subst (λ (fs : List ℕ). SomeRises fs faults') a.faults_are
     (subst (λ (fs : List ℕ). SomeRises (map (λ (p : OnePlace). p.faults) a.places) fs) a.faults_then (rises_at most a.places a.each (a.ends.failed refl)))
+
+pub failed_rises : (most : ℕ) (boards boards' : List BoardContent) (doors doors' : List (Option Connections)) (faults faults' : List ℕ) (end : PlaceEnd)
+    → ArePlaces most boards boards' doors doors' faults faults' end → end ≡ Failed → SomeRises faults faults'
+failed_rises most boards boards' doors doors' faults faults' end a failed =
+    some_rises most boards boards' doors doors' faults faults' (subst (λ (e : PlaceEnd). ArePlaces most boards boards' doors doors' faults faults' e) failed a)
+
+-- ---- boards that are seen as they are
+
+pub map_same : {X : Type 0} (xs : List X) → map (λ x. x) xs ≡ xs
+map_same [] = refl
+map_same (x ∷ xs) = ap (λ ys. x ∷ ys) (map_same xs)
+
+pub serves_seats : (state : StateContent) (seats : List (SeenHistory StateContent)) (most : ℕ) (boards boards' : List BoardContent) (doors doors' : List (Option Connections)) (faults faults' : List ℕ) (end : PlaceEnd)
+    → boards ≡ map seated seats → ArePlaces most (map (λ (b : BoardContent). b) boards) (map (λ (b : BoardContent). b) boards') doors doors' faults faults' end → HaveAllMet boards'
+    → All (λ seat. seat ≡ one_state state) seats → state.batches ≡ [] → state.tip ≡ 0 → ServesDoors state.conf state.opening most doors doors' end
+serves_seats state seats most boards boards' doors doors' faults faults' end is a met all none zero_tip =
+    serves_doors state seats most boards' doors doors' faults faults' end all none zero_tip
+    (subst (λ (bs : List BoardContent). ArePlaces most bs boards' doors doors' faults faults' end) (map_same boards ∙ is)
+    (subst (λ (bs : List BoardContent). ArePlaces most (map (λ (b : BoardContent). b) boards) bs doors doors' faults faults' end) (map_same boards') a)) met

@@ -1,6 +1,5 @@
 -- The places of a server.
-use Rattle.std.proofs.Common.{◌≡◌, ◌≢◌, ◌⊎◌, inl, inr, ℕ, zero, suc, ◌≤◌, ◌<◌, List, [], ◌∷◌, ◌++◌, length, get_or, map, Option, Some, None, Result, Ok, Err, refl, sym, ap, ap₂, ◌∙◌, subst, arith}
-use Rattle.std.proofs.Math.ListN.{set}
+use Rattle.std.proofs.Common.{◌≡◌, ◌≢◌, ◌⊎◌, inl, inr, ℕ, zero, suc, ◌≤◌, ◌<◌, List, [], ◌∷◌, ◌++◌, length, get_or, map, slice_set, Option, Some, None, Result, Ok, Err, refl, sym, ap, ap₂, ◌∙◌, subst, arith}
 use Rattle.std.specs.Prelude.{All, Contains}
 use Rattle.std.specs.List.{AllZip}
 use Rattle.std.proofs.lemmas.List.{map-append}
@@ -32,26 +31,26 @@ done_not_failed : (ends : List PlaceEnd) → All (λ each. each ≡ Done) ends �
 done_not_failed ends all = All-weaker (λ each. each ≡ Done) (λ each. each ≢ Failed) (λ each is failed. cc) ends all
 
 pub ends_both : (a b : PlaceEnd) (ends others : List PlaceEnd) → EndAs ends a → EndAs others b → EndAs (ends ++ others) (worse a b)
-ends_both Failed b ends others as bs = failed_first ends others as
-ends_both OutOfMemory Failed ends others as bs = failed_last ends others bs
-ends_both OutOfMemory OutOfMemory ends others as bs = record {
+ends_both Failed b ends others first second = failed_first ends others first
+ends_both OutOfMemory Failed ends others first second = failed_last ends others second
+ends_both OutOfMemory OutOfMemory ends others first second = record {
   done = λ e. cc;
   failed = λ e. cc;
-  wanted = λ _. (Contains-append_left ends others OutOfMemory (as.wanted refl).0, All-append (λ each. each ≢ Failed) ends others (as.wanted refl).1 (bs.wanted refl).1);
+  wanted = λ _. (Contains-append_left ends others OutOfMemory (first.wanted refl).0, All-append (λ each. each ≢ Failed) ends others (first.wanted refl).1 (second.wanted refl).1);
 }
-ends_both OutOfMemory Done ends others as bs = record {
+ends_both OutOfMemory Done ends others first second = record {
   done = λ e. cc;
   failed = λ e. cc;
-  wanted = λ _. (Contains-append_left ends others OutOfMemory (as.wanted refl).0, All-append (λ each. each ≢ Failed) ends others (as.wanted refl).1 (done_not_failed others (bs.done refl)));
+  wanted = λ _. (Contains-append_left ends others OutOfMemory (first.wanted refl).0, All-append (λ each. each ≢ Failed) ends others (first.wanted refl).1 (done_not_failed others (second.done refl)));
 }
-ends_both Done Failed ends others as bs = failed_last ends others bs
-ends_both Done OutOfMemory ends others as bs = record {
+ends_both Done Failed ends others first second = failed_last ends others second
+ends_both Done OutOfMemory ends others first second = record {
   done = λ e. cc;
   failed = λ e. cc;
-  wanted = λ _. (Contains-append_right ends others OutOfMemory (bs.wanted refl).0, All-append (λ each. each ≢ Failed) ends others (done_not_failed ends (as.done refl)) (bs.wanted refl).1);
+  wanted = λ _. (Contains-append_right ends others OutOfMemory (second.wanted refl).0, All-append (λ each. each ≢ Failed) ends others (done_not_failed ends (first.done refl)) (second.wanted refl).1);
 }
-ends_both Done Done ends others as bs = record {
-  done = λ _. All-append (λ each. each ≡ Done) ends others (as.done refl) (bs.done refl);
+ends_both Done Done ends others first second = record {
+  done = λ _. All-append (λ each. each ≡ Done) ends others (first.done refl) (second.done refl);
   failed = λ e. cc;
   wanted = λ e. cc;
 }
@@ -59,8 +58,8 @@ ends_both Done Done ends others as bs = record {
 one_end : (end : PlaceEnd) → EndAs (end ∷ []) end
 one_end end = record {
   done = λ e. All-cons (λ each. each ≡ Done) end [] e (All-nil (λ each. each ≡ Done));
-  failed = λ e. (0, (omega arith, e));
-  wanted = λ e. ((0, (omega arith, e)), All-cons (λ each. each ≢ Failed) end [] (λ failed. cc) (All-nil (λ each. each ≢ Failed)));
+  failed = λ e. (0, omega arith, e);
+  wanted = λ e. ((0, omega arith, e), All-cons (λ each. each ≢ Failed) end [] (λ failed. cc) (All-nil (λ each. each ≢ Failed)));
 }
 
 -- ---- the places
@@ -105,14 +104,22 @@ both_places most boards boards' more more' doors doors' further further' faults 
   faults_are = map-append (λ (p : OnePlace). p.faults) a.places b.places ∙ ap₂ ◌++◌ a.faults_are b.faults_are;
   faults_then = map-append (λ (p : OnePlace). p.faults_then) a.places b.places ∙ ap₂ ◌++◌ a.faults_then b.faults_then;
   ends = subst (λ (ends : List PlaceEnd). EndAs ends (worse end other)) (sym (map-append (λ (p : OnePlace). p.end) a.places b.places))
-    (ends_both end other (map (λ (p : OnePlace). p.end) a.places) (map (λ (p : OnePlace). p.end) b.places) a.ends b.ends);
+      (ends_both end other (map (λ (p : OnePlace). p.end) a.places) (map (λ (p : OnePlace). p.end) b.places) a.ends b.ends);
 }
+
+-- no board and no door
+pub empty_places : {B D : Type 0} (content : B → BoardContent) (connections : D → Option Connections) (faults : D → ℕ) (most : ℕ) (boards : List B) (doors : List D)
+    → length boards ≡ 0 → length doors ≡ 0
+    → ArePlaces most (map content boards) (map content boards) (map connections doors) (map connections doors) (map faults doors) (map faults doors) Done
+empty_places content connections faults most [] [] none same = no_places most
+empty_places content connections faults most [] (d ∷ doors) none same = absurd (omega arith)
+empty_places content connections faults most (b ∷ boards) doors none same = absurd (omega arith)
 
 -- the first of one board and of one door
 pub first_place : {B D : Type 0} (content : B → BoardContent) (connections : D → Option Connections) (faults : D → ℕ) (most : ℕ) (boards : List B) (doors : List D)
     (b b' : B) (d d' : D) (end : PlaceEnd) → length boards ≡ 1 → length doors ≡ 1 → b ≡ get_or boards 0 b → d ≡ get_or doors 0 d
     → IsServedPlace most (record { board = content b; board_then = content b'; door = connections d; door_then = connections d'; faults = faults d; faults_then = faults d'; end = end })
-    → ArePlaces most (map content boards) (map content (set boards 0 b')) (map connections doors) (map connections (set doors 0 d')) (map faults doors) (map faults (set doors 0 d')) end
+    → ArePlaces most (map content boards) (map content (slice_set boards 0 b')) (map connections doors) (map connections (slice_set doors 0 d')) (map faults doors) (map faults (slice_set doors 0 d')) end
 first_place content connections faults most [] doors b b' d d' end one same is_b is_d is = absurd (omega arith)
 first_place content connections faults most (x ∷ y ∷ boards) doors b b' d d' end one same is_b is_d is = absurd (omega arith)
 first_place content connections faults most (x ∷ []) [] b b' d d' end one same is_b is_d is = absurd (omega arith)

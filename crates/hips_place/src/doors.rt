@@ -11,7 +11,7 @@ ghost use Rattle.hips_place.specs.Place.{ServesDoors, SomeRises, HaveAllMet};
 use crate::place::PlaceEnd;
 use crate::places::serve_places;
 use log::Log;
-use reader_pin::{Board, SeenSurvey, Shared, Survey, SurveyBook, SurveySeat, open_shared};
+use reader_pin::{Board, Shared, Survey, SurveyBook, SurveySeat, open_shared};
 use shared_history::Naming;
 use std::alloc::{AllocError, Global};
 use std::marker::Brand;
@@ -38,6 +38,9 @@ pub fn serve_doors<R: Threads + Wait + Sync + Clock + Log, D: Door + Send, G: Ga
     gate: &G,
     doors: &mut [D],
 ) -> Result<PlaceEnd, AllocError>
+where
+    D::In: Send,
+    D::Out: Send,
     requires first { (state.batches ≡ []) × (state.tip ≡ 0) }
     requires some { 0 < length doors.old }
     requires most { length doors.old ≤ 64 }
@@ -61,6 +64,8 @@ where
     J: Naming + Send + Sync,
     R: Threads + Wait + Sync + Clock + Log,
     D: Door + Send,
+    D::In: Send,
+    D::Out: Send,
     G: Gate + Sync,
     requires book { book ≡ J.book }
     requires first { (state.batches ≡ []) × (state.tip ≡ 0) }
@@ -89,6 +94,8 @@ where
     J: Naming + Send + Sync,
     R: Threads + Wait + Sync + Clock + Log,
     D: Door + Send,
+    D::In: Send,
+    D::Out: Send,
     G: Gate + Sync,
     requires same { length seats.items ≡ length doors.old }
     requires some { 0 < length doors.old }
@@ -97,8 +104,9 @@ where
     ensures failed { result ≡ Ok Failed → SomeRises (map D.faults doors.old) (map D.faults doors.new) }
 {
     let mut boards = boards_at(alloc, survey, seats)?;
-    let end = serve_places(rt, alloc, most, gate, &mut boards, doors);
-    meet_first(&mut boards)?;
+    let boards = boards.as_mut_slice();
+    let end = serve_places(rt, alloc, most, gate, boards, doors);
+    meet_first(boards)?;
     Ok(end)
 }
 
@@ -108,7 +116,6 @@ fn boards_at<'a, J: Naming>(
     survey: &'a Survey<J>,
     seats: Vec<SurveySeat<J>>,
 ) -> Result<Vec<Shared<'a, J>>, AllocError>
-where
     ensures { IfOk result (λ boards. boards.items ≡ map seated seats.items) }
 {
     let mut boards = Vec::new(alloc);
@@ -120,7 +127,6 @@ where
 
 // The first board meets each other one.
 fn meet_first<'a, J: Naming>(boards: &mut [Shared<'a, J>]) -> Result<(), AllocError>
-where
     requires { 0 < length boards.old }
     ensures { OnOk result (HaveAllMet boards.old) }
 {
@@ -133,7 +139,6 @@ fn meet_others<'a, J: Naming>(
     first: &mut Shared<'a, J>,
     others: &mut [Shared<'a, J>],
 ) -> Result<(), AllocError>
-where
     ensures stays { OnOk result (Stays first.old first.new) }
     ensures met { OnOk result (All (λ board. Begins board.history first.new.history) others.old) }
 {

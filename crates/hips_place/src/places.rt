@@ -25,6 +25,9 @@ pub fn serve_places<
     D: Door + Send,
     G: Gate + Sync,
 >(rt: &R, alloc: Global, most: u32, gate: &G, boards: &mut [B], doors: &mut [D]) -> PlaceEnd
+where
+    D::In: Send,
+    D::Out: Send,
     requires { length boards.old ≡ length doors.old }
     ensures { ArePlaces most (map B.content boards.old) (map B.content boards.new) (map D.connections doors.old) (map D.connections doors.new)
         (map D.faults doors.old) (map D.faults doors.new) result }
@@ -64,6 +67,9 @@ fn serve_both<
     far_boards: &mut [B],
     far_doors: &mut [D],
 ) -> PlaceEnd
+where
+    D::In: Send,
+    D::Out: Send,
     requires near { length near_boards.old ≡ length near_doors.old }
     requires far { length far_boards.old ≡ length far_doors.old }
     requires some { (0 < length near_boards.old) × (0 < length far_boards.old) }

@@ -26,7 +26,7 @@ survey_blank = -32768
 ";
 
 // The board of the survey, without leaves.
-fn opened<R: Threads + Sync>(rt: &R, alloc: Global) -> Result<Solo, Fail> {
+fn opened<R: Threads + Sync + Clock + Log>(rt: &R, alloc: Global) -> Result<Solo, Fail> {
     let conf = Arc::new(alloc, Conf::read(alloc, SURVEY.as_bytes())?)?;
     let generation = Generation::start(
         rt,

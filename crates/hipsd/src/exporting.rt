@@ -41,6 +41,7 @@ where
     ensures run { RunsExport (H.files shelf.old) (H.files shelf.new) result
         (K.held sink.old) (K.held sink.new) (K.handed_on sink.old) (K.handed_on sink.new) }
     ensures not_usage { result ≢ 1 }
+    ensures not_door { result ≢ 8 }
     ensures not_read { result ≢ 5 }
     ensures write_fault { result ≡ 6 → Rises (K.faults sink.old) (K.faults sink.new) }
     ensures shelf_fault { result ≡ 7 → Rises (H.faults shelf.old) (H.faults shelf.new) }

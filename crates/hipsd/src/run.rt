@@ -201,6 +201,7 @@ fn run_probe<S: Source, K: Sink>(
     ensures end { result ≡ 0 → IsAtEnd (S.left source.new) }
     ensures not_usage { result ≢ 1 }
     ensures not_shelf { result ≢ 7 }
+    ensures not_door { result ≢ 8 }
     ensures read_fault { result ≡ 5 → Rises (S.faults source.old) (S.faults source.new) }
     ensures write_fault { result ≡ 6 → Rises (K.faults sink.old) (K.faults sink.new) }
     ensures steps_never_fall { steps.old ≤ steps.new }

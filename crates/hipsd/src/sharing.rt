@@ -37,6 +37,8 @@ where
     K: Sink,
     H: Shelf,
     D: Door + Send,
+    D::In: Send,
+    D::Out: Send,
     G: Gate + Sync,
     requires some { 0 < places }
     requires most { places ≤ 64 }
@@ -97,6 +99,8 @@ fn serve_state<R, D, G>(rt: &R, state: State, connections: u32, gate: &G, doors:
 where
     R: AllocGlobal + Threads + Wait + Sync + Clock + Log,
     D: Door + Send,
+    D::In: Send,
+    D::Out: Send,
     G: Gate + Sync,
     requires some { 0 < length doors.old }
     requires most { length doors.old ≤ 64 }

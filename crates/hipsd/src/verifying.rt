@@ -29,6 +29,7 @@ where
         (K.held sink.old) (K.held sink.new) (K.handed_on sink.old) (K.handed_on sink.new) }
     ensures kept { H.files shelf.new ≡ H.files shelf.old }
     ensures not_usage { result ≢ 1 }
+    ensures not_door { result ≢ 8 }
     ensures not_read { result ≢ 5 }
     ensures write_fault { result ≡ 6 → Rises (K.faults sink.old) (K.faults sink.new) }
     ensures shelf_fault { result ≡ 7 → Rises (H.faults shelf.old) (H.faults shelf.new) }
