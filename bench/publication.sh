@@ -11,8 +11,8 @@
 # one tile was replaced, beside mosaic.c; and 65,536 edits of one leaf, of which each journal is kept.
 #
 # Then whole generations: of a full sky of order 3 made at once, with all processors and with one, and after 1, 64 and 256
-# leaves were replaced (a journal's charge lets no more of them be replaced); its files as they are handed out; and the same of
-# a field of 65,536 leaves of order 11. The goals are printed beside the times.
+# leaves were replaced (a journal's charge lets no more of them be replaced); its files as they are handed out; the same of a
+# field of 65,536 leaves of order 11, and an edit of it that is accepted. The goals are printed beside the times.
 #
 #   bench/publication.sh [RUNS]
 set -u
@@ -129,8 +129,11 @@ awk -v processors="$(nproc)" '
         printf "  next on the wall: one leaf %.2f ms (goal: under 10), 64 leaves %.1f, 256 leaves %.1f\n", least["all", 3] / 1e6, least["all", 4] / 1e6, least["all", 5] / 1e6
         printf "  file_parts: a tile %.0f ns (goal: under 2,000), the mosaic %.0f, the properties %.0f\n", least["all", 6], least["all", 7], least["all", 8]
     }' "$work/full-times"
-awk 'NR == 1 || $1 < start { start = $1 } NR == 1 || $2 < one { one = $2 }
-    END { printf "65,536 leaves of order 11, of 32 by 32: start %.1f ms, next of one leaf %.2f ms on the wall\n", start / 1e6, one / 1e6 }' "$work/deep-times"
+awk 'NR == 1 || $1 < start { start = $1 } NR == 1 || $2 < one { one = $2 } NR == 1 || $3 < edit { edit = $3 }
+    END {
+        printf "65,536 leaves of order 11, of 32 by 32: start %.1f ms (goal of loading with 4: under 10,000), next of one leaf %.2f ms (goal: under 2) on the wall\n", start / 1e6, one / 1e6
+        printf "  an edit %.2f us of processor time (goal: under 20)\n", edit / 1e3
+    }' "$work/deep-times"
 
 # ---- covers
 

@@ -93,6 +93,18 @@ if [ "$ended $replies $closing" != '12 65536 1' ]; then
     wrong=1
 fi
 
+# Doors: words that are no row of the table, an address at which nobody can listen, and a folder without a description.
+check 1 "$usage" '' serve 127.0.0.1:0 1 0
+check 1 "$usage" '' serve 127.0.0.1:0 1 65
+check 1 "$usage" '' serve 127.0.0.1:0 0 1
+check 1 "$usage" '' serve 127.0.0.1:0 65537 1
+check 1 "$usage" '' serve 127.0.0.1:0 01 1
+check 1 "$usage" '' serve 127.0.0.1:0 1
+check 8 '' '' serve nowhere.invalid:1 1 2
+mv survey.conf kept.conf
+check 2 'conf absent\n' '' serve 127.0.0.1:0 1 1
+mv kept.conf survey.conf
+
 # Made surveys. Where 4,096 edits are made all accepted ones are published.
 check 1 "$usage" '' make 0 4097
 check 0 'edits 1 of 1 leaves 1 files 6 prefix 1 sum 103636951\n' '' make 0 1

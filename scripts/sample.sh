@@ -1,7 +1,9 @@
 #!/bin/sh
-# Builds hipsd without proving it, and has it serve one connection over a small survey: a leaf tile is put and published, and
-# the tile above it is fetched.
+# Builds hipsd without proving it, has it serve a small survey on the loopback, and edits the survey with curl: a leaf tile is put
+# and published, and the tile above it is fetched before and after. Then the server ends by itself, since it was told to serve
+# one connection.
 cd "$(dirname "$0")/../crates/hipsd" || exit 1
+command -v curl >/dev/null 2>&1 || { echo "sample: there is no curl here" >&2; exit 1; }
 folder=$(mktemp -d) || exit 1
 trap 'rm -rf "$folder"' EXIT
 
@@ -35,36 +37,47 @@ cards=$(
     printf '\0\001\0\002\0\003\0\005'
 } >"$folder/leaf"
 
-# request METHOD PATH [FIELD]: the head of a request.
-request() {
-    printf '%s %s HTTP/1.1\r\nHost: sample\r\n' "$1" "$2"
-    [ $# = 2 ] || printf '%s\r\n' "$3"
-    printf '\r\n'
-}
-{
-    request PUT /Norder4/Dir0/Npix0.fits 'Content-Length: 2888'
-    cat "$folder/leaf"
-    request POST /publish
-    request GET /Norder3/Dir0/Npix0.fits
-} >"$folder/requests"
+# The address: a port of the loopback that is free now.
+port=${1:-$(python3 -c 'import socket; s = socket.socket(); s.bind(("127.0.0.1", 0)); print(s.getsockname()[1])' 2>/dev/null || echo 8080)}
+base=http://127.0.0.1:$port
 
 echo "Building hipsd by 'rt try', which compiles it and proves nothing (a minute or two at first) ..."
 echo "('rt ci' at the top of the repository proves it, and takes far longer.)"
-if ! rt try --data survey.conf="$folder/survey.conf" -- session <"$folder/requests" >"$folder/replies" 2>"$folder/errors"; then
-    cat "$folder/errors" >&2
-    echo "sample: rt try -- session failed" >&2
+rt try --seconds 900 --data survey.conf="$folder/survey.conf" -- serve "127.0.0.1:$port" 1 1 >"$folder/output" 2>"$folder/errors" &
+server=$!
+
+# All requests of one curl are of one connection, the one that is served. Until the server listens curl tries again.
+curl -s --retry 600 --retry-delay 1 --retry-connrefused -i -o "$folder/before" "$base/Norder3/Dir0/Npix0.fits" \
+    --next -s -i -o "$folder/put" -T "$folder/leaf" -H 'Expect:' "$base/Norder4/Dir0/Npix0.fits" \
+    --next -s -i -o "$folder/published" -X POST "$base/publish" \
+    --next -s -D "$folder/head" -o "$folder/tile" "$base/Norder3/Dir0/Npix0.fits"
+asked=$?
+wait "$server"
+ended=$?
+if [ "$asked" != 0 ] || [ "$ended" != 0 ]; then
+    cat "$folder/output" "$folder/errors" >&2
+    echo "sample: curl ended with status $asked, rt try with $ended" >&2
     exit 1
 fi
-
-size=$(wc -c <"$folder/replies")
-[ "$size" -gt 5760 ] || { echo "sample: only $size bytes of replies" >&2; exit 1; }
-numbers=$(tail -c 5760 "$folder/replies" | head -c 2888 | tail -c 8 | od -An -v -tx1 | sed 's/ \(..\) \(..\)/ \1\2/g')
+size=$(wc -c <"$folder/tile")
+[ "$size" = 5760 ] || { echo "sample: the tile has $size bytes" >&2; exit 1; }
+numbers=$(head -c 2888 "$folder/tile" | tail -c 8 | od -An -v -tx1 | sed 's/ \(..\) \(..\)/ \1\2/g')
+shown() {
+    for reply; do tr -d '\r' <"$folder/$reply" | sed -e 's/^\(.\)/    \1/'; done
+}
 echo
-echo "hipsd session, over a survey without leaves, is sent three requests: PUT of leaf 0 of order 4, whose four pixels are"
-echo "1, 2, 3 and 5; POST /publish; and GET of tile 0 of order 3, the tile above it. It replies:"
+echo "hipsd serve, over a survey without leaves, is asked for tile 0 of order 3, and has none:"
 echo
-head -c $((size - 5760)) "$folder/replies" | tr -d '\r' | sed 's/^\(.\)/    \1/'
-echo "and the 5760 bytes of the tile's FITS file. Its four pixels are stored as"
+shown before
+echo
+echo "Leaf 0 of order 4, which lies under it, is put, with the four pixels 1, 2, 3 and 5, and published:"
+echo
+shown put published
+echo
+echo "Now there is a tile 0 of order 3:"
+echo
+shown head
+echo "and the $size bytes of its FITS file. Its four pixels are stored as"
 echo
 echo "   $numbers"
 echo

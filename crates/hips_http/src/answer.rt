@@ -10,11 +10,13 @@ use crate::change::{batch, delete, put};
 use crate::control::{pin, publish, unpin};
 use crate::reply::TextReply;
 use http_frame::{Allow, Frame, Request, Stop};
+use log::Log;
 use parent_rule::Steps;
 use reader_pin::Board;
 use std::alloc::Global;
 use std::sync::Wait;
 use std::thread::Threads;
+use std::time::Clock;
 use survey_link::{Gate, Source};
 
 /// Reads the body of a request and answers its call, which isn't that for a file.
@@ -22,7 +24,7 @@ use survey_link::{Gate, Source};
 /// # Errors
 ///
 /// As the frame stops.
-pub(crate) fn reply_to<R: Threads + Wait + Sync, B: Board, S: Source, G: Gate + Sync>(
+pub(crate) fn reply_to<R: Threads + Wait + Sync + Clock + Log, B: Board, S: Source, G: Gate + Sync>(
     rt: &R,
     alloc: Global,
     frame: &mut Frame,
@@ -71,7 +73,7 @@ pub(crate) fn pass_body<S: Source>(frame: &mut Frame, src: &mut S, count: u64) -
 }
 
 // Answers a call that isn't that for a file.
-fn answer<R: Threads + Wait + Sync, B: Board, G: Gate + Sync>(
+fn answer<R: Threads + Wait + Sync + Clock + Log, B: Board, G: Gate + Sync>(
     rt: &R,
     alloc: Global,
     board: &mut B,

@@ -8,11 +8,13 @@ ghost use Rattle.hips_http.specs.declared.served.SessionEnd.TheVariants.{ReadFau
 use crate::served::{Served, SessionEnd};
 use crate::step::{MOST_REQUESTS, serve_one};
 use http_frame::Frame;
+use log::Log;
 use parent_rule::Steps;
 use reader_pin::Board;
 use std::alloc::{AllocError, Global};
 use std::sync::Wait;
 use std::thread::Threads;
+use std::time::Clock;
 use survey_core::batch_room;
 use survey_link::{Gate, Sink, Source};
 
@@ -22,7 +24,13 @@ use survey_link::{Gate, Sink, Source};
 /// `OutOfMemory` ends it where there is no memory for its buffers, before anything is read or written. From then on only PUT,
 /// DELETE, POST batch and POST publish may want memory, and they answer it with code 503; `wants` is the number of these
 /// replies. An event whose reply couldn't be written stays in the history.
-pub fn session<R: Threads + Wait + Sync, B: Board, S: Source, K: Sink, G: Gate + Sync>(
+pub fn session<
+    R: Threads + Wait + Sync + Clock + Log,
+    B: Board,
+    S: Source,
+    K: Sink,
+    G: Gate + Sync,
+>(
     rt: &R,
     alloc: Global,
     board: &mut B,
@@ -59,7 +67,13 @@ pub fn session<R: Threads + Wait + Sync, B: Board, S: Source, K: Sink, G: Gate +
 
 /// As `session`, over a frame that is handed in, which has room for the longest body of the board's survey. What the frame
 /// held is dropped first.
-pub fn session_in<R: Threads + Wait + Sync, B: Board, S: Source, K: Sink, G: Gate + Sync>(
+pub fn session_in<
+    R: Threads + Wait + Sync + Clock + Log,
+    B: Board,
+    S: Source,
+    K: Sink,
+    G: Gate + Sync,
+>(
     rt: &R,
     alloc: Global,
     frame: &mut Frame,

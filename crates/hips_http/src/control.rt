@@ -5,15 +5,18 @@ ghost use Rattle.hips_http.specs.Answers.{Asking};
 ghost use Rattle.hips_http.specs.Progress.{Serves};
 
 use crate::reply::TextReply;
+use crate::saying::Publishing;
 use dirty_plan::laws::more_touched_is_more_work;
+use log::Log;
 use parent_rule::Steps;
 use reader_pin::{Board, Published};
 use std::sync::Wait;
 use std::thread::Threads;
+use std::time::Clock;
 use survey_link::Gate;
 
 /// Answers POST publish: all edits that the board has seen are published, now or already.
-pub(crate) fn publish<R: Threads + Wait + Sync, B: Board, G: Gate + Sync>(
+pub(crate) fn publish<R: Threads + Wait + Sync + Clock + Log, B: Board, G: Gate + Sync>(
     rt: &R,
     board: &mut B,
     gate: &G,
@@ -24,8 +27,12 @@ pub(crate) fn publish<R: Threads + Wait + Sync, B: Board, G: Gate + Sync>(
 {
     // The edits from an earlier tip on are no fewer.
     more_touched_is_more_work();
+    let publishing = Publishing::begin(rt, steps.count());
     match board.publish(rt, gate, steps) {
-        Ok(Published::New(k)) => TextReply::published(k),
+        Ok(Published::New(k)) => {
+            publishing.say_done(rt, k, board.last().edits(), steps.count());
+            TextReply::published(k)
+        }
         Ok(Published::Already(k)) => TextReply::already(k),
         Err(_) => TextReply::no_memory(),
     }

@@ -8,11 +8,13 @@ ghost use Rattle.tile_path.specs.declared.path.Path.{Path as SurveyPath};
 ghost use Rattle.survey_core.specs.State.{survey_state};
 ghost use Rattle.hips_http.specs.Answers.{Asking};
 ghost use Rattle.hips_http.specs.Progress.{Gives};
-ghost use Rattle.hips_http.specs.Replies.{head_of, sent_body, file_answer, path_answer};
+ghost use Rattle.hips_http.specs.Replies.{head_of, sent_body, file_answer, path_answer, not_found};
 
 use crate::reply::TextReply;
+use crate::saying::say_answered;
 use crate::send::{send_file, send_text};
 use http_frame::Method;
+use log::Log;
 use reader_pin::Board;
 use survey_core::State;
 use survey_link::{Failed, Sink};
@@ -23,7 +25,8 @@ use tile_path::Path;
 /// # Errors
 ///
 /// `Failed` only where the sink's count of faults rose; some first bytes may have been written.
-pub(crate) fn send_path<K: Sink>(
+pub(crate) fn send_path<R: Log, K: Sink>(
+    rt: &R,
     sink: &mut K,
     method: Method,
     close: bool,
@@ -39,15 +42,16 @@ pub(crate) fn send_path<K: Sink>(
 {
     match path {
         Some(text) => match Path::read(text) {
-            Some(path) => send_known(sink, method, close, state, &path, text),
-            None => send_unknown(sink, method, close, state, text),
+            Some(path) => send_known(rt, sink, method, close, state, &path, text),
+            None => send_unknown(rt, sink, method, close, state, text),
         },
-        None => send_text(sink, method, close, &TextReply::not_found(state.tip())),
+        None => send_not_found(rt, sink, method, close, state, None),
     }
 }
 
 // The same of a path that a survey can have, which is spelled so.
-fn send_known<K: Sink>(
+fn send_known<R: Log, K: Sink>(
+    rt: &R,
     sink: &mut K,
     method: Method,
     close: bool,
@@ -67,6 +71,7 @@ fn send_known<K: Sink>(
     match state.generation().file_parts(path, &mut front) {
         Some(parts) => {
             let front = &front[..parts.front];
+            say_answered(rt, method, Some(text), 200);
             send_file(
                 sink,
                 method,
@@ -78,12 +83,13 @@ fn send_known<K: Sink>(
                 parts.zeros,
             )
         }
-        None => send_text(sink, method, close, &TextReply::not_found(state.tip())),
+        None => send_not_found(rt, sink, method, close, state, Some(text)),
     }
 }
 
 // The same of a text that no path spells.
-fn send_unknown<K: Sink>(
+fn send_unknown<R: Log, K: Sink>(
+    rt: &R,
     sink: &mut K,
     method: Method,
     close: bool,
@@ -99,6 +105,24 @@ fn send_unknown<K: Sink>(
     ensures never_falls { K.faults sink.old ≤ K.faults sink.new }
 {
     let _orders = state.conf().shape();
+    send_not_found(rt, sink, method, close, state, Some(text))
+}
+
+// The reply that there is no file at the path.
+fn send_not_found<R: Log, K: Sink>(
+    rt: &R,
+    sink: &mut K,
+    method: Method,
+    close: bool,
+    state: &State,
+    path: Option<&[u8]>,
+) -> Result<(), Failed>
+    ensures whole { OnOk result (Appends (K.held sink.old) (K.held sink.new) (reply_bytes (head_of close (not_found state.now.tip)) (sent_body method (not_found state.now.tip).body))) }
+    ensures part { OnErr result (AppendsPrefix (K.held sink.old) (K.held sink.new) (reply_bytes (head_of close (not_found state.now.tip)) (sent_body method (not_found state.now.tip).body))) }
+    ensures failed { OnErr result (Rises (K.faults sink.old) (K.faults sink.new)) }
+    ensures never_falls { K.faults sink.old ≤ K.faults sink.new }
+{
+    say_answered(rt, method, path, 404);
     send_text(sink, method, close, &TextReply::not_found(state.tip()))
 }
 
@@ -107,7 +131,8 @@ fn send_unknown<K: Sink>(
 /// # Errors
 ///
 /// `Failed` only where the sink's count of faults rose; some first bytes may have been written.
-pub(crate) fn give_file<B: Board, K: Sink>(
+pub(crate) fn give_file<R: Log, B: Board, K: Sink>(
+    rt: &R,
     sink: &mut K,
     board: &mut B,
     method: Method,
@@ -121,13 +146,14 @@ pub(crate) fn give_file<B: Board, K: Sink>(
 {
     let _legal = board.last();
     match board.held() {
-        Some(state) => return send_path(sink, method, close, state, path),
-        None => return give_newest(sink, board, method, close, path),
+        Some(state) => return send_path(rt, sink, method, close, state, path),
+        None => return give_newest(rt, sink, board, method, close, path),
     }
 }
 
 // The same by the newest state that the board sees, where it holds none.
-fn give_newest<B: Board, K: Sink>(
+fn give_newest<R: Log, B: Board, K: Sink>(
+    rt: &R,
     sink: &mut K,
     board: &mut B,
     method: Method,
@@ -140,5 +166,5 @@ fn give_newest<B: Board, K: Sink>(
     ensures never_falls { K.faults sink.old ≤ K.faults sink.new }
 {
     board.pin();
-    send_path(sink, method, close, board.last(), path)
+    send_path(rt, sink, method, close, board.last(), path)
 }

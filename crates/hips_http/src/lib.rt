@@ -13,6 +13,7 @@ mod control;
 mod file;
 pub mod laws;
 mod reply;
+mod saying;
 mod send;
 mod served;
 mod step;

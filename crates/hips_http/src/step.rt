@@ -16,14 +16,17 @@ use crate::answer::{pass_body, reply_to};
 use crate::call::{Call, call_of, path_kind};
 use crate::file::give_file;
 use crate::reply::TextReply;
+use crate::saying::say_answered;
 use crate::send::{send_refusal, send_text};
 use crate::served::SessionEnd;
 use http_frame::{Frame, Request, Stop, write_continue};
+use log::Log;
 use parent_rule::Steps;
 use reader_pin::Board;
 use std::alloc::Global;
 use std::sync::Wait;
 use std::thread::Threads;
+use std::time::Clock;
 use survey_link::{Failed, Gate, Sink, Source};
 
 /// The most requests of a connection.
@@ -117,7 +120,8 @@ fn body_end(stop: Stop) -> SessionEnd
 /// # Errors
 ///
 /// How the connection ends: `WriteFault` where the reply couldn't be written, else as the body isn't whole.
-pub(crate) fn serve_file<B: Board, S: Source, K: Sink>(
+pub(crate) fn serve_file<R: Log, B: Board, S: Source, K: Sink>(
+    rt: &R,
     frame: &mut Frame,
     board: &mut B,
     src: &mut S,
@@ -141,7 +145,7 @@ pub(crate) fn serve_file<B: Board, S: Source, K: Sink>(
         Ok(()) => {}
         Err(stop) => return Err(body_end(stop)),
     }
-    match give_file(sink, board, request.method, close, frame.path()) {
+    match give_file(rt, sink, board, request.method, close, frame.path()) {
         Ok(()) => return Ok(()),
         Err(_) => return Err(SessionEnd::WriteFault),
     }
@@ -152,7 +156,13 @@ pub(crate) fn serve_file<B: Board, S: Source, K: Sink>(
 /// # Errors
 ///
 /// How the connection ends: `WriteFault` where the reply couldn't be written, else as the body isn't whole.
-pub(crate) fn serve_text<R: Threads + Wait + Sync, B: Board, S: Source, K: Sink, G: Gate + Sync>(
+pub(crate) fn serve_text<
+    R: Threads + Wait + Sync + Clock + Log,
+    B: Board,
+    S: Source,
+    K: Sink,
+    G: Gate + Sync,
+>(
     rt: &R,
     alloc: Global,
     frame: &mut Frame,
@@ -188,6 +198,7 @@ pub(crate) fn serve_text<R: Threads + Wait + Sync, B: Board, S: Source, K: Sink,
         Err(stop) => return Err(body_end(stop)),
     };
     count_want(wants, &reply);
+    say_answered(rt, request.method, frame.path(), reply.code);
     match send_text(sink, request.method, close, &reply) {
         Ok(()) => return Ok(()),
         Err(_) => return Err(SessionEnd::WriteFault),
@@ -199,7 +210,7 @@ pub(crate) fn serve_text<R: Threads + Wait + Sync, B: Board, S: Source, K: Sink,
 /// # Errors
 ///
 /// How the connection ends: `WriteFault` where the reply couldn't be written, else as the body isn't whole.
-fn serve_call<R: Threads + Wait + Sync, B: Board, S: Source, K: Sink, G: Gate + Sync>(
+fn serve_call<R: Threads + Wait + Sync + Clock + Log, B: Board, S: Source, K: Sink, G: Gate + Sync>(
     rt: &R,
     alloc: Global,
     frame: &mut Frame,
@@ -232,7 +243,7 @@ fn serve_call<R: Threads + Wait + Sync, B: Board, S: Source, K: Sink, G: Gate + 
     if let Call::File = call {
         let _wants = *wants;
         let _steps = steps.count();
-        return serve_file(frame, board, src, sink, request, close);
+        return serve_file(rt, frame, board, src, sink, request, close);
     }
     serve_text(
         rt, alloc, frame, board, src, sink, gate, steps, request, call, close, wants,
@@ -245,7 +256,13 @@ fn serve_call<R: Threads + Wait + Sync, B: Board, S: Source, K: Sink, G: Gate + 
 /// # Errors
 ///
 /// How the connection ends instead.
-pub(crate) fn serve_one<R: Threads + Wait + Sync, B: Board, S: Source, K: Sink, G: Gate + Sync>(
+pub(crate) fn serve_one<
+    R: Threads + Wait + Sync + Clock + Log,
+    B: Board,
+    S: Source,
+    K: Sink,
+    G: Gate + Sync,
+>(
     rt: &R,
     alloc: Global,
     frame: &mut Frame,

@@ -8,12 +8,14 @@ mod rows;
 use crate::{SessionEnd, session};
 use generation::Generation;
 use leaf_store::Store;
+use log::Log;
 use parent_rule::Steps;
 use reader_pin::Solo;
 use std::alloc::Global;
 use std::sync::{Arc, Wait};
 use std::test::Fail;
 use std::thread::Threads;
+use std::time::Clock;
 use survey_conf::Conf;
 use survey_core::State;
 use survey_link::{MemSink, MemSource, OpenGate};
@@ -46,7 +48,7 @@ fn opened<R: Threads + Sync>(rt: &R, alloc: Global, conf: &str) -> Result<Solo, 
 }
 
 // What a connection with that input is answered, and how it ends, where every reply finds memory.
-fn converse<R: Threads + Wait + Sync>(
+fn converse<R: Threads + Wait + Sync + Clock + Log>(
     rt: &R,
     alloc: Global,
     board: &mut Solo,

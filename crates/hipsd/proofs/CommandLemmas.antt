@@ -1,15 +1,15 @@
 -- Lemmas for the proof that the words of a command line are read exactly.
-use Rattle.std.proofs.Common.{◌≡◌, ◌≢◌, ℕ, zero, suc, ◌^◌, ◌<◌, ◌≤◌, ◌+◌, List, [], ◌∷◌, length, get_or, decimal, codes, Result, Ok, Err, Option, Some, None, MatchOption, IfNone, refl, sym, ◌∙◌, ap, subst, arith}
+use Rattle.std.proofs.Common.{◌≡◌, ◌≢◌, ℕ, zero, suc, ◌^◌, ◌<◌, ◌≤◌, ◌+◌, ◌*◌, List, [], ◌∷◌, length, get_or, decimal, codes, Result, Ok, Err, Option, Some, None, MatchOption, IfNone, refl, sym, ◌∙◌, ap, subst, arith}
 use Rattle.std.proofs.Math.ListN.{drop, drop_of_length-le}
 use Rattle.std.proofs.Math.Seq.{drop-cons}
 use Rattle.std.specs.Result.{result_ok}
 use Rattle.std.specs.Str.Parse.{AllDigits, digits_value, ParsesUnsigned}
 use Rattle.std.proofs.lemmas.Str.Parse.{IsNumeralModel, numerals_by_value, tells_digits, parse_plain, digit_at}
 use Rattle.std.proofs.lemmas.Fmt.{decimal_digit, decimal_nonempty, first_decimal, digits_decimal, decimal-digits_value, decimal_injective, parse-decimal}
-use Rattle.hipsd.specs.Command.{Asks, IsProbe, IsMake, IsCommand, words_of}
+use Rattle.hipsd.specs.Command.{Asks, IsProbe, IsMake, IsServe, IsCommand, IsCommandFor, doors_of, words_of}
 use Rattle.hipsd.specs.declared.command.Probe.{Probe}
 use Rattle.hipsd.specs.declared.command.Command.{Command}
-use Rattle.hipsd.specs.declared.command.Command.TheVariants.{Probe as ProbeCommand, Session, Export, Verify, Make}
+use Rattle.hipsd.specs.declared.command.Command.TheVariants.{Probe as ProbeCommand, Session, Export, Verify, Make, Serve}
 
 own : IsNumeralModel (AllDigits 10) (digits_value 10)
 own = numerals_by_value (AllDigits 10) tells_digits
@@ -78,6 +78,7 @@ no_command top n order npix none (Session, asks) = let e = asks.spelled in cc
 no_command top n order npix none (Export, asks) = let e = asks.spelled in cc
 no_command top n order npix none (Verify, asks) = let e = asks.spelled in cc
 no_command top n order npix none (Make number edits, asks) = let e = asks.spelled in cc
+no_command top n order npix none (Serve connections places, asks) = let e = asks.spelled in cc
 
 -- words that begin with `make` and ask for no made survey ask for nothing
 pub no_make : (number edits : List ℕ)
@@ -88,6 +89,7 @@ no_make number edits none (Session, asks) = let e = asks.spelled in cc
 no_make number edits none (Export, asks) = let e = asks.spelled in cc
 no_make number edits none (Verify, asks) = let e = asks.spelled in cc
 no_make number edits none (Make n m, asks) = none n m asks
+no_make number edits none (Serve connections places, asks) = let e = asks.spelled in cc
 
 pub no_make_command : (found : Option Command) (number edits : List ℕ)
     → IfNone found ((n m : ℕ) → ¬ Asks (codes "make" ∷ number ∷ edits ∷ []) (Make n m))
@@ -95,10 +97,27 @@ pub no_make_command : (found : Option Command) (number edits : List ℕ)
 no_make_command None number edits none = no_make number edits none
 no_make_command (Some command) number edits none = tt
 
+-- words that begin with `serve` and ask for no doors ask for nothing
+pub no_serve : (address connections places : List ℕ)
+    → ((n m : ℕ) → ¬ Asks (codes "serve" ∷ address ∷ connections ∷ places ∷ []) (Serve n m))
+    → ¬ IsCommand (codes "serve" ∷ address ∷ connections ∷ places ∷ [])
+no_serve address connections places none (ProbeCommand asked, asks) = let e = asks.spelled in cc
+no_serve address connections places none (Session, asks) = let e = asks.spelled in cc
+no_serve address connections places none (Export, asks) = let e = asks.spelled in cc
+no_serve address connections places none (Verify, asks) = let e = asks.spelled in cc
+no_serve address connections places none (Make number edits, asks) = let e = asks.spelled in cc
+no_serve address connections places none (Serve n m, asks) = none n m asks
+
+pub no_serve_command : (found : Option Command) (address connections places : List ℕ)
+    → IfNone found ((n m : ℕ) → ¬ Asks (codes "serve" ∷ address ∷ connections ∷ places ∷ []) (Serve n m))
+    → IfNone found (¬ IsCommand (codes "serve" ∷ address ∷ connections ∷ places ∷ []))
+no_serve_command None address connections places none = no_serve address connections places none
+no_serve_command (Some command) address connections places none = tt
+
 -- words ask for one probe only
 pub same_probe : (words : List (List ℕ)) (a b : Probe) → Asks words (ProbeCommand a) → Asks words (ProbeCommand b) → a ≡ b
 same_probe words a b asks_a asks_b =
-    let e : words_of (ProbeCommand a) ≡ words_of (ProbeCommand b) = sym asks_a.spelled ∙ asks_b.spelled in
+    let e : words_of asks_a.address (ProbeCommand a) ≡ words_of asks_b.address (ProbeCommand b) = sym asks_a.spelled ∙ asks_b.spelled in
     let top : decimal a.top ≡ decimal b.top = cc in
     let n : decimal a.n ≡ decimal b.n = cc in
     let order : decimal a.order ≡ decimal b.order = cc in
@@ -114,36 +133,48 @@ same_probe words a b asks_a asks_b =
 -- words ask for one made survey only
 pub same_make : (words : List (List ℕ)) (n m n' m' : ℕ) → Asks words (Make n m) → Asks words (Make n' m') → (n ≡ n') × (m ≡ m')
 same_make words n m n' m' asks asks' =
-    let e : words_of (Make n m) ≡ words_of (Make n' m') = sym asks.spelled ∙ asks'.spelled in
+    let e : words_of asks.address (Make n m) ≡ words_of asks'.address (Make n' m') = sym asks.spelled ∙ asks'.spelled in
     let number : decimal n ≡ decimal n' = cc in
     let edits : decimal m ≡ decimal m' = cc in
     let range : IsMake n m = asks.in_range in
     let range' : IsMake n' m' = asks'.in_range in
     (decimal_injective n n' (omega arith) (omega arith) number, decimal_injective m m' (omega arith) (omega arith) edits)
 
--- the first letter of the first word
-abbrev first_letter : List (List ℕ) → ℕ
-first_letter [] = 0
-first_letter (word ∷ words) = get_or word 0 0
+-- words ask for one number of connections and of doors only
+pub same_serve : (words : List (List ℕ)) (n m n' m' : ℕ) → Asks words (Serve n m) → Asks words (Serve n' m') → (n ≡ n') × (m ≡ m')
+same_serve words n m n' m' asks asks' =
+    let e : words_of asks.address (Serve n m) ≡ words_of asks'.address (Serve n' m') = sym asks.spelled ∙ asks'.spelled in
+    let connections : decimal n ≡ decimal n' = cc in
+    let places : decimal m ≡ decimal m' = cc in
+    let range : IsServe n m = asks.in_range in
+    let range' : IsServe n' m' = asks'.in_range in
+    (decimal_injective n n' (omega arith) (omega arith) connections, decimal_injective m m' (omega arith) (omega arith) places)
 
-abbrev letter_of : Command → ℕ
-letter_of (ProbeCommand asked) = 112
-letter_of Session = 115
-letter_of Export = 101
-letter_of Verify = 118
-letter_of (Make number edits) = 109
+-- how many words there are, and the first letter of the first of them
+abbrev sign_of : List (List ℕ) → ℕ
+sign_of [] = 0
+sign_of (word ∷ words) = get_or word 0 0 + 1000 * length words
 
-first_letter-words_of : (command : Command) → first_letter (words_of command) ≡ letter_of command
-first_letter-words_of (ProbeCommand asked) = refl
-first_letter-words_of Session = refl
-first_letter-words_of Export = refl
-first_letter-words_of Verify = refl
-first_letter-words_of (Make number edits) = refl
+abbrev sign_for : Command → ℕ
+sign_for (ProbeCommand asked) = 4112
+sign_for Session = 115
+sign_for Export = 101
+sign_for Verify = 118
+sign_for (Make number edits) = 2109
+sign_for (Serve connections places) = 3115
 
--- commands of the same words begin with the same letter
-same_letter : (words : List (List ℕ)) (a b : Command) → Asks words a → Asks words b → letter_of a ≡ letter_of b
-same_letter words a b asks_a asks_b =
-    sym (first_letter-words_of a) ∙ ap first_letter (sym asks_a.spelled ∙ asks_b.spelled) ∙ first_letter-words_of b
+sign-words_of : (address : List ℕ) (command : Command) → sign_of (words_of address command) ≡ sign_for command
+sign-words_of address (ProbeCommand asked) = refl
+sign-words_of address Session = refl
+sign-words_of address Export = refl
+sign-words_of address Verify = refl
+sign-words_of address (Make number edits) = refl
+sign-words_of address (Serve connections places) = refl
+
+-- commands of the same words have the same sign
+same_sign : (words : List (List ℕ)) (a b : Command) → Asks words a → Asks words b → sign_for a ≡ sign_for b
+same_sign words a b asks_a asks_b =
+    sym (sign-words_of asks_a.address a) ∙ ap sign_of (sym asks_a.spelled ∙ asks_b.spelled) ∙ sign-words_of asks_b.address b
 
 -- and for one command only
 pub same_command : (words : List (List ℕ)) (a b : Command) → Asks words a → Asks words b → a ≡ b
@@ -154,4 +185,29 @@ same_command words Verify Verify asks_a asks_b = refl
 same_command words (Make n m) (Make n' m') asks_a asks_b =
     let same = same_make words n m n' m' asks_a asks_b in
     λ i. Make (same.0 i) (same.1 i)
-same_command words a b asks_a asks_b = let e : letter_of a ≡ letter_of b = same_letter words a b asks_a asks_b in absurd (omega arith)
+same_command words (Serve n m) (Serve n' m') asks_a asks_b =
+    let same = same_serve words n m n' m' asks_a asks_b in
+    λ i. Serve (same.0 i) (same.1 i)
+same_command words a b asks_a asks_b = let e : sign_for a ≡ sign_for b = same_sign words a b asks_a asks_b in absurd (omega arith)
+
+-- a command that needs more doors than there are: the words ask for no other
+pub too_few : (words : List (List ℕ)) (doors : ℕ) (command : Command) → Asks words command → doors < doors_of command → ¬ IsCommandFor doors words
+too_few words doors command asks more (other, (asks', fits)) =
+    let same : doors_of other ≡ doors_of command = ap doors_of (same_command words other command asks' asks) in
+    omega arith
+
+-- words that ask for nothing ask for nothing, however many doors there are
+pub none_for : (words : List (List ℕ)) (doors : ℕ) → ¬ IsCommand words → ¬ IsCommandFor doors words
+none_for words doors none (command, (asks, fits)) = none (command, asks)
+
+-- no command needs more than 64 doors
+few_doors : (words : List (List ℕ)) (command : Command) → Asks words command → doors_of command ≤ 64
+few_doors words (ProbeCommand asked) asks = omega arith
+few_doors words Session asks = omega arith
+few_doors words Export asks = omega arith
+few_doors words Verify asks = omega arith
+few_doors words (Make n m) asks = omega arith
+few_doors words (Serve n m) asks = let range : IsServe n m = asks.in_range in omega arith
+
+pub none_at_all : (words : List (List ℕ)) (doors : ℕ) → 64 ≤ doors → ¬ IsCommandFor doors words → ¬ IsCommand words
+none_at_all words doors many none (command, asks) = let few = few_doors words command asks in none (command, (asks, omega arith))

@@ -6,4 +6,3 @@ pub mod MergingLemmas
 pub mod PieceLemmas
 pub mod ReadLemmas
 pub mod ShelfLemmas
-pub mod PlaceLemmas

@@ -7,4 +7,4 @@ pub mod Run
 pub mod Survey
 pub mod Session
 pub mod Make
-pub mod Place
+pub mod Serve

@@ -1,8 +1,8 @@
 //! What the words of a command line ask for.
-ghost use Rattle.std.specs.Prelude.{◌≡◌, ◌≢◌, ℕ, ◌≤◌, [], ◌∷◌, IfSome, IfNone, MatchOption, codes, decimal};
-ghost use Rattle.hipsd.specs.Command.{texts, Asks, IsCommand};
+ghost use Rattle.std.specs.Prelude.{◌≡◌, ◌≢◌, ℕ, ◌≤◌, List, [], ◌∷◌, IfSome, IfNone, MatchOption, codes, decimal};
+ghost use Rattle.hipsd.specs.Command.{texts, Asks, IsCommand, IsCommandFor, doors_of};
 ghost use Rattle.hipsd.specs.declared.command.Probe.{Probe as AskedProbe};
-ghost use Rattle.hipsd.specs.declared.command.Command.TheVariants.{Probe as ProbeCommand, Make};
+ghost use Rattle.hipsd.specs.declared.command.Command.TheVariants.{Probe as ProbeCommand, Make, Serve};
 
 use decimal_scale::plain_decimal;
 
@@ -34,6 +34,40 @@ pub enum Command {
         /// How many edits.
         edits: u32,
     },
+    /// Connections are served at many doors at once.
+    Serve {
+        /// How many connections of each door.
+        connections: u32,
+        /// How many doors.
+        places: usize,
+    },
+}
+
+impl Command {
+    // How many doors it needs.
+    fn doors(self) -> usize
+        ensures { result ≡ doors_of self }
+    {
+        match self {
+            Command::Serve { places, .. } => places,
+            _ => 0,
+        }
+    }
+}
+
+/// The command that the words ask for, where there are so many doors; `None` exactly where they are no row of the table of
+/// commands, or it needs more doors.
+pub fn command_for(words: &[String], doors: usize) -> Option<Command>
+    ensures asked { IfSome result (Asks (texts words.now)) }
+    ensures fits { IfSome result (λ command. doors_of command ≤ doors) }
+    ensures none { IfNone result (¬ IsCommandFor doors (texts words.now)) }
+{
+    let command = read_command(words)?;
+    if command.doors() <= doors {
+        Some(command)
+    } else {
+        None
+    }
 }
 
 /// The command that the words ask for; `None` exactly where they are no row of the table of commands.
@@ -48,6 +82,9 @@ pub fn read_command(words: &[String]) -> Option<Command>
         }
         [name, number, edits] if name.as_str() == "make" => {
             read_make(number.as_str(), edits.as_str())
+        }
+        [name, _, connections, places] if name.as_str() == "serve" => {
+            read_serve(connections.as_str(), places.as_str())
         }
         [name] => read_name(name.as_str()),
         _ => None,
@@ -96,6 +133,26 @@ fn read_make(number: &str, edits: &str) -> Option<Command>
     if 1 <= edits && edits <= 4096 {
         let edits = edits as u32;
         Some(Command::Make { number, edits })
+    } else {
+        None
+    }
+}
+
+// What the words after `serve` and its address ask for.
+fn read_serve(connections: &str, places: &str) -> Option<Command>
+    ensures asked { IfSome result (λ command. (address : List ℕ) → Asks (codes "serve" ∷ address ∷ connections.now ∷ places.now ∷ []) command) }
+    ensures none { IfNone result ((address : List ℕ) (n : ℕ) (m : ℕ)
+        → ¬ Asks (codes "serve" ∷ address ∷ connections.now ∷ places.now ∷ []) (Serve n m)) }
+{
+    let connections = plain_decimal(connections.as_bytes())?;
+    let places = small_number(places, 1, 64)?;
+    if 1 <= connections && connections <= 65_536 {
+        let connections = connections as u32;
+        let places = usize::from(places);
+        Some(Command::Serve {
+            connections,
+            places,
+        })
     } else {
         None
     }

@@ -5,10 +5,12 @@ ghost use Rattle.hipsd.specs.Survey.{IsExport, SaysExport, RunsExport, export_te
 
 use crate::output::say;
 use crate::refusing::say_why;
+use log::Log;
 use parent_rule::Steps;
 use shelf_io::{LoadRefusal, export, load};
 use std::fmt;
 use std::thread::Threads;
+use std::time::Clock;
 use survey_link::{Gate, Shelf, Sink};
 
 // How many files were put on the shelf.
@@ -32,13 +34,14 @@ pub fn run_export<R, K, H, G>(
     steps: &mut Steps,
 ) -> u8
 where
-    R: AllocGlobal + Threads + Sync,
+    R: AllocGlobal + Threads + Sync + Clock + Log,
     K: Sink,
     H: Shelf,
     G: Gate + Sync,
     ensures run { RunsExport (H.files shelf.old) (H.files shelf.new) result
         (K.held sink.old) (K.held sink.new) (K.handed_on sink.old) (K.handed_on sink.new) }
     ensures not_usage { result ≢ 1 }
+    ensures not_door { result ≢ 8 }
     ensures not_read { result ≢ 5 }
     ensures write_fault { result ≡ 6 → Rises (K.faults sink.old) (K.faults sink.new) }
     ensures shelf_fault { result ≡ 7 → Rises (H.faults shelf.old) (H.faults shelf.new) }
@@ -58,7 +61,7 @@ fn export_survey<R, H, G>(
     steps: &mut Steps,
 ) -> Result<u64, LoadRefusal>
 where
-    R: AllocGlobal + Threads + Sync,
+    R: AllocGlobal + Threads + Sync + Clock + Log,
     H: Shelf,
     G: Gate + Sync,
     ensures outcome { IsExport (H.files shelf.old) (H.files shelf.new) result }
@@ -66,7 +69,7 @@ where
     ensures steps_never_fall { steps.old ≤ steps.new }
 {
     let generation = load(rt, rt.alloc(), shelf, gate, steps)?;
-    match export(rt.alloc(), shelf, &generation) {
+    match export(rt, rt.alloc(), shelf, &generation) {
         Ok(count) => Ok(count),
         Err(fault) => Err(LoadRefusal::from(fault)),
     }

@@ -1,7 +1,7 @@
 //! `hipsd`: a server for HiPS sky maps.
 //!
 //! `run` is the whole program over the ends that it is given; `main` makes the real ones. The commands of today are `probe`,
-//! `session`, `export`, `verify` and `make`.
+//! `session`, `serve`, `export`, `verify` and `make`.
 #![tactic(auto)]
 
 ghost use Rattle.std.specs.Prelude.{◌≡◌, ◌⊎◌, ◌≤◌, IfOk, MatchResult};
@@ -22,36 +22,45 @@ mod merging;
 #[cfg(test)]
 mod merging_tests;
 mod output;
-mod place;
-#[cfg(test)]
-mod place_tests;
 mod probe;
 mod records;
 mod refusing;
 mod run;
+#[cfg(test)]
+mod serve_tests;
 mod serving;
 #[cfg(test)]
 mod session_tests;
+mod sharing;
 mod summary;
 #[cfg(test)]
 mod survey_tests;
 #[cfg(test)]
 mod tests;
+#[cfg(test)]
+mod together_tests;
 mod verifying;
 
+use log::sink::Console;
+use log::{LevelFilter, Log, Logged};
 use parent_rule::Steps;
 use run::run;
 use std::alloc::Global;
 use std::io::{BufReader, BufWriter, ErrorKind};
+use std::net::{Net, TcpListener, TcpStream};
 use std::process::ExitCode;
-use std::rt::Runtime;
+use std::rt::{Env, Runtime};
 use std::sync::Wait;
 use std::thread::Threads;
 use std::{env, io};
-use survey_link::{FolderShelf, MemDoor, OpenGate, StreamSink, StreamSource};
+use survey_link::{FolderShelf, OpenGate, StreamSink, StreamSource};
+use tcp_link::tcp_doors;
 
 /// The status where there is no memory for the words or the ends.
 const NO_MEMORY: u8 = 11;
+
+/// How many doors there are.
+const DOORS: usize = 64;
 
 // The words of a command line, without the program's name; none where one is not UTF-8, since no command has such a word.
 fn words(alloc: Global, args: io::Result<env::Args>) -> io::Result<Vec<String>> {
@@ -71,7 +80,8 @@ fn words(alloc: Global, args: io::Result<env::Args>) -> io::Result<Vec<String>> 
 // Runs the words over standard input and output and the current folder, and passes the status on.
 fn run_words<R>(rt: &R, words: &[String]) -> io::Result<u8>
 where
-    R: Runtime + AllocGlobal + Threads + Wait + Sync,
+    R: Runtime + AllocGlobal + Threads + Wait + Log + Send + Sync + Clone + Drop,
+    R: Net<Listener = TcpListener, Stream = TcpStream>,
     R::Reader: Drop,
     ensures usage { ¬ IsCommand (texts words.now) → IfOk result (λ status. (status ≡ 1) ⊎ (status ≡ 6)) }
     ensures usage_only { IfOk result (λ status. status ≡ 1 → ¬ IsCommand (texts words.now)) }
@@ -82,7 +92,8 @@ where
     let mut source = StreamSource::new(BufReader::new(alloc, rt.reader())?);
     let mut sink = StreamSink::new(BufWriter::new(alloc, io::writer(rt))?);
     let mut shelf = FolderShelf::here(rt.clone()?);
-    let mut doors: Vec<MemDoor> = Vec::new(alloc);
+    let address = words.get(1).map_or("", |word| word.as_str());
+    let mut doors = tcp_doors(rt, address, DOORS)?;
     let gate = OpenGate::new();
     let mut steps = Steps::new();
     Ok(run(
@@ -100,7 +111,8 @@ where
 // Runs the command line.
 fn run_here<R>(rt: &R) -> io::Result<u8>
 where
-    R: Runtime + AllocGlobal + Threads + Wait + Sync,
+    R: Runtime + AllocGlobal + Threads + Wait + Log + Send + Sync + Clone + Drop,
+    R: Net<Listener = TcpListener, Stream = TcpStream>,
     R::Reader: Drop,
 {
     run_words(rt, &words(rt.alloc(), env::args(rt))?)
@@ -116,6 +128,14 @@ fn exit_code(ended: io::Result<u8>) -> ExitCode
     }
 }
 
+// The level up to which is logged: that of the environment variable `HIPSD_LOG`, and `info` where it names none.
+fn log_level<R: AllocGlobal + Env>(rt: &R) -> LevelFilter {
+    match env::var(rt, "HIPSD_LOG") {
+        Ok(level) => level.as_str().parse().unwrap_or(LevelFilter::Info),
+        Err(_) => LevelFilter::Info,
+    }
+}
+
 fn main(rt: HostRuntime) -> ExitCode {
-    exit_code(run_here(&rt))
+    exit_code(run_here(&Logged::new(rt, log_level(&rt), Console(rt))))
 }

@@ -1,9 +1,11 @@
 //! Made surveys: what `make` writes.
 use crate::run::run;
+use log::Log;
 use parent_rule::Steps;
 use std::sync::Wait;
 use std::test::Fail;
 use std::thread::Threads;
+use std::time::Clock;
 use survey_link::{MemDoor, MemShelf, MemSink, OpenGate, SureSource};
 
 // NUMBER, EDITS and the line, as `scripts/made-summary.py` computes it cell by cell.
@@ -14,7 +16,7 @@ static MADE: &str = "\
 ";
 
 // Whether `make` of the words, with these calls of the sink failing, ends by the status, and writes the text or else nothing.
-fn makes<R: AllocGlobal + Threads + Wait + Sync>(
+fn makes<R: AllocGlobal + Threads + Wait + Sync + Clock + Log>(
     rt: &R,
     words: &str,
     failing: &[u64],

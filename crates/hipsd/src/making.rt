@@ -12,11 +12,13 @@ use crate::summary::{Summary, summary_of};
 use generation::Generation;
 use hips_http::{SessionEnd, session};
 use leaf_store::Store;
+use log::Log;
 use parent_rule::Steps;
 use reader_pin::{Board, Solo};
 use std::alloc::AllocError;
 use std::sync::{Arc, Wait};
 use std::thread::Threads;
+use std::time::Clock;
 use survey_link::{Gate, NullSink, Sink, SureSource};
 use survey_make::{read_conf, script};
 
@@ -31,12 +33,13 @@ pub fn run_make<R, K, G>(
     steps: &mut Steps,
 ) -> u8
 where
-    R: AllocGlobal + Threads + Wait + Sync,
+    R: AllocGlobal + Threads + Wait + Sync + Clock + Log,
     K: Sink,
     G: Gate + Sync,
     requires { IsMake number edits }
     ensures run { RunsMake number edits result (K.held sink.old) (K.held sink.new) (K.handed_on sink.old) (K.handed_on sink.new) }
     ensures not_usage { result ≢ 1 }
+    ensures not_door { result ≢ 8 }
     ensures not_read { result ≢ 5 }
     ensures write_fault { result ≡ 6 → Rises (K.faults sink.old) (K.faults sink.new) }
     ensures not_shelf { result ≢ 7 }
@@ -57,7 +60,7 @@ fn make_survey<R, G>(
     steps: &mut Steps,
 ) -> Result<Summary, AllocError>
 where
-    R: AllocGlobal + Threads + Wait + Sync,
+    R: AllocGlobal + Threads + Wait + Sync + Clock + Log,
     G: Gate + Sync,
     requires { IsMake number edits }
     ensures made { IfOk result (IsMade number edits) }
@@ -72,7 +75,7 @@ where
 // The board of the made survey, without leaves.
 fn empty_board<R, G>(rt: &R, gate: &G, steps: &mut Steps) -> Result<Solo, AllocError>
 where
-    R: AllocGlobal + Threads + Sync,
+    R: AllocGlobal + Threads + Sync + Clock + Log,
     G: Gate + Sync,
     ensures board { IfOk result (λ board. board ≡ board_of made_survey) }
     ensures steps_never_fall { steps.old ≤ steps.new }
@@ -93,7 +96,7 @@ fn serve_script<R, G>(
     steps: &mut Steps,
 ) -> Result<(), AllocError>
 where
-    R: AllocGlobal + Threads + Wait + Sync,
+    R: AllocGlobal + Threads + Wait + Sync + Clock + Log,
     G: Gate + Sync,
     ensures conf { board.new.conf ≡ board.old.conf }
     ensures opening { board.new.opening ≡ board.old.opening }

@@ -14,6 +14,7 @@ use survey_link::Sink;
 pub fn say_why<K: Sink>(alloc: Global, sink: &mut K, refusal: &LoadRefusal) -> u8
     ensures said { SaysWhy refusal.now result (K.held sink.old) (K.held sink.new) (K.handed_on sink.old) (K.handed_on sink.new) }
     ensures not_usage { result ≢ 1 }
+    ensures not_door { result ≢ 8 }
     ensures not_read { result ≢ 5 }
     ensures write_fault { result ≡ 6 → Rises (K.faults sink.old) (K.faults sink.new) }
     ensures shelf_fault { result ≡ 7 → refusal.now ≡ ShelfFault }

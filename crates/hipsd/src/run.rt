@@ -1,12 +1,12 @@
 //! The whole program, over whatever ends it is given.
-ghost use Rattle.std.specs.Prelude.{◌≡◌, ◌≢◌, ◌⊎◌, ℕ, ◌≤◌, List, Some, false};
+ghost use Rattle.std.specs.Prelude.{◌≡◌, ◌≢◌, ◌⊎◌, ℕ, ◌≤◌, List, Some, false, map, length, take, drop};
 ghost use Rattle.std.specs.Io.KnownBytes.{Appends, IsAtEnd};
 ghost use Rattle.survey_link.specs.Link.{Rises, AppendsPrefix};
 ghost use Rattle.healpix_nested.specs.Cells.{cell_count};
 ghost use Rattle.hipsd.specs.declared.command.Probe.{Probe as AskedProbe};
 ghost use Rattle.hipsd.specs.declared.command.Command.{Command as AskedCommand};
-ghost use Rattle.hipsd.specs.declared.command.Command.TheVariants.{Probe as ProbeCommand, Session, Export, Verify, Make};
-ghost use Rattle.hipsd.specs.Command.{texts, Asks, IsCommand, IsProbe, reads_source, opens_shelf, writes_files};
+ghost use Rattle.hipsd.specs.declared.command.Command.TheVariants.{Probe as ProbeCommand, Session, Export, Verify, Make, Serve};
+ghost use Rattle.hipsd.specs.Command.{texts, Asks, IsCommandFor, IsProbe, reads_source, opens_shelf, writes_files, opens_doors};
 ghost use Rattle.hipsd.specs.Probe.{probe_answer, probe_steps};
 ghost use Rattle.hipsd.specs.Merging.{steps_after};
 ghost use Rattle.hipsd.specs.Reading.{ReadsToTheEnd};
@@ -14,18 +14,23 @@ ghost use Rattle.hipsd.specs.Run.{usage_text, EndsBy};
 ghost use Rattle.hipsd.specs.Survey.{RunsExport, RunsVerify};
 ghost use Rattle.hipsd.specs.Session.{RunsSession, ends_of};
 ghost use Rattle.hipsd.specs.Make.{RunsMake};
+ghost use Rattle.hips_place.specs.Place.{SomeRises};
+ghost use Rattle.hipsd.specs.Serve.{RunsServe};
 
-use crate::command::{Command, Probe, read_command};
+use crate::command::{Command, Probe, command_for};
 use crate::exporting::run_export;
 use crate::making::run_make;
 use crate::output::write_out;
 use crate::probe::probe;
 use crate::serving::run_session;
+use crate::sharing::run_serve;
 use crate::verifying::run_verify;
+use log::Log;
 use parent_rule::Steps;
 use std::alloc::Global;
 use std::sync::Wait;
 use std::thread::Threads;
+use std::time::Clock;
 use survey_link::{Door, Gate, Shelf, Sink, Source};
 
 /// Runs the command that the words ask for, over these ends, and answers its status.
@@ -38,6 +43,7 @@ use survey_link::{Door, Gate, Shelf, Sink, Source};
 /// | 3 | the file of a leaf is refused: `tile PATH FAULT` and LF are written; or there are too many: `leaves N` and LF |
 /// | 4 | `probe`: the input ends within a record; `session`: within a request |
 /// | 5, 6, 7 | the source's, the sink's, the shelf's count of faults rose |
+/// | 8 | `serve`: a door's count of faults rose; the other places went on to their ends |
 /// | 9 | `verify`: the shelf differs from the survey |
 /// | 10 | `probe`: no leaf lies at or under the asked tile |
 /// | 11 | there was no memory |
@@ -57,7 +63,7 @@ pub fn run<R, S, K, H, D, G>(
     steps: &mut Steps,
 ) -> u8
 where
-    R: AllocGlobal + Threads + Wait + Sync,
+    R: AllocGlobal + Threads + Wait + Sync + Clock + Log,
     S: Source,
     K: Sink,
     H: Shelf,
@@ -67,11 +73,11 @@ where
     G: Gate + Sync,
 
     // Words that are no command's.
-    ensures usage_only { result ≡ 1 → ¬ IsCommand (texts words.now) }
-    ensures usage { ¬ IsCommand (texts words.now) → (result ≡ 1) ⊎ (result ≡ 6) }
+    ensures usage_only { result ≡ 1 → ¬ IsCommandFor (length doors.old.items) (texts words.now) }
+    ensures usage { ¬ IsCommandFor (length doors.old.items) (texts words.now) → (result ≡ 1) ⊎ (result ≡ 6) }
     ensures usage_written { result ≡ 1 → Appends (K.held sink.old) (K.held sink.new) usage_text }
-    ensures usage_part { ¬ IsCommand (texts words.now) → AppendsPrefix (K.held sink.old) (K.held sink.new) usage_text }
-    ensures usage_read { ¬ IsCommand (texts words.now) → source.new ≡ source.old }
+    ensures usage_part { ¬ IsCommandFor (length doors.old.items) (texts words.now) → AppendsPrefix (K.held sink.old) (K.held sink.new) usage_text }
+    ensures usage_read { ¬ IsCommandFor (length doors.old.items) (texts words.now) → source.new ≡ source.old }
 
     // `probe`, where the source tells its input.
     ensures probe { (asked : AskedProbe) (input : List ℕ) → Asks (texts words.now) (ProbeCommand asked)
@@ -118,20 +124,30 @@ where
     ensures make { (number : ℕ) (edits : ℕ) → Asks (texts words.now) (Make number edits) → RunsMake number edits result
         (K.held sink.old) (K.held sink.new) (K.handed_on sink.old) (K.handed_on sink.new) }
 
+    // The connections of doors, at once.
+    ensures serve { (connections : ℕ) (places : ℕ) → Asks (texts words.now) (Serve connections places) → places ≤ length doors.old.items
+        → RunsServe (H.files shelf.old) connections (map D.connections (take places doors.old.items)) (map D.connections (take places doors.new.items))
+        result (K.held sink.old) (K.held sink.new) (K.handed_on sink.old) (K.handed_on sink.new) }
+    ensures serve_beyond { (connections : ℕ) (places : ℕ) → Asks (texts words.now) (Serve connections places)
+        → drop places doors.new.items ≡ drop places doors.old.items }
+    ensures serve_closed { (result ≡ 2) ⊎ ((result ≡ 3) ⊎ (result ≡ 7)) → doors.new ≡ doors.old }
+
     // What a command doesn't use stays.
     ensures source { (command : AskedCommand) → Asks (texts words.now) command → reads_source command ≡ false → source.new ≡ source.old }
     ensures shelf { (command : AskedCommand) → Asks (texts words.now) command → opens_shelf command ≡ false → shelf.new ≡ shelf.old }
     ensures files { (command : AskedCommand) → Asks (texts words.now) command → writes_files command ≡ false
         → H.files shelf.new ≡ H.files shelf.old }
-    ensures usage_shelf { ¬ IsCommand (texts words.now) → shelf.new ≡ shelf.old }
+    ensures doors { (command : AskedCommand) → Asks (texts words.now) command → opens_doors command ≡ false → doors.new ≡ doors.old }
+    ensures usage_doors { ¬ IsCommandFor (length doors.old.items) (texts words.now) → doors.new ≡ doors.old }
+    ensures usage_shelf { ¬ IsCommandFor (length doors.old.items) (texts words.now) → shelf.new ≡ shelf.old }
 
     ensures read_fault { result ≡ 5 → Rises (S.faults source.old) (S.faults source.new) }
     ensures write_fault { result ≡ 6 → Rises (K.faults sink.old) (K.faults sink.new) }
     ensures shelf_fault { result ≡ 7 → Rises (H.faults shelf.old) (H.faults shelf.new) }
-    ensures doors { doors.new ≡ doors.old }
+    ensures door_fault { result ≡ 8 → SomeRises (map D.faults doors.old.items) (map D.faults doors.new.items) }
     ensures steps_never_fall { steps.old ≤ steps.new }
 {
-    match read_command(words) {
+    match command_for(words, doors.len()) {
         None => usage(sink),
         Some(command) => match command {
             Command::Probe(asked) => run_probe(rt.alloc(), &asked, source, sink, steps),
@@ -139,6 +155,10 @@ where
             Command::Export => run_export(rt, sink, shelf, gate, steps),
             Command::Verify => run_verify(rt, sink, shelf, gate, steps),
             Command::Make { number, edits } => run_make(rt, number, edits, sink, gate, steps),
+            Command::Serve {
+                connections,
+                places,
+            } => run_serve(rt, connections, places, sink, shelf, gate, steps, doors),
         },
     }
 }
@@ -181,6 +201,7 @@ fn run_probe<S: Source, K: Sink>(
     ensures end { result ≡ 0 → IsAtEnd (S.left source.new) }
     ensures not_usage { result ≢ 1 }
     ensures not_shelf { result ≢ 7 }
+    ensures not_door { result ≢ 8 }
     ensures read_fault { result ≡ 5 → Rises (S.faults source.old) (S.faults source.new) }
     ensures write_fault { result ≡ 6 → Rises (K.faults sink.old) (K.faults sink.new) }
     ensures steps_never_fall { steps.old ≤ steps.new }

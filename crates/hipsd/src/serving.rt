@@ -4,18 +4,21 @@ ghost use Rattle.survey_link.specs.Link.{Rises};
 ghost use Rattle.edit_journal.specs.Leaves.{charge_of};
 ghost use Rattle.edit_journal.specs.Faults.{most_charge};
 ghost use Rattle.shelf_io.specs.Opening.{OpenedSurvey};
+ghost use Rattle.hipsd.specs.Serve.{state_of};
 ghost use Rattle.hipsd.specs.Session.{OpensAs, OpensNot, Serves, RunsSession, board_of, ends_of, end_status};
 
 use crate::refusing::say_why;
 use edit_journal::StartRefusal;
 use generation::Generation;
 use hips_http::{SessionEnd, session};
+use log::Log;
 use parent_rule::Steps;
 use reader_pin::{Board, Solo};
 use shelf_io::{LoadRefusal, load};
 use std::alloc::{AllocError, Global};
 use std::sync::{Arc, Wait};
 use std::thread::Threads;
+use std::time::Clock;
 use survey_core::State;
 use survey_link::{Failed, Gate, Shelf, Sink, Source};
 
@@ -31,7 +34,7 @@ pub fn run_session<R, S, K, H, G>(
     steps: &mut Steps,
 ) -> u8
 where
-    R: AllocGlobal + Threads + Wait + Sync,
+    R: AllocGlobal + Threads + Wait + Sync + Clock + Log,
     S: Source,
     K: Sink,
     H: Shelf,
@@ -43,6 +46,7 @@ where
     ensures kept { H.files shelf.new ≡ H.files shelf.old }
     ensures unread { (result ≡ 2) ⊎ (result ≡ 3) → source.new ≡ source.old }
     ensures not_usage { result ≢ 1 }
+    ensures not_door { result ≢ 8 }
     ensures read_fault { result ≡ 5 → Rises (S.faults source.old) (S.faults source.new) }
     ensures write_fault { result ≡ 6 → Rises (K.faults sink.old) (K.faults sink.new) }
     ensures shelf_fault { result ≡ 7 → Rises (H.faults shelf.old) (H.faults shelf.new) }
@@ -62,7 +66,7 @@ fn open_board<R, H, G>(
     steps: &mut Steps,
 ) -> Result<Solo, LoadRefusal>
 where
-    R: AllocGlobal + Threads + Sync,
+    R: AllocGlobal + Threads + Sync + Clock + Log,
     H: Shelf,
     G: Gate + Sync,
     ensures opened { IfOk result (λ board. (survey : OpenedSurvey) × OpensAs (H.files shelf.old) survey × (board ≡ board_of survey)) }
@@ -85,8 +89,21 @@ pub fn first_board(alloc: Global, generation: Generation) -> Result<Solo, AllocE
     requires charge { charge_of generation.leaves [] ≤ most_charge }
     ensures { IfOk result (λ board. board ≡ board_of (record { conf = generation.conf; leaves = generation.leaves })) }
 {
+    Solo::new(alloc, first_state(alloc, generation)?)
+}
+
+/// The first state of a survey of which this is the first generation.
+///
+/// # Errors
+///
+/// `AllocError` where there is no memory for it.
+pub fn first_state(alloc: Global, generation: Generation) -> Result<State, AllocError>
+    requires first { generation.prefix ≡ 0 }
+    requires charge { charge_of generation.leaves [] ≤ most_charge }
+    ensures { IfOk result (λ state. state ≡ state_of (record { conf = generation.conf; leaves = generation.leaves })) }
+{
     match State::start(alloc, Arc::new(alloc, generation)?) {
-        Ok(state) => Solo::new(alloc, state),
+        Ok(state) => Ok(state),
         Err(StartRefusal::OutOfMemory) => Err(AllocError),
         Err(StartRefusal::TooMany { .. }) => unreachable!(),
     }
@@ -102,7 +119,7 @@ fn serve_source<R, S, K, G>(
     steps: &mut Steps,
 ) -> u8
 where
-    R: AllocGlobal + Threads + Wait + Sync,
+    R: AllocGlobal + Threads + Wait + Sync + Clock + Log,
     S: Source,
     K: Sink,
     G: Gate + Sync,
@@ -111,7 +128,7 @@ where
         (ends_of (S.left source.old) (K.held sink.old) (K.handed_on sink.old) (S.faults source.old) (K.faults sink.old))
         (ends_of (S.left source.new) (K.held sink.new) (K.handed_on sink.new) (S.faults source.new) (K.faults sink.new))
         result }
-    ensures no_refusal { (result ≢ 1) × (result ≢ 2) × (result ≢ 3) × (result ≢ 7) }
+    ensures no_refusal { (result ≢ 1) × (result ≢ 2) × (result ≢ 3) × (result ≢ 7) × (result ≢ 8) }
     ensures read_fault { result ≡ 5 → Rises (S.faults source.old) (S.faults source.new) }
     ensures write_fault { result ≡ 6 → Rises (K.faults sink.old) (K.faults sink.new) }
     ensures steps_never_fall { steps.old ≤ steps.new }

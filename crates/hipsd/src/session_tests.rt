@@ -1,21 +1,23 @@
 //! Runs of `session`: requests and replies, byte for byte.
 use crate::run::run;
 use crate::survey_tests::{SMALL, describe};
+use log::Log;
 use parent_rule::Steps;
 use std::alloc::Global;
 use std::sync::Wait;
 use std::test::Fail;
 use std::thread::Threads;
+use std::time::Clock;
 use survey_link::{MemDoor, MemShelf, MemSink, MemSource, OpenGate, Shelf};
 
 // In the tables `~` stands for CR LF, `^` for LF, and `%` before and behind a name for some bytes.
 
-// The properties of the survey without leaves.
+// The properties of the survey, up to the number of its leaves.
 static PROPERTIES: &str =
     "creator_did = ivo://example/P/one^obs_title = Survey one^dataproduct_type = image^hips_version = 1.4^\
 hips_release_date = 2024-05-01T00:00Z^hips_status = public master clonable^hips_frame = equatorial^hips_order = 4^\
 hips_order_min = 3^hips_tile_width = 2^hips_tile_format = fits^survey_bitpix = 16^survey_bscale = 1.0E0^survey_bzero = 0.0E0^\
-survey_blank = -32768^survey_leaves = 0^";
+survey_blank = -32768^survey_leaves = ";
 
 // The cards of a tile file: of leaf 0, and of tile 0 of order 3.
 static LEAF_CARDS: &str = "\
@@ -49,7 +51,7 @@ END
 // The requests of a connection, the status, and all that is written.
 static SESSIONS: &str = "\
 ||0|
-|GET /properties HTTP/1.1~Host: a~~|0|HTTP/1.1 200 OK~Content-Type: text/plain~Content-Length: 380~Survey-Prefix: 0~~%properties%
+|GET /properties HTTP/1.1~Host: a~~|0|HTTP/1.1 200 OK~Content-Type: text/plain~Content-Length: 380~Survey-Prefix: 0~~%properties%0^
 |HEAD /properties HTTP/1.1~Host: a~~|0|HTTP/1.1 200 OK~Content-Type: text/plain~Content-Length: 380~Survey-Prefix: 0~~
 |PUT /Norder4/Dir0/Npix0.fits HTTP/1.1~Host: a~Content-Length: 2888~~%leaf%GET /Norder3/Dir0/Npix0.fits HTTP/1.1~Host: a~~POST /publish HTTP/1.1~Host: a~~GET /Norder3/Dir0/Npix0.fits HTTP/1.1~Host: a~~|0|HTTP/1.1 201 Created~Content-Length: 0~Survey-Edits: 1~~HTTP/1.1 404 Not Found~Content-Type: text/plain~Content-Length: 10~Survey-Prefix: 0~~not found^HTTP/1.1 200 OK~Content-Type: text/plain~Content-Length: 12~Survey-Prefix: 1~~published 1^HTTP/1.1 200 OK~Content-Type: application/fits~Content-Length: 5760~Survey-Prefix: 1~~%parent%
 |PUT /Norder4/Dir0/Npix0.fits HTTP/1.1~Host: a~~|14|HTTP/1.1 411 Length Required~Content-Length: 0~Connection: close~~
@@ -89,7 +91,7 @@ fn push_text(bytes: &mut Vec<u8>, text: &str) -> Result<(), Fail> {
 }
 
 // The bytes that a text of the tables stands for.
-fn bytes_of(alloc: Global, text: &str) -> Result<Vec<u8>, Fail> {
+pub(crate) fn bytes_of(alloc: Global, text: &str) -> Result<Vec<u8>, Fail> {
     let mut bytes = Vec::new(alloc);
     for part in text.split('%') {
         match part {
@@ -110,7 +112,7 @@ fn bytes_of(alloc: Global, text: &str) -> Result<Vec<u8>, Fail> {
 }
 
 // Runs `session` over these ends on the small survey without leaves, and answers its status; 255 where the shelf changed.
-fn serve<R: AllocGlobal + Threads + Wait + Sync>(
+fn serve<R: AllocGlobal + Threads + Wait + Sync + Clock + Log>(
     rt: &R,
     source: &mut MemSource,
     sink: &mut MemSink,
@@ -136,7 +138,7 @@ fn serve<R: AllocGlobal + Threads + Wait + Sync>(
 }
 
 // Whether the connection of a row ends so, read in pieces of so many bytes.
-fn answers<R: AllocGlobal + Threads + Wait + Sync>(
+fn answers<R: AllocGlobal + Threads + Wait + Sync + Clock + Log>(
     rt: &R,
     row: &str,
     piece: usize,
@@ -163,7 +165,7 @@ fn serves_one_connection(rt: HostRuntime) -> Result<(), Fail> {
 
 // The status where that read, and where that write or flush, fails of the connection that edits and publishes, and whether the
 // output is a first part of its own.
-fn with_failing<R: AllocGlobal + Threads + Wait + Sync>(
+fn with_failing<R: AllocGlobal + Threads + Wait + Sync + Clock + Log>(
     rt: &R,
     reads: &[u64],
     writes: &[u64],

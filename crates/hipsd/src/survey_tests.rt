@@ -1,10 +1,12 @@
 //! Runs of the commands that open the shelf as a survey, over ends in memory.
 use crate::run::run;
+use log::Log;
 use parent_rule::Steps;
 use std::alloc::{AllocError, Global};
 use std::sync::Wait;
 use std::test::Fail;
 use std::thread::Threads;
+use std::time::Clock;
 use survey_link::{MemDoor, MemShelf, MemSink, MemSource, OpenGate, Shelf};
 
 // The first lines of each description.
@@ -59,7 +61,7 @@ fn shelf_of(alloc: Global, fails: &str) -> Result<MemShelf, AllocError> {
 }
 
 // Runs a command of one word over a shelf, and answers its status.
-fn run_over<R: AllocGlobal + Threads + Wait + Sync>(
+fn run_over<R: AllocGlobal + Threads + Wait + Sync + Clock + Log>(
     rt: &R,
     word: &str,
     shelf: &mut MemShelf,
@@ -85,7 +87,7 @@ fn run_over<R: AllocGlobal + Threads + Wait + Sync>(
 }
 
 // Whether a command ends so over the shelf: by the status, with the line written, or nothing where it is empty.
-fn ends<R: AllocGlobal + Threads + Wait + Sync>(
+fn ends<R: AllocGlobal + Threads + Wait + Sync + Clock + Log>(
     rt: &R,
     word: &str,
     shelf: &mut MemShelf,
@@ -100,7 +102,7 @@ fn ends<R: AllocGlobal + Threads + Wait + Sync>(
 }
 
 // Whether a command refuses the shelf of a row so, and leaves its files.
-fn refuses<R: AllocGlobal + Threads + Wait + Sync>(
+fn refuses<R: AllocGlobal + Threads + Wait + Sync + Clock + Log>(
     rt: &R,
     word: &str,
     row: &str,
@@ -144,7 +146,7 @@ verify|0|verified 2
 ";
 
 // Takes a step of these, and answers whether it ended so.
-fn goes<R: AllocGlobal + Threads + Wait + Sync>(
+fn goes<R: AllocGlobal + Threads + Wait + Sync + Clock + Log>(
     rt: &R,
     shelf: &mut MemShelf,
     row: &str,
@@ -178,7 +180,7 @@ fn exports_and_verifies_a_survey_without_leaves(rt: HostRuntime) -> Result<(), F
 
 // Runs a command where a call of the shelf fails, and answers its status: 7 only where nothing is written, and what no
 // survey can have stays.
-fn status_where<R: AllocGlobal + Threads + Wait + Sync>(
+fn status_where<R: AllocGlobal + Threads + Wait + Sync + Clock + Log>(
     rt: &R,
     word: &str,
     fails: &str,

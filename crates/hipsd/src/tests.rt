@@ -1,6 +1,7 @@
 //! Runs of the whole program over ends in memory.
 use crate::run::run;
 use crate::words;
+use log::Log;
 use parent_rule::Steps;
 use std::alloc::{AllocError, Global};
 use std::env;
@@ -8,6 +9,7 @@ use std::io::{self, ErrorKind};
 use std::sync::Wait;
 use std::test::Fail;
 use std::thread::Threads;
+use std::time::Clock;
 use survey_link::{MemDoor, MemShelf, MemSink, MemSource, OpenGate};
 
 const USAGE: &[u8] = b"usage: hipsd COMMAND\n";
@@ -37,7 +39,7 @@ fn split(alloc: Global, line: &str) -> Result<Vec<String>, AllocError> {
 }
 
 // Runs a command line over a source and a sink, and answers its status.
-fn run_over<R: AllocGlobal + Threads + Wait + Sync>(
+fn run_over<R: AllocGlobal + Threads + Wait + Sync + Clock + Log>(
     rt: &R,
     line: &str,
     source: &mut MemSource,
@@ -92,7 +94,10 @@ fn holds(alloc: Global, sink: &MemSink, output: &str) -> Result<bool, Fail> {
 }
 
 // Whether the run ends so.
-fn goes<R: AllocGlobal + Threads + Wait + Sync>(rt: &R, row: &str) -> Result<bool, Fail> {
+fn goes<R: AllocGlobal + Threads + Wait + Sync + Clock + Log>(
+    rt: &R,
+    row: &str,
+) -> Result<bool, Fail> {
     let alloc = rt.alloc();
     let mut source = source_of(alloc, row)?;
     let mut sink = sink_of(alloc, row)?;
@@ -153,7 +158,7 @@ fn answers_probe(rt: HostRuntime) -> Result<(), Fail> {
 }
 
 // The status where that read fails of one of a leaf in pieces of three bytes, and whether the output is that of the status.
-fn with_failing_read<R: AllocGlobal + Threads + Wait + Sync>(
+fn with_failing_read<R: AllocGlobal + Threads + Wait + Sync + Clock + Log>(
     rt: &R,
     call: u64,
 ) -> Result<(u8, bool), Fail> {
@@ -194,7 +199,7 @@ fn records(alloc: Global, count: u32, more: &[u8]) -> Result<Vec<u8>, Fail> {
 }
 
 // Whether probe over that input ends so.
-fn probes<R: AllocGlobal + Threads + Wait + Sync>(
+fn probes<R: AllocGlobal + Threads + Wait + Sync + Clock + Log>(
     rt: &R,
     input: Vec<u8>,
     status: u8,

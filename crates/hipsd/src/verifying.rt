@@ -5,9 +5,11 @@ ghost use Rattle.hipsd.specs.Survey.{IsComparison, RunsVerify, verdict_status};
 
 use crate::output::say;
 use crate::refusing::say_why;
+use log::Log;
 use parent_rule::Steps;
 use shelf_io::{LoadRefusal, Verdict, load, verify};
 use std::thread::Threads;
+use std::time::Clock;
 use survey_link::{Gate, Shelf, Sink};
 
 /// Opens the shelf, says whether it has the survey's files and no others, and answers the status.
@@ -19,7 +21,7 @@ pub fn run_verify<R, K, H, G>(
     steps: &mut Steps,
 ) -> u8
 where
-    R: AllocGlobal + Threads + Sync,
+    R: AllocGlobal + Threads + Sync + Clock + Log,
     K: Sink,
     H: Shelf,
     G: Gate + Sync,
@@ -27,6 +29,7 @@ where
         (K.held sink.old) (K.held sink.new) (K.handed_on sink.old) (K.handed_on sink.new) }
     ensures kept { H.files shelf.new ≡ H.files shelf.old }
     ensures not_usage { result ≢ 1 }
+    ensures not_door { result ≢ 8 }
     ensures not_read { result ≢ 5 }
     ensures write_fault { result ≡ 6 → Rises (K.faults sink.old) (K.faults sink.new) }
     ensures shelf_fault { result ≡ 7 → Rises (H.faults shelf.old) (H.faults shelf.new) }
@@ -56,7 +59,7 @@ fn verify_survey<R, H, G>(
     steps: &mut Steps,
 ) -> Result<Verdict, LoadRefusal>
 where
-    R: AllocGlobal + Threads + Sync,
+    R: AllocGlobal + Threads + Sync + Clock + Log,
     H: Shelf,
     G: Gate + Sync,
     ensures outcome { IsComparison (H.files shelf.old) result }
@@ -65,7 +68,7 @@ where
     ensures steps_never_fall { steps.old ≤ steps.new }
 {
     let generation = load(rt, rt.alloc(), shelf, gate, steps)?;
-    match verify(rt.alloc(), shelf, &generation) {
+    match verify(rt, rt.alloc(), shelf, &generation) {
         Ok(verdict) => Ok(verdict),
         Err(fault) => Err(LoadRefusal::from(fault)),
     }

@@ -22,4 +22,3 @@ pub use frame::Frame;
 pub use reply::{Allow, Kind, Number, Reply, write_continue, write_reply, write_reply_parts};
 pub use request::{Method, Request, Tags};
 pub use stop::{Stop, Turn};
-

@@ -10,6 +10,7 @@ use healpix_nested::cells;
 use leaf_store::Store;
 use parent_rule::{Depth, Steps};
 use std::alloc::{AllocError, Global};
+use std::process::Abort;
 use std::sync::{Arc, Wait};
 use std::test::Fail;
 use std::thread::Threads;
@@ -91,7 +92,7 @@ pub(crate) fn fits<B: Board>(board: &B, edit: &Edit) -> bool
     }
 }
 
-fn all_fit<B: Board>(board: &B, edits: &[Edit]) -> bool
+pub(crate) fn all_fit<B: Board>(board: &B, edits: &[Edit]) -> bool
     ensures { IsTrue result → All (FitsEdit (B.content board.now).conf.shape) (map edit_of edits.now) }
 {
     for edit in edits {
@@ -217,18 +218,29 @@ publish||new 7 by 1|7 7 2|7 6 3
 release|||7 7 2|none
 publish||already 7 by 0|7 7 2|none";
 
+// Makes the call of a line, and compares what is answered, the last state seen then, and the one that is held.
+pub(crate) fn check<B: Board, R: Threads + Wait + Abort + Sync>(
+    rt: &R,
+    alloc: Global,
+    board: &mut B,
+    line: &str,
+) -> Result<(), Fail> {
+    let (word, rest) = line.split_once('|').ok_or("no word")?;
+    let (rest, expected) = rest.split_once('|').ok_or("no answer")?;
+    let answer = told(rt, alloc, board, word, rest)?;
+    let last = shown(alloc, Some(board.last()))?;
+    let held = shown(alloc, board.held())?;
+    let found = format!(in alloc; "{answer}|{last}|{held}")?;
+    assert!(rt; found.as_str() == expected, "{line}: {found}");
+    Ok(())
+}
+
 #[test]
 fn a_survey_has_one_board(rt: HostRuntime) -> Result<(), Fail> {
     let alloc = rt.alloc();
     let mut board = Solo::new(alloc, first_state(&rt, alloc)?)?;
     for line in CALLS.lines() {
-        let (word, rest) = line.split_once('|').ok_or("no word")?;
-        let (rest, expected) = rest.split_once('|').ok_or("no answer")?;
-        let answer = told(&rt, alloc, &mut board, word, rest)?;
-        let last = shown(alloc, Some(board.last()))?;
-        let held = shown(alloc, board.held())?;
-        let found = format!(in alloc; "{answer}|{last}|{held}")?;
-        assert!(rt; found.as_str() == expected, "{line}: {found}");
+        check(&rt, alloc, &mut board, line)?;
     }
     Ok(())
 }

@@ -12,6 +12,8 @@ mod seat;
 mod shared_history;
 mod showing;
 mod shown;
+#[cfg(test)]
+mod tests;
 mod window;
 
 pub use book::{Blank, Law, Naming};

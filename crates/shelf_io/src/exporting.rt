@@ -10,21 +10,25 @@ ghost use Rattle.shelf_io.specs.Survey.{Replaces, OthersStay};
 ghost use Rattle.shelf_io.specs.Writing.{without_paths, with_path, with_paths};
 
 use crate::buffer::buffer;
+use crate::progress::Progress;
 use crate::spelling::spelled;
 use crate::strays::shelf_strays;
 use generation::{Body, Generation};
+use log::Log;
 use std::alloc::Global;
+use std::time::Clock;
 use survey_link::{LinkFault, Shelf};
 use tile_path::Path;
 
 /// Makes the survey's files on the shelf those of the generation, and answers how many these are. Every path that a survey can
-/// have and this one doesn't have is removed; no other path is touched.
+/// have and this one doesn't have is removed; no other path is touched. How many files are written is logged, at most once a second.
 ///
 /// # Errors
 ///
 /// `LinkFault::Failed` only where the shelf's count of faults rose; `LinkFault::OutOfMemory`. Of the paths that a survey can
 /// have some may then be as they were, some as the generation has them, and one may hold anything; all other paths stay.
-pub fn export<H: Shelf>(
+pub fn export<R: Clock + Log, H: Shelf>(
+    rt: &R,
     alloc: Global,
     shelf: &mut H,
     generation: &Generation,
@@ -37,7 +41,7 @@ pub fn export<H: Shelf>(
 {
     let strays = shelf_strays(alloc, shelf, generation)?;
     remove_all(alloc, shelf, &strays)?;
-    write_all(alloc, shelf, generation)?;
+    write_all(rt, alloc, shelf, generation)?;
     Ok(generation.file_count())
 }
 
@@ -58,7 +62,8 @@ fn remove_all<H: Shelf>(alloc: Global, shelf: &mut H, paths: &[Path]) -> Result<
 
 // Writes all files of the generation, the last first: the tiles, from the leaves upward, then the mosaic, the coverage and the
 // properties. So whoever reads the folder meanwhile finds the new properties only once all that they describe is there.
-fn write_all<H: Shelf>(
+fn write_all<R: Clock + Log, H: Shelf>(
+    rt: &R,
     alloc: Global,
     shelf: &mut H,
     generation: &Generation,
@@ -71,9 +76,11 @@ fn write_all<H: Shelf>(
     ensures never_falls { H.faults shelf.old ≤ H.faults shelf.new }
 {
     let mut room = buffer(alloc, generation.room())?;
+    let mut progress = Progress::begin(rt, "files written", generation.file_count());
     for i in (0..generation.file_count()).rev() {
         let path = generation.path(i).unwrap();
         write_file(alloc, shelf, generation, &path, &mut room)?;
+        progress.part_done(rt);
     }
     Ok(())
 }

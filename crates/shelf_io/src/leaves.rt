@@ -10,13 +10,16 @@ ghost use Rattle.leaf_store.specs.Store.{IsAscending};
 ghost use Rattle.edit_journal.specs.Leaves.{FitsLeaves};
 ghost use Rattle.shelf_io.specs.Opening.{leaf_tile, leaf_refusal, IsRefusedBy};
 
+use crate::progress::Progress;
 use crate::refusal::LoadRefusal;
 use fits_tile::{TileRefusal, decode};
 use healpix_nested::Cell;
 use leaf_store::Store;
+use log::Log;
 use parent_rule::Steps;
 use std::alloc::{AllocError, Global};
 use std::sync::Arc;
+use std::time::Clock;
 use survey_conf::Conf;
 use survey_link::Shelf;
 use tile_path::Path;
@@ -28,7 +31,8 @@ use tile_pixels::Tile;
 /// # Errors
 ///
 /// `Tile` for the first leaf whose file is refused; `ShelfFault` only where the shelf's count of faults rose; `OutOfMemory`.
-pub(crate) fn read_leaves<H: Shelf>(
+pub(crate) fn read_leaves<R: Clock + Log, H: Shelf>(
+    rt: &R,
     alloc: Global,
     shelf: &mut H,
     conf: &Conf,
@@ -53,8 +57,10 @@ pub(crate) fn read_leaves<H: Shelf>(
     ensures steps_never_fall { steps.old ≤ steps.new }
 {
     let mut tiles = Store::new(alloc);
+    let mut progress = Progress::begin(rt, "leaves read", leaves.len() as u64);
     for leaf in leaves {
         add_leaf(alloc, shelf, conf, *leaf, steps, &mut tiles)?;
+        progress.part_done(rt);
     }
     Ok(tiles)
 }

@@ -12,6 +12,7 @@ mod leaves;
 mod listing;
 mod loading;
 mod order;
+mod progress;
 mod refusal;
 mod spelling;
 mod strays;

@@ -16,10 +16,12 @@ use crate::listing::shelf_leaves;
 use crate::refusal::LoadRefusal;
 use generation::Generation;
 use leaf_store::Store;
+use log::Log;
 use parent_rule::Steps;
 use std::alloc::{AllocError, Global};
 use std::sync::Arc;
 use std::thread::Threads;
+use std::time::Clock;
 use survey_conf::Conf;
 use survey_link::{Gate, Shelf};
 use tile_pixels::Tile;
@@ -27,14 +29,14 @@ use tile_pixels::Tile;
 /// The generation that the shelf's files describe: that of `survey.conf` and of every path of a tile of the leaves' order. No
 /// edit is in it. Leaves are read one after another, by ascending number; one that is listed and gone when it is read counts
 /// as absent. The steps rise by one for each leaf, and by at most the number of tiles that exist above the leaves. The shelf
-/// stays as it is.
+/// stays as it is. How many leaves are read is logged, at most once a second.
 ///
 /// # Errors
 ///
 /// The first of these: `NoConf` exactly where there is no `survey.conf`; `Conf` as `Conf::read` answers; `TooMany` exactly
 /// where the charge of all leaves that have a file exceeds 2^29 bytes; `Tile` for the leaf of the lowest number whose file
 /// `decode` refuses. `ShelfFault` only where the shelf's count of faults rose. `OutOfMemory`.
-pub fn load<R: Threads + Sync, H: Shelf, G: Gate + Sync>(
+pub fn load<R: Threads + Sync + Clock + Log, H: Shelf, G: Gate + Sync>(
     rt: &R,
     alloc: Global,
     shelf: &mut H,
@@ -55,7 +57,7 @@ pub fn load<R: Threads + Sync, H: Shelf, G: Gate + Sync>(
     ensures steps_told { IfSome (H.files shelf.old) (λ files. steps.new ≤ steps.old + opening_steps files) }
     ensures steps_never_fall { steps.old ≤ steps.new }
 {
-    let survey = read_survey(alloc, shelf, steps)?;
+    let survey = read_survey(rt, alloc, shelf, steps)?;
     Ok(build(rt, alloc, survey, gate, steps)?)
 }
 
@@ -68,7 +70,8 @@ struct Survey {
 
 // The description and the leaf tiles that the shelf has. Which leaves have files is found out, and how many these are is
 // judged, before the first of them is read.
-fn read_survey<H: Shelf>(
+fn read_survey<R: Clock + Log, H: Shelf>(
+    rt: &R,
     alloc: Global,
     shelf: &mut H,
     steps: &mut Steps,
@@ -90,7 +93,7 @@ fn read_survey<H: Shelf>(
     let shape = conf.shape();
     let numbers = shelf_leaves(alloc, shelf, shape.top)?;
     judge_count(shape, numbers.len())?;
-    let leaves = read_leaves(alloc, shelf, &conf, &numbers, steps)?;
+    let leaves = read_leaves(rt, alloc, shelf, &conf, &numbers, steps)?;
     Ok(Survey { conf, leaves })
 }
 

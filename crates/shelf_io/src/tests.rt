@@ -1,10 +1,12 @@
 //! Shelves in memory: what is refused, and what is written, compared and read again.
 use crate::{LoadRefusal, export, load, verify};
 use generation::Generation;
+use log::Log;
 use parent_rule::Steps;
 use std::alloc::{AllocError, Global};
 use std::test::Fail;
 use std::thread::Threads;
+use std::time::Clock;
 use survey_link::{LinkFault, MemShelf, OpenGate, Shelf};
 
 // A survey of order 4 whose tiles have two columns and two lines of 16 bits.
@@ -93,7 +95,7 @@ fn shelf_with_leaf(alloc: Global, fails: Vec<u64>) -> Result<MemShelf, Fail> {
     Ok(shelf)
 }
 
-fn opened<R: Threads + Sync>(
+fn opened<R: Threads + Sync + Clock + Log>(
     rt: &R,
     alloc: Global,
     shelf: &mut MemShelf,
@@ -102,7 +104,7 @@ fn opened<R: Threads + Sync>(
 }
 
 // How a shelf that isn't loaded is refused.
-fn refusal<R: Threads + Sync>(
+fn refusal<R: Threads + Sync + Clock + Log>(
     rt: &R,
     alloc: Global,
     shelf: &mut MemShelf,
@@ -114,8 +116,13 @@ fn refusal<R: Threads + Sync>(
 }
 
 // How the shelf compares with the generation.
-fn compared(alloc: Global, shelf: &mut MemShelf, generation: &Generation) -> Result<String, Fail> {
-    match verify(alloc, shelf, generation) {
+fn compared<R: Clock + Log>(
+    rt: &R,
+    alloc: Global,
+    shelf: &mut MemShelf,
+    generation: &Generation,
+) -> Result<String, Fail> {
+    match verify(rt, alloc, shelf, generation) {
         Ok(verdict) => Ok(verdict.to_string(alloc)?),
         Err(fault) => Err(Fail::from(fault)),
     }
@@ -167,7 +174,7 @@ fn what_is_no_survey_is_refused(rt: HostRuntime) -> Result<(), Fail> {
 }
 
 // Whether a shelf of so many empty files of leaves is refused so.
-fn refuses_wide<R: Threads + Sync>(
+fn refuses_wide<R: Threads + Sync + Clock + Log>(
     rt: &R,
     alloc: Global,
     count: u64,
@@ -195,14 +202,14 @@ fn an_empty_survey_has_two_files(rt: HostRuntime) -> Result<(), Fail> {
     let alloc = rt.alloc();
     let mut shelf = shelf_of(alloc, SURVEY, Vec::new(alloc))?;
     let generation = opened(&rt, alloc, &mut shelf)?;
-    assert!(rt; export(alloc, &mut shelf, &generation)? == 2);
+    assert!(rt; export(&rt, alloc, &mut shelf, &generation)? == 2);
     let paths = listed(alloc, &mut shelf)?;
     assert!(rt; paths.as_str() == "Moc.fits note.txt properties survey.conf ");
     shelf.put("Norder3/Allsky.fits", b"stray")?;
-    let verdict = compared(alloc, &mut shelf, &generation)?;
+    let verdict = compared(&rt, alloc, &mut shelf, &generation)?;
     assert!(rt; verdict.as_str() == "differs Norder3/Allsky.fits");
-    assert!(rt; export(alloc, &mut shelf, &generation)? == 2);
-    let verdict = compared(alloc, &mut shelf, &generation)?;
+    assert!(rt; export(&rt, alloc, &mut shelf, &generation)? == 2);
+    let verdict = compared(&rt, alloc, &mut shelf, &generation)?;
     assert!(rt; verdict.as_str() == "verified 2");
     Ok(())
 }
@@ -212,23 +219,27 @@ fn a_survey_is_exported_and_loaded_again(rt: HostRuntime) -> Result<(), Fail> {
     let alloc = rt.alloc();
     let mut shelf = shelf_with_leaf(alloc, Vec::new(alloc))?;
     let generation = opened(&rt, alloc, &mut shelf)?;
-    let verdict = compared(alloc, &mut shelf, &generation)?;
+    let verdict = compared(&rt, alloc, &mut shelf, &generation)?;
     assert!(rt; verdict.as_str() == "differs Moc.fits");
-    assert!(rt; export(alloc, &mut shelf, &generation)? == 5);
+    assert!(rt; export(&rt, alloc, &mut shelf, &generation)? == 5);
     let above = shelf
         .get(alloc, "Norder3/Dir0/Npix0.fits")?
         .ok_or("no tile")?;
     assert!(rt; above.len() == 5_760);
     assert!(rt; above[2_880..2_888] == [0x80, 0, 0x80, 0, 0, 3, 0x80, 0]);
     let again = opened(&rt, alloc, &mut shelf)?;
-    let verdict = compared(alloc, &mut shelf, &again)?;
+    let verdict = compared(&rt, alloc, &mut shelf, &again)?;
     assert!(rt; verdict.as_str() == "verified 5");
     Ok(())
 }
 
 // Loads, exports and verifies while one call fails, counted from the first after the shelf was filled. How far it came: the
 // length of the verdict, or 100, 200 or 300 for the one of the three that failed.
-fn with_one_failing_call<R: Threads + Sync>(rt: &R, alloc: Global, call: u64) -> Result<u64, Fail> {
+fn with_one_failing_call<R: Threads + Sync + Clock + Log>(
+    rt: &R,
+    alloc: Global,
+    call: u64,
+) -> Result<u64, Fail> {
     let mut fails = Vec::new(alloc);
     fails.push(4 + call % 64)?;
     let mut shelf = shelf_with_leaf(alloc, fails)?;
@@ -239,21 +250,30 @@ fn with_one_failing_call<R: Threads + Sync>(rt: &R, alloc: Global, call: u64) ->
     Ok(told)
 }
 
-fn how_far<R: Threads + Sync>(rt: &R, alloc: Global, shelf: &mut MemShelf) -> Result<u64, Fail> {
+fn how_far<R: Threads + Sync + Clock + Log>(
+    rt: &R,
+    alloc: Global,
+    shelf: &mut MemShelf,
+) -> Result<u64, Fail> {
     let generation = match opened(rt, alloc, shelf) {
         Ok(generation) => generation,
         Err(LoadRefusal::ShelfFault) => return Ok(100),
         Err(refusal) => return Err(Fail::from(refusal)),
     };
-    match export(alloc, shelf, &generation) {
-        Ok(_) => how_compared(alloc, shelf, &generation),
+    match export(rt, alloc, shelf, &generation) {
+        Ok(_) => how_compared(rt, alloc, shelf, &generation),
         Err(LinkFault::Failed) => Ok(200),
         Err(fault) => Err(Fail::from(fault)),
     }
 }
 
-fn how_compared(alloc: Global, shelf: &mut MemShelf, generation: &Generation) -> Result<u64, Fail> {
-    match verify(alloc, shelf, generation) {
+fn how_compared<R: Clock + Log>(
+    rt: &R,
+    alloc: Global,
+    shelf: &mut MemShelf,
+    generation: &Generation,
+) -> Result<u64, Fail> {
+    match verify(rt, alloc, shelf, generation) {
         Ok(verdict) => Ok(verdict.to_string(alloc)?.len() as u64),
         Err(LinkFault::Failed) => Ok(300),
         Err(fault) => Err(Fail::from(fault)),

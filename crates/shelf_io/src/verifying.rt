@@ -11,11 +11,14 @@ ghost use Rattle.shelf_io.specs.Survey.{IsVerdict, CountsFiles};
 
 use crate::buffer::{FRONT_LEN, buffer};
 use crate::order::{first_after, first_path};
+use crate::progress::Progress;
 use crate::spelling::spelled;
 use crate::strays::shelf_strays;
 use crate::verdict::Verdict;
 use generation::Generation;
+use log::Log;
 use std::alloc::Global;
+use std::time::Clock;
 use survey_link::{LinkFault, Shelf};
 use tile_path::Path;
 
@@ -25,7 +28,8 @@ use tile_path::Path;
 /// # Errors
 ///
 /// `LinkFault::Failed` only where the shelf's count of faults rose; `LinkFault::OutOfMemory`.
-pub fn verify<H: Shelf>(
+pub fn verify<R: Clock + Log, H: Shelf>(
+    rt: &R,
     alloc: Global,
     shelf: &mut H,
     generation: &Generation,
@@ -39,7 +43,7 @@ pub fn verify<H: Shelf>(
 {
     let count = generation.file_count();
     let strays = shelf_strays(alloc, shelf, generation)?;
-    match first_difference(alloc, shelf, generation, first_path(&strays))? {
+    match first_difference(rt, alloc, shelf, generation, first_path(&strays))? {
         Some(path) => Ok(Verdict::Differs(path)),
         None => Ok(Verdict::Same(count)),
     }
@@ -47,7 +51,8 @@ pub fn verify<H: Shelf>(
 
 // The first of these paths and of those of the generation at which the shelf doesn't have what the generation has. At the
 // first of these it hasn't.
-fn first_difference<H: Shelf>(
+fn first_difference<R: Clock + Log, H: Shelf>(
+    rt: &R,
     alloc: Global,
     shelf: &mut H,
     generation: &Generation,
@@ -62,10 +67,12 @@ fn first_difference<H: Shelf>(
     ensures never_falls { H.faults shelf.old ≤ H.faults shelf.new }
 {
     let mut front = buffer(alloc, FRONT_LEN)?;
+    let mut progress = Progress::begin(rt, "files compared", generation.file_count());
     for i in 0..generation.file_count() {
         let path = generation.path(i).unwrap();
         let agree = has_file(alloc, shelf, generation, &path, &mut front)?;
         first = first_after(first, path, agree);
+        progress.part_done(rt);
     }
     Ok(first)
 }

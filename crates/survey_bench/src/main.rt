@@ -14,12 +14,14 @@
 //! - `generation full` is a full sky of order 3, of 768 leaves of 512 by 512 numbers of 16 bits: the time by the clock on the
 //!   wall of `Generation::start`, and of `next` after 1, 64 and 256 leaves were replaced; the processor time of one `file_parts`
 //!   of a tile, of the mosaic and of the properties; and how many bytes these handed out.
-//! - `generation deep` is 65,536 leaves of order 11, of 32 by 32: the times of `start`, and of `next` after one leaf was replaced.
+//! - `generation deep` is 65,536 leaves of order 11, of 32 by 32: the times of `start`, and of `next` after one leaf was replaced;
+//!   and the processor time of one `State::accept` of an edit.
 //! - `journal COUNT` is so many edits of one leaf, where each journal on the way is kept: the processor time for each edit, and
 //!   the most kilobytes that the process held.
 #![tactic(auto)]
 
 mod cover;
+mod edits;
 mod hundredths;
 mod journal;
 mod level;
@@ -83,7 +85,7 @@ fn main(rt: HostRuntime) -> io::Result<()> {
             }
             ("generation", "deep") => {
                 let times = time_deep(&rt, rt.alloc())?;
-                println!(rt; "{} {}", times.start, times.one)?;
+                println!(rt; "{} {} {}", times.start, times.one, times.edit)?;
                 return Ok(());
             }
             ("journal", count) => {

@@ -3,6 +3,7 @@ ghost use Rattle.std.specs.Prelude.{◌≡◌, IfOk};
 ghost use Rattle.std.specs.Arc.{arc_value};
 ghost use Rattle.edit_journal.specs.Leaves.{FitsLeaves};
 
+use crate::edits::time_edits;
 use crate::survey::{DEEP, FULL, described, first_leaves, journal_of, replaced};
 use edit_journal::Journal;
 use generation::Generation;
@@ -43,11 +44,12 @@ pub struct FullTimes {
     pub bytes: u64,
 }
 
-/// The same of a deep field: made at once, and after one leaf was replaced.
+/// The same of a deep field: made at once, and after one leaf was replaced; and of processor time of an edit that is accepted.
 #[derive(Drop)]
 pub struct DeepTimes {
     pub start: u128,
     pub one: u128,
+    pub edit: u128,
 }
 
 /// Times a full sky of order 3, of 768 leaves of 512 by 512. The leaves that are replaced lie as far apart as they can; more
@@ -86,13 +88,17 @@ pub fn time_full<R: Clock + CpuClock + Threads + Sync>(
 /// # Errors
 ///
 /// Where there is no memory, or no clock.
-pub fn time_deep<R: Clock + Threads + Sync>(rt: &R, alloc: Global) -> io::Result<DeepTimes> {
+pub fn time_deep<R: Clock + CpuClock + Threads + Sync>(
+    rt: &R,
+    alloc: Global,
+) -> io::Result<DeepTimes> {
     let conf = described(alloc, DEEP)?;
     let leaves = first_leaves(alloc, conf.shape(), DEEP_LEAVES)?;
     let start = time_start(rt, alloc, &conf, &leaves)?;
     let generation = started(rt, alloc, &conf, &leaves)?;
     let one = time_next(rt, alloc, &generation, 1)?;
-    Ok(DeepTimes { start, one })
+    let edit = time_edits(rt, alloc, Arc::new(alloc, generation)?)?;
+    Ok(DeepTimes { start, one, edit })
 }
 
 // The least nanoseconds of the generation of these leaves.

@@ -101,8 +101,12 @@ fn one_replaced(alloc: Global, journal: &Journal, leaf: u64) -> io::Result<Journ
     }
 }
 
-// The number, where it is a leaf's.
-fn leaf_of(shape: Shape, number: u64) -> io::Result<u64>
+/// The number, where it is a leaf's.
+///
+/// # Errors
+///
+/// Where it is none.
+pub fn leaf_of(shape: Shape, number: u64) -> io::Result<u64>
     requires { IsShape shape.top shape.low shape.n }
     ensures { IfOk result (λ leaf. leaf < cell_count shape.top) }
 {
@@ -112,8 +116,12 @@ fn leaf_of(shape: Shape, number: u64) -> io::Result<u64>
     Ok(number)
 }
 
-// The tile of a leaf.
-fn leaf_tile(alloc: Global, shape: Shape, seed: u64) -> io::Result<Arc<Tile>>
+/// The tile of a leaf.
+///
+/// # Errors
+///
+/// Where there is no memory for it.
+pub fn leaf_tile(alloc: Global, shape: Shape, seed: u64) -> io::Result<Arc<Tile>>
     requires { IsShape shape.top shape.low shape.n }
     ensures { IfOk result (λ tile. FitsTile shape (arc_value tile)) }
 {

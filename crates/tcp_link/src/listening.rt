@@ -1,4 +1,5 @@
 //! What the doors of one address share.
+use log::{Log, error, info};
 use std::io;
 use std::net::{Net, TcpListener, TcpStream};
 use std::sync::{Mutex, OnceLock, Wait};
@@ -7,7 +8,8 @@ use std::sync::{Mutex, OnceLock, Wait};
 #[derive(Drop)]
 pub(crate) struct Listening {
     address: String,
-    binding: Mutex<()>,
+    // Whether a refusal to bind it was said.
+    binding: Mutex<bool>,
     listener: OnceLock<TcpListener>,
 }
 
@@ -15,24 +17,38 @@ impl Listening {
     pub(crate) fn new(address: String) -> Listening {
         Listening {
             address,
-            binding: Mutex::new(()),
+            binding: Mutex::new(false),
             listener: OnceLock::new(),
         }
     }
 
-    /// The listener, which the first call binds. Where that is refused the next call tries again.
+    /// The listener, which the first call binds. Where that is refused the next call tries again. The log gets where it
+    /// listens, and the first refusal.
     pub(crate) fn listener<R>(&self, rt: &R) -> io::Result<&TcpListener>
     where
-        R: Net<Listener = TcpListener, Stream = TcpStream> + Wait,
+        R: Net<Listener = TcpListener, Stream = TcpStream> + Wait + Log,
     {
         if let Some(listener) = self.listener.get() {
             return Ok(listener);
         }
-        let _binding = self.binding.lock(rt);
+        let mut is_said = self.binding.lock(rt);
         if let Some(listener) = self.listener.get() {
             return Ok(listener);
         }
-        let listener = TcpListener::bind(rt, self.address.as_str())?;
-        Ok(self.listener.get_or_init(rt, move || listener))
+        match TcpListener::bind(rt, self.address.as_str()) {
+            Ok(listener) => {
+                if let Ok(place) = listener.local_addr() {
+                    info!(rt; "listening at {place}");
+                }
+                Ok(self.listener.get_or_init(rt, move || listener))
+            }
+            Err(error) => {
+                if !*is_said {
+                    error!(rt; "can't listen at {}: {error}", self.address);
+                    *is_said = true;
+                }
+                Err(error)
+            }
+        }
     }
 }

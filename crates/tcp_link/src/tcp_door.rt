@@ -8,6 +8,7 @@ use crate::listening::Listening;
 use crate::refusal::Refusal;
 use crate::tcp_in::TcpIn;
 use crate::tcp_out::TcpOut;
+use log::Log;
 use std::alloc::AllocError;
 use std::io;
 use std::marker::Model;
@@ -104,7 +105,7 @@ impl<R> TcpDoor<R> {
 
 impl<R> TcpDoor<R>
 where
-    R: Net<Listener = TcpListener, Stream = TcpStream> + Wait,
+    R: Net<Listener = TcpListener, Stream = TcpStream> + Wait + Log,
 {
     /// Listens, where no door of the address does yet, and answers where: at the port that the system chose, if it was asked
     /// for port 0.
@@ -164,7 +165,7 @@ fn halves(stream: TcpStream, patience: Duration) -> io::Result<(TcpIn, TcpOut)>
 
 impl<R> Door for TcpDoor<R>
 where
-    R: Net<Listener = TcpListener, Stream = TcpStream> + Wait + Drop,
+    R: Net<Listener = TcpListener, Stream = TcpStream> + Wait + Log + Drop,
 {
     type In = TcpIn;
 

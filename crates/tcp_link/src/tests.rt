@@ -2,6 +2,7 @@
 use super::*;
 use crate::again::again;
 use crate::tcp_door::patient_doors;
+use log::Log;
 use std::alloc::{AllocError, Global};
 use std::cell::Cell;
 use std::io::{ErrorKind, Read, Write};
@@ -26,7 +27,7 @@ struct Met {
 // The connection of a client that has just come to the door.
 fn meet<R>(rt: &R, door: &mut TcpDoor<R>) -> Result<Met, Fail>
 where
-    R: Net<Listener = TcpListener, Stream = TcpStream> + Wait + Drop,
+    R: Net<Listener = TcpListener, Stream = TcpStream> + Wait + Log + Drop,
 {
     let client = TcpStream::connect(rt, door.listen()?)?;
     match door.accept()? {

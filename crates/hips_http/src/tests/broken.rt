@@ -6,12 +6,14 @@ use crate::tests::rows::{replies, requests};
 use crate::tests::{SURVEY, opened};
 use crate::{SessionEnd, session_in};
 use http_frame::Frame;
+use log::Log;
 use parent_rule::Steps;
 use reader_pin::Board;
 use std::alloc::Global;
 use std::sync::Wait;
 use std::test::Fail;
 use std::thread::Threads;
+use std::time::Clock;
 use survey_core::batch_room;
 use survey_link::{MemSink, MemSource, OpenGate};
 
@@ -20,7 +22,7 @@ const ROOM: usize = 437_760;
 
 // What is written, and how the connection ends, where these bytes come in pieces, and the call of the source or of the sink
 // with a number of these fails. The frame is one for all connections.
-fn broken<R: Threads + Wait + Sync>(
+fn broken<R: Threads + Wait + Sync + Clock + Log>(
     rt: &R,
     alloc: Global,
     frame: &mut Frame,

@@ -2,11 +2,13 @@
 use super::rows::{replies, requests};
 use super::{SURVEY, converse, opened};
 use crate::SessionEnd;
+use log::Log;
 use parent_rule::Steps;
 use std::alloc::Global;
 use std::sync::Wait;
 use std::test::Fail;
 use std::thread::Threads;
+use std::time::Clock;
 
 // The survey with a rule of its own, or without one.
 const MEDIANS: &str = "creator_did = ivo://example/P/one
@@ -437,7 +439,7 @@ static REFUSED: [(&str, &str, u16); 12] = [
 
 // Serves these requests as one connection over the survey, and tells what is wrong: nothing where the replies are these and
 // it ends so.
-fn complaint<R: Threads + Wait + Sync>(
+fn complaint<R: Threads + Wait + Sync + Clock + Log>(
     rt: &R,
     alloc: Global,
     conf: &str,

@@ -12,7 +12,7 @@ returns-clause-whole g c =
     let kept = rw (c.deref.ensures, c.conf.ensures.conf) at c.shape-orders.ensures.kept in
     let none : file_at state.conf state.opening (survey_state state) c.args.text.now ≡ None
     = no_file state.conf (leaf_map (leaves_at state.opening (survey_state state))) c.args.text.now kept.shape.greatest_top kept.shape.low_order c.requires.unknown in
-    rw (none) (rw (c.not_found.ensures, c.tip.ensures.tip) at c.send_text.ensures.whole)
+    rw (none) c.send_not_found.ensures.whole
 
 pub returns-clause-part : goal.returns-clause-part
 returns-clause-part g c =
@@ -20,4 +20,4 @@ returns-clause-part g c =
     let kept = rw (c.deref.ensures, c.conf.ensures.conf) at c.shape-orders.ensures.kept in
     let none : file_at state.conf state.opening (survey_state state) c.args.text.now ≡ None
     = no_file state.conf (leaf_map (leaves_at state.opening (survey_state state))) c.args.text.now kept.shape.greatest_top kept.shape.low_order c.requires.unknown in
-    rw (none) (rw (c.not_found.ensures, c.tip.ensures.tip) at c.send_text.ensures.part)
+    rw (none) c.send_not_found.ensures.part

@@ -1,5 +1,5 @@
 use Rattle.std.proofs.Common.{◌≡◌}
-use Rattle.hipsd.proofs.CommandLemmas.{same_probe, same_make}
+use Rattle.hipsd.proofs.CommandLemmas.{same_probe, same_make, same_serve}
 use Rattle.hipsd.proofs.run.run.Goals as goal
 
 pub returns-in-Probe-clause-probe : goal.returns-in-Probe-clause-probe
@@ -32,3 +32,9 @@ returns-in-Make-clause-make g c = λ number edits asks.
     let same : (c.in-Make.number ≡ number) × (c.in-Make.edits ≡ edits) =
     same_make _ _ _ _ _ (rw c.in-Make.is at c.in-Some.ensures.asked) asks in
     rw (same.0, same.1) at c.run_make.ensures.run
+
+pub returns-in-Serve-clause-serve : goal.returns-in-Serve-clause-serve
+returns-in-Serve-clause-serve g c = λ connections places asks there.
+    let same : (c.in-Serve.connections ≡ connections) × (c.in-Serve.places ≡ places) =
+    same_serve _ _ _ _ _ (rw c.in-Serve.is at c.in-Some.ensures.asked) asks in
+    rw (same.0, same.1) at c.run_serve.ensures.run

@@ -1,0 +1,130 @@
+-- The places of a server.
+use Rattle.std.proofs.Common.{◌≡◌, ◌≢◌, ◌⊎◌, inl, inr, ℕ, zero, suc, ◌≤◌, ◌<◌, List, [], ◌∷◌, ◌++◌, length, get_or, map, slice_set, Option, Some, None, Result, Ok, Err, refl, sym, ap, ap₂, ◌∙◌, subst, arith}
+use Rattle.std.specs.Prelude.{All, Contains}
+use Rattle.std.specs.List.{AllZip}
+use Rattle.std.proofs.lemmas.List.{map-append}
+use Rattle.std.proofs.lemmas.List.Elements.{All-nil, All-cons, All-head, All-tail, All-append, All-weaker, Contains-append_left, Contains-append_right}
+use Rattle.survey_link.specs.Link.{Rises}
+use Rattle.survey_link.specs.Door.{Connections}
+use Rattle.reader_pin.specs.Board.{BoardContent}
+use Rattle.hips_place.specs.declared.place.PlaceEnd.{PlaceEnd}
+use Rattle.hips_place.specs.declared.place.PlaceEnd.TheVariants.{Done, Failed, OutOfMemory}
+use Rattle.hips_place.specs.Place.{OnePlace, IsServedPlace, EndAs, ArePlaces, AllReturned, IsPlace, PlaceGoes, worse}
+
+-- ---- how places end
+
+failed_first : (ends others : List PlaceEnd) → EndAs ends Failed → EndAs (ends ++ others) Failed
+failed_first ends others a = record {
+  done = λ e. cc;
+  failed = λ _. Contains-append_left ends others Failed (a.failed refl);
+  wanted = λ e. cc;
+}
+
+failed_last : (ends others : List PlaceEnd) → EndAs others Failed → EndAs (ends ++ others) Failed
+failed_last ends others b = record {
+  done = λ e. cc;
+  failed = λ _. Contains-append_right ends others Failed (b.failed refl);
+  wanted = λ e. cc;
+}
+
+done_not_failed : (ends : List PlaceEnd) → All (λ each. each ≡ Done) ends → All (λ each. each ≢ Failed) ends
+done_not_failed ends all = All-weaker (λ each. each ≡ Done) (λ each. each ≢ Failed) (λ each is failed. cc) ends all
+
+pub ends_both : (a b : PlaceEnd) (ends others : List PlaceEnd) → EndAs ends a → EndAs others b → EndAs (ends ++ others) (worse a b)
+ends_both Failed b ends others first second = failed_first ends others first
+ends_both OutOfMemory Failed ends others first second = failed_last ends others second
+ends_both OutOfMemory OutOfMemory ends others first second = record {
+  done = λ e. cc;
+  failed = λ e. cc;
+  wanted = λ _. (Contains-append_left ends others OutOfMemory (first.wanted refl).0, All-append (λ each. each ≢ Failed) ends others (first.wanted refl).1 (second.wanted refl).1);
+}
+ends_both OutOfMemory Done ends others first second = record {
+  done = λ e. cc;
+  failed = λ e. cc;
+  wanted = λ _. (Contains-append_left ends others OutOfMemory (first.wanted refl).0, All-append (λ each. each ≢ Failed) ends others (first.wanted refl).1 (done_not_failed others (second.done refl)));
+}
+ends_both Done Failed ends others first second = failed_last ends others second
+ends_both Done OutOfMemory ends others first second = record {
+  done = λ e. cc;
+  failed = λ e. cc;
+  wanted = λ _. (Contains-append_right ends others OutOfMemory (second.wanted refl).0, All-append (λ each. each ≢ Failed) ends others (done_not_failed ends (first.done refl)) (second.wanted refl).1);
+}
+ends_both Done Done ends others first second = record {
+  done = λ _. All-append (λ each. each ≡ Done) ends others (first.done refl) (second.done refl);
+  failed = λ e. cc;
+  wanted = λ e. cc;
+}
+
+one_end : (end : PlaceEnd) → EndAs (end ∷ []) end
+one_end end = record {
+  done = λ e. All-cons (λ each. each ≡ Done) end [] e (All-nil (λ each. each ≡ Done));
+  failed = λ e. (0, omega arith, e);
+  wanted = λ e. ((0, omega arith, e), All-cons (λ each. each ≢ Failed) end [] (λ failed. cc) (All-nil (λ each. each ≢ Failed)));
+}
+
+-- ---- the places
+
+pub no_places : (most : ℕ) → ArePlaces most [] [] [] [] [] [] Done
+no_places most = record {
+  places = [];
+  each = All-nil (IsServedPlace most);
+  boards_are = refl;
+  boards_then = refl;
+  doors_are = refl;
+  doors_then = refl;
+  faults_are = refl;
+  faults_then = refl;
+  ends = record { done = λ _. All-nil (λ each. each ≡ Done); failed = λ e. cc; wanted = λ e. cc };
+}
+
+pub one_place : (most : ℕ) (place : OnePlace) → IsServedPlace most place
+    → ArePlaces most (place.board ∷ []) (place.board_then ∷ []) (place.door ∷ []) (place.door_then ∷ []) (place.faults ∷ []) (place.faults_then ∷ []) place.end
+one_place most place is = record {
+  places = place ∷ [];
+  each = All-cons (IsServedPlace most) place [] is (All-nil (IsServedPlace most));
+  boards_are = refl;
+  boards_then = refl;
+  doors_are = refl;
+  doors_then = refl;
+  faults_are = refl;
+  faults_then = refl;
+  ends = one_end place.end;
+}
+
+pub both_places : (most : ℕ) (boards boards' more more' : List BoardContent) (doors doors' further further' : List (Option Connections)) (faults faults' others others' : List ℕ) (end other : PlaceEnd)
+    → ArePlaces most boards boards' doors doors' faults faults' end → ArePlaces most more more' further further' others others' other
+    → ArePlaces most (boards ++ more) (boards' ++ more') (doors ++ further) (doors' ++ further') (faults ++ others) (faults' ++ others') (worse end other)
+both_places most boards boards' more more' doors doors' further further' faults faults' others others' end other a b = record {
+  places = a.places ++ b.places;
+  each = All-append (IsServedPlace most) a.places b.places a.each b.each;
+  boards_are = map-append (λ (p : OnePlace). p.board) a.places b.places ∙ ap₂ ◌++◌ a.boards_are b.boards_are;
+  boards_then = map-append (λ (p : OnePlace). p.board_then) a.places b.places ∙ ap₂ ◌++◌ a.boards_then b.boards_then;
+  doors_are = map-append (λ (p : OnePlace). p.door) a.places b.places ∙ ap₂ ◌++◌ a.doors_are b.doors_are;
+  doors_then = map-append (λ (p : OnePlace). p.door_then) a.places b.places ∙ ap₂ ◌++◌ a.doors_then b.doors_then;
+  faults_are = map-append (λ (p : OnePlace). p.faults) a.places b.places ∙ ap₂ ◌++◌ a.faults_are b.faults_are;
+  faults_then = map-append (λ (p : OnePlace). p.faults_then) a.places b.places ∙ ap₂ ◌++◌ a.faults_then b.faults_then;
+  ends = subst (λ (ends : List PlaceEnd). EndAs ends (worse end other)) (sym (map-append (λ (p : OnePlace). p.end) a.places b.places))
+      (ends_both end other (map (λ (p : OnePlace). p.end) a.places) (map (λ (p : OnePlace). p.end) b.places) a.ends b.ends);
+}
+
+-- no board and no door
+pub empty_places : {B D : Type 0} (content : B → BoardContent) (connections : D → Option Connections) (faults : D → ℕ) (most : ℕ) (boards : List B) (doors : List D)
+    → length boards ≡ 0 → length doors ≡ 0
+    → ArePlaces most (map content boards) (map content boards) (map connections doors) (map connections doors) (map faults doors) (map faults doors) Done
+empty_places content connections faults most [] [] none same = no_places most
+empty_places content connections faults most [] (d ∷ doors) none same = absurd (omega arith)
+empty_places content connections faults most (b ∷ boards) doors none same = absurd (omega arith)
+
+-- the first of one board and of one door
+pub first_place : {B D : Type 0} (content : B → BoardContent) (connections : D → Option Connections) (faults : D → ℕ) (most : ℕ) (boards : List B) (doors : List D)
+    (b b' : B) (d d' : D) (end : PlaceEnd) → length boards ≡ 1 → length doors ≡ 1 → b ≡ get_or boards 0 b → d ≡ get_or doors 0 d
+    → IsServedPlace most (record { board = content b; board_then = content b'; door = connections d; door_then = connections d'; faults = faults d; faults_then = faults d'; end = end })
+    → ArePlaces most (map content boards) (map content (slice_set boards 0 b')) (map connections doors) (map connections (slice_set doors 0 d')) (map faults doors) (map faults (slice_set doors 0 d')) end
+first_place content connections faults most [] doors b b' d d' end one same is_b is_d is = absurd (omega arith)
+first_place content connections faults most (x ∷ y ∷ boards) doors b b' d d' end one same is_b is_d is = absurd (omega arith)
+first_place content connections faults most (x ∷ []) [] b b' d d' end one same is_b is_d is = absurd (omega arith)
+first_place content connections faults most (x ∷ []) (y ∷ z ∷ doors) b b' d d' end one same is_b is_d is = absurd (omega arith)
+first_place {B = B} {D = D} content connections faults most (x ∷ []) (y ∷ []) b b' d d' end one same is_b is_d is =
+    subst (λ (b : B). ArePlaces most (content b ∷ []) (content b' ∷ []) (connections y ∷ []) (connections d' ∷ []) (faults y ∷ []) (faults d' ∷ []) end) is_b
+    (subst (λ (d : D). ArePlaces most (content b ∷ []) (content b' ∷ []) (connections d ∷ []) (connections d' ∷ []) (faults d ∷ []) (faults d' ∷ []) end) is_d
+    (one_place most (record { board = content b; board_then = content b'; door = connections d; door_then = connections d'; faults = faults d; faults_then = faults d'; end = end }) is))

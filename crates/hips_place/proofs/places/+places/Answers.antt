@@ -1,0 +1,15 @@
+use Rattle.std.proofs.Common.{◌≡◌, ◌++◌, map, rules}
+use Rattle.hips_place.specs.Place.{ArePlaces}
+use Rattle.hips_place.proofs.PlacesLemmas.{both_places}
+use Rattle.hips_place.proofs.places.+places.Goals as goal
+
+pub serve_both-returns : goal.serve_both-returns
+serve_both-returns g t c =
+    let content = g.B.Board.content in
+    let connections = g.D.Door.connections in
+    let faults = g.D.Door.faults in
+    let near : ArePlaces c.args.most (map content c.args.near_boards.now) (map content c.near_boards-1.given.0) (map connections c.args.near_doors.now) (map connections c.near_doors-1.given.0)
+    (map faults c.args.near_doors.now) (map faults c.near_doors-1.given.0) c.join_mut-near.result.0 = search rules in
+    let far : ArePlaces c.args.most (map content c.args.far_boards.now) (map content c.far_boards-1.given.0) (map connections c.args.far_doors.now) (map connections c.far_doors-1.given.0)
+    (map faults c.args.far_doors.now) (map faults c.far_doors-1.given.0) c.join_mut-near.result.1 = search rules in
+    rw c.worse.ensures (both_places c.args.most _ _ _ _ _ _ _ _ _ _ _ _ _ _ near far)

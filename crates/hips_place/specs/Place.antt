@@ -1,0 +1,192 @@
+-- One place of the server: the connections that it takes from its door, serves one after another, and gives back. This
+-- project's profile.
+use Rattle.std.specs.Prelude.{◌≡◌, ◌≢◌, ◌⊎◌, ℕ, ◌*◌, ◌≤◌, List, [], ◌∷◌, ◌++◌, length, map, All, Contains, Option, Some, None, IfSome, option_map, ⊤}
+use Rattle.std.specs.List.{AllZip}
+use Rattle.std.specs.Io.KnownBytes.{Appends}
+use Rattle.survey_conf.specs.Description.{Description}
+use Rattle.survey_link.specs.Link.{Rises}
+use Rattle.survey_link.specs.Door.{Connection, Connections, Takes, NoneWaits, given_back}
+use Rattle.edit_journal.specs.Leaves.{LeafTiles}
+use Rattle.survey_core.specs.History.{SurveyState, opening_state, IsHistory, Begins}
+use Rattle.reader_pin.specs.Board.{BoardContent}
+use Rattle.hips_http.specs.declared.served.SessionEnd.{SessionEnd}
+use Rattle.hips_http.specs.declared.served.SessionEnd.TheVariants.{OutOfMemory as WantOfMemory}
+use Rattle.hips_http.specs.SessionRun.{SessionRun, most_requests}
+use Rattle.hips_place.specs.declared.place.PlaceEnd.{PlaceEnd}
+use Rattle.hips_place.specs.declared.place.PlaceEnd.TheVariants.{Done, Failed, OutOfMemory}
+
+-- ---- a connection
+
+-- it is a session, from the states seen before it to those seen then: some first bytes of its input were read and the rest
+-- is left, and what its sink holds grew by what was written
+pub record IsSession (conf : Description) (opening : LeafTiles) (states : List SurveyState) (taken back : Connection) (states' : List SurveyState) (end : SessionEnd) (input : List ℕ) : Type 0 where
+  pub read : List ℕ
+  pub rest : List ℕ
+  pub out : List ℕ
+  pub own : List ℕ
+  pub wants : ℕ
+  pub input_is : input ≡ read ++ rest
+  pub left_is : back.unread ≡ Some rest
+  pub appended : Appends taken.written back.written out
+  pub run : SessionRun conf opening states
+      (record {
+        read = read;
+        left = rest;
+        written = out;
+        source_faults = taken.source_faults;
+        source_faults_then = back.source_faults;
+        sink_faults = taken.sink_faults;
+        sink_faults_then = back.sink_faults;
+      })
+      own states' end wants
+
+-- a connection as it was taken and as it was given back: the history goes on, and by a session where the source told its bytes
+pub record IsServedOnce (conf : Description) (opening : LeafTiles) (states : List SurveyState) (taken back : Connection) (states' : List SurveyState) (end : SessionEnd) : Type 0 where
+  pub legal : IsHistory opening states'
+  pub begins : Begins states states'
+  pub session : IfSome taken.unread (IsSession conf opening states taken back states' end)
+
+-- ---- a place
+
+-- connections as they were taken, as they were given back, and how they ended lead, one after another, from the states seen
+-- before to those seen then
+abbrev pub PlaceRun : Description → LeafTiles → List SurveyState → List Connection → List Connection → List SessionEnd → List SurveyState → Type 0
+PlaceRun conf opening states [] [] [] states' = states' ≡ states
+PlaceRun conf opening states (taken ∷ takens) (back ∷ backs) (end ∷ ends) states' = (mid : List SurveyState)
+    × IsServedOnce conf opening states taken back mid end
+    × PlaceRun conf opening mid takens backs ends states'
+PlaceRun conf opening states takens backs ends states' = ⊥
+
+-- all connections that were taken from a door were given back, where it tells them
+abbrev pub AllReturned : Option Connections → Type 0
+AllReturned None = ⊤
+AllReturned (Some told) = length told.returned ≡ length told.taken
+
+-- the door has handed out these connections, and got them back like that, where it tells them
+abbrev pub HandsOut : Option Connections → List Connection → List Connection → Option Connections → Type 0
+HandsOut None takens backs new = ⊤
+HandsOut (Some old) takens backs None = ⊥
+HandsOut (Some old) takens backs (Some new) =
+    (old.waiting ≡ takens ++ new.waiting) × (new.taken ≡ old.taken ++ takens) × (new.returned ≡ old.returned ++ backs)
+
+-- what a place did to its board and its door, of which it was to take so many connections: where it is done, it took them or
+-- none is left, and none of them ended for want of memory
+pub record IsPlace (old new : BoardContent) (door door' : Option Connections) (most : ℕ) (end : PlaceEnd) : Type 0 where
+  pub takens : List Connection
+  pub backs : List Connection
+  pub ends : List SessionEnd
+  pub run : PlaceRun new.conf new.opening old.history takens backs ends new.history
+  pub handed : HandsOut door takens backs door'
+  pub few : length takens ≤ most
+  pub all : end ≡ Done → (length takens ≡ most) ⊎ NoneWaits door'
+  pub none_wanted : end ≡ Done → All (λ end. end ≢ WantOfMemory) ends
+
+-- what is true of it, also where nothing is told: the history that its board sees goes on, with as many events of its own as
+-- so many connections may make
+pub record PlaceGoes (old new : BoardContent) (most : ℕ) : Type 0 where
+  pub conf : new.conf ≡ old.conf
+  pub opening : new.opening ≡ old.opening
+  pub legal : IsHistory new.opening new.history
+  pub begins : Begins old.history new.history
+  pub own : List ℕ
+  pub own_is : new.own ≡ old.own ++ own
+  pub few : length own ≤ most * most_requests
+
+-- ---- the next connection
+
+-- a connection was taken and given back
+pub record TakesOne (door door' : Option Connections) (old new : BoardContent) (end : SessionEnd) : Type 0 where
+  pub taken : Connection
+  pub back : Connection
+  pub mid : Option Connections
+  pub takes : Takes door mid taken
+  pub returned : door' ≡ option_map (given_back back) mid
+  pub served : IsServedOnce new.conf new.opening old.history taken back new.history end
+
+-- a connection that was taken like this is served and given back
+pub record GivesBack (door door' : Option Connections) (old new : BoardContent) (taken : Connection) (end : SessionEnd) : Type 0 where
+  pub back : Connection
+  pub returned : door' ≡ option_map (given_back back) door
+  pub served : IsServedOnce new.conf new.opening old.history taken back new.history end
+
+-- ---- the places of a server
+
+-- a place: its board, its door and the door's count of faults, before and after, and how it ended
+pub record OnePlace : Type 0 where
+  pub board : BoardContent
+  pub board_then : BoardContent
+  pub door : Option Connections
+  pub door_then : Option Connections
+  pub faults : ℕ
+  pub faults_then : ℕ
+  pub end : PlaceEnd
+
+-- it is one of which so many connections were to be taken
+pub record IsServedPlace (most : ℕ) (place : OnePlace) : Type 0 where
+  pub served : AllReturned place.door → IsPlace place.board place.board_then place.door place.door_then most place.end
+  pub goes : PlaceGoes place.board place.board_then most
+  pub failed : place.end ≡ Failed → Rises place.faults place.faults_then
+  pub never_falls : place.faults ≤ place.faults_then
+
+-- the worse of two ends: `Failed`, before `OutOfMemory`, before `Done`
+abbrev pub worse : PlaceEnd → PlaceEnd → PlaceEnd
+worse Failed other = Failed
+worse OutOfMemory Failed = Failed
+worse OutOfMemory OutOfMemory = OutOfMemory
+worse OutOfMemory Done = OutOfMemory
+worse Done other = other
+
+-- places that ended so ended all in all so: `Failed` where one did so; else `OutOfMemory` where one did; else `Done`
+pub record EndAs (ends : List PlaceEnd) (end : PlaceEnd) : Type 0 where
+  pub done : end ≡ Done → All (λ each. each ≡ Done) ends
+  pub failed : end ≡ Failed → Contains ends Failed
+  pub wanted : end ≡ OutOfMemory → Contains ends OutOfMemory × All (λ each. each ≢ Failed) ends
+
+-- the places of a server, one for each board and the door beside it, of each of which so many connections were to be taken
+pub record ArePlaces (most : ℕ) (boards boards' : List BoardContent) (doors doors' : List (Option Connections)) (faults faults' : List ℕ) (end : PlaceEnd) : Type 0 where
+  pub places : List OnePlace
+  pub each : All (IsServedPlace most) places
+  pub boards_are : map (λ p. p.board) places ≡ boards
+  pub boards_then : map (λ p. p.board_then) places ≡ boards'
+  pub doors_are : map (λ p. p.door) places ≡ doors
+  pub doors_then : map (λ p. p.door_then) places ≡ doors'
+  pub faults_are : map (λ p. p.faults) places ≡ faults
+  pub faults_then : map (λ p. p.faults_then) places ≡ faults'
+  pub ends : EndAs (map (λ p. p.end) places) end
+
+-- ---- the doors of a survey's server
+
+-- the board of a survey that nobody has changed yet
+abbrev pub first_board : Description → LeafTiles → BoardContent
+first_board conf opening = record { conf = conf; opening = opening; history = opening_state ∷ []; own = []; held = None }
+
+-- a door of the server, of which so many connections were to be taken, where the server's places ended all in all so: those
+-- that it handed out and got back lead from the survey's first state to states with which these begin
+pub record ServesDoor (conf : Description) (opening : LeafTiles) (states : List SurveyState) (most : ℕ) (end : PlaceEnd) (door door' : Option Connections) : Type 0 where
+  pub takens : List Connection
+  pub backs : List Connection
+  pub ends : List SessionEnd
+  pub seen : List SurveyState
+  pub run : PlaceRun conf opening (opening_state ∷ []) takens backs ends seen
+  pub begins : Begins seen states
+  pub handed : HandsOut door takens backs door'
+  pub few : length takens ≤ most
+  pub all : end ≡ Done → (length takens ≡ most) ⊎ NoneWaits door'
+  pub none_wanted : end ≡ Done → All (λ end. end ≢ WantOfMemory) ends
+
+-- the doors of the server, each of which had got back all that it had handed out: one history holds what happened at all of them
+pub record ServesDoors (conf : Description) (opening : LeafTiles) (most : ℕ) (doors doors' : List (Option Connections)) (end : PlaceEnd) : Type 0 where
+  pub states : List SurveyState
+  pub legal : IsHistory opening states
+  pub each : AllZip (λ door door'. AllReturned door → ServesDoor conf opening states most end door door') doors doors'
+
+-- the count of one of them rose
+abbrev pub SomeRises : List ℕ → List ℕ → Type 0
+SomeRises (old ∷ olds) (new ∷ news) = Rises old new ⊎ SomeRises olds news
+SomeRises olds news = ⊥
+
+-- what each of the boards has seen is the beginning of the states of one history
+pub record HaveAllMet (boards : List BoardContent) : Type 0 where
+  pub states : List SurveyState
+  pub legal : (opening : LeafTiles) → All (λ board. board.opening ≡ opening) boards → IsHistory opening states
+  pub each : All (λ board. Begins board.history states) boards

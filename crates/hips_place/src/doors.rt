@@ -1,0 +1,150 @@
+//! The doors of a survey, at once.
+ghost use Rattle.std.specs.Prelude.{◌≡◌, ◌<◌, ◌≤◌, [], Ok, map, length, All, IfOk, OnOk};
+ghost use Rattle.shared_history.specs.Histories.{one_state};
+ghost use Rattle.survey_core.specs.State.{StateContent};
+ghost use Rattle.survey_core.specs.History.{Begins};
+ghost use Rattle.reader_pin.specs.Board.{Stays};
+ghost use Rattle.reader_pin.specs.Shared.{seated};
+ghost use Rattle.hips_place.specs.declared.place.PlaceEnd.TheVariants.{Failed};
+ghost use Rattle.hips_place.specs.Place.{ServesDoors, SomeRises, HaveAllMet};
+
+use crate::place::PlaceEnd;
+use crate::places::serve_places;
+use log::Log;
+use reader_pin::{Board, Shared, Survey, SurveyBook, SurveySeat, open_shared};
+use shared_history::Naming;
+use std::alloc::{AllocError, Global};
+use std::marker::Brand;
+use std::sync::Wait;
+use std::thread::Threads;
+use std::time::Clock;
+use survey_core::State;
+use survey_link::{Door, Gate};
+
+/// Opens the survey of which this is the first state, and serves its doors at once, each by a place of its own: up to `most`
+/// connections of each. When all places have ended, the first board meets each other one, so that one history holds what
+/// happened at all of them; then the survey is closed.
+///
+/// It answers `Failed` where a place ended so; else `OutOfMemory` where one did; else `Done`.
+///
+/// # Errors
+///
+/// `AllocError` where there is no memory to open the survey, or for boards to meet.
+pub fn serve_doors<R: Threads + Wait + Sync + Clock + Log, D: Door + Send, G: Gate + Sync>(
+    rt: &R,
+    alloc: Global,
+    state: State,
+    most: u32,
+    gate: &G,
+    doors: &mut [D],
+) -> Result<PlaceEnd, AllocError>
+where
+    D::In: Send,
+    D::Out: Send,
+    requires first { (state.batches ≡ []) × (state.tip ≡ 0) }
+    requires some { 0 < length doors.old }
+    requires most { length doors.old ≤ 64 }
+    ensures served { IfOk result (ServesDoors state.conf state.opening most (map D.connections doors.old) (map D.connections doors.new)) }
+    ensures failed { result ≡ Ok Failed → SomeRises (map D.faults doors.old) (map D.faults doors.new) }
+{
+    serve_named::<Brand, R, D, G>(rt, alloc, SurveyBook::new(), state, most, gate, doors)
+}
+
+// The same, under the name of the survey's book.
+fn serve_named<J, R, D, G>(
+    rt: &R,
+    alloc: Global,
+    book: SurveyBook,
+    state: State,
+    most: u32,
+    gate: &G,
+    doors: &mut [D],
+) -> Result<PlaceEnd, AllocError>
+where
+    J: Naming + Send + Sync,
+    R: Threads + Wait + Sync + Clock + Log,
+    D: Door + Send,
+    D::In: Send,
+    D::Out: Send,
+    G: Gate + Sync,
+    requires book { book ≡ J.book }
+    requires first { (state.batches ≡ []) × (state.tip ≡ 0) }
+    requires some { 0 < length doors.old }
+    requires most { length doors.old ≤ 64 }
+    ensures served { IfOk result (ServesDoors state.conf state.opening most (map D.connections doors.old) (map D.connections doors.new)) }
+    ensures failed { result ≡ Ok Failed → SomeRises (map D.faults doors.old) (map D.faults doors.new) }
+{
+    let (survey, seats) = open_shared::<J, R>(rt, alloc, book, state, doors.len())?;
+    let ended = serve_seats(rt, alloc, &survey, seats, most, gate, doors);
+    survey.close(rt);
+    ended
+}
+
+// Serves the doors at the seats of an open survey; then the first board meets each other one.
+fn serve_seats<'a, J, R, D, G>(
+    rt: &R,
+    alloc: Global,
+    survey: &'a Survey<J>,
+    seats: Vec<SurveySeat<J>>,
+    most: u32,
+    gate: &G,
+    doors: &mut [D],
+) -> Result<PlaceEnd, AllocError>
+where
+    J: Naming + Send + Sync,
+    R: Threads + Wait + Sync + Clock + Log,
+    D: Door + Send,
+    D::In: Send,
+    D::Out: Send,
+    G: Gate + Sync,
+    requires same { length seats.items ≡ length doors.old }
+    requires some { 0 < length doors.old }
+    ensures served { (state : StateContent) → All (λ seat. seat ≡ one_state state) seats.items → state.batches ≡ [] → state.tip ≡ 0
+        → IfOk result (ServesDoors state.conf state.opening most (map D.connections doors.old) (map D.connections doors.new)) }
+    ensures failed { result ≡ Ok Failed → SomeRises (map D.faults doors.old) (map D.faults doors.new) }
+{
+    let mut boards = boards_at(alloc, survey, seats)?;
+    let boards = boards.as_mut_slice();
+    let end = serve_places(rt, alloc, most, gate, boards, doors);
+    meet_first(boards)?;
+    Ok(end)
+}
+
+// A board at each seat.
+fn boards_at<'a, J: Naming>(
+    alloc: Global,
+    survey: &'a Survey<J>,
+    seats: Vec<SurveySeat<J>>,
+) -> Result<Vec<Shared<'a, J>>, AllocError>
+    ensures { IfOk result (λ boards. boards.items ≡ map seated seats.items) }
+{
+    let mut boards = Vec::new(alloc);
+    for seat in seats {
+        boards.push(Shared::new(alloc, survey, seat))?;
+    }
+    Ok(boards)
+}
+
+// The first board meets each other one.
+fn meet_first<'a, J: Naming>(boards: &mut [Shared<'a, J>]) -> Result<(), AllocError>
+    requires { 0 < length boards.old }
+    ensures { OnOk result (HaveAllMet boards.old) }
+{
+    let (first, others) = boards.split_at_mut(1);
+    meet_others(&mut first[0], others)
+}
+
+// A board meets each of these.
+fn meet_others<'a, J: Naming>(
+    first: &mut Shared<'a, J>,
+    others: &mut [Shared<'a, J>],
+) -> Result<(), AllocError>
+    ensures stays { OnOk result (Stays first.old first.new) }
+    ensures met { OnOk result (All (λ board. Begins board.history first.new.history) others.old) }
+{
+    let _legal = first.last();
+    for other in others {
+        first.meet(other)?;
+    }
+    Ok(())
+}

@@ -1,0 +1,15 @@
+//! Places of the server.
+//!
+//! A place serves the connections of one door, one after another, over one board (`serve_place`). The places of a server run at
+//! once (`serve_places`).
+#![tactic(auto)]
+
+mod doors;
+mod place;
+mod places;
+#[cfg(test)]
+mod tests;
+
+pub use doors::serve_doors;
+pub use place::{PlaceEnd, serve_place};
+pub use places::serve_places;

@@ -1,0 +1,125 @@
+//! The places of a server, at once.
+ghost use Rattle.std.specs.Prelude.{◌≡◌, ◌<◌, ◌++◌, map, length};
+ghost use denote.Param.Send.{IsSync, IsSend};
+ghost use Rattle.hips_place.specs.Place.{ArePlaces};
+
+use crate::place::{PlaceEnd, serve_place};
+use log::Log;
+use parent_rule::Steps;
+use reader_pin::Board;
+use std::alloc::Global;
+use std::sync::Wait;
+use std::thread::{Threads, join_mut};
+use std::time::Clock;
+use survey_link::{Door, Gate};
+
+/// Serves the doors at once, each by the board at its place: up to `most` connections of each, one after another. Each place
+/// has a thread and a counter of steps of its own; where no thread can be started, the places that it was for are served
+/// before or after others. A place goes on to its end however another one ends.
+///
+/// It answers `Failed` where a place ended so; else `OutOfMemory` where one did; else `Done`.
+#[cycle(places)]
+pub fn serve_places<
+    R: Threads + Wait + Sync + Clock + Log,
+    B: Board + Send,
+    D: Door + Send,
+    G: Gate + Sync,
+>(rt: &R, alloc: Global, most: u32, gate: &G, boards: &mut [B], doors: &mut [D]) -> PlaceEnd
+where
+    D::In: Send,
+    D::Out: Send,
+    requires { length boards.old ≡ length doors.old }
+    ensures { ArePlaces most (map B.content boards.old) (map B.content boards.new) (map D.connections doors.old) (map D.connections doors.new)
+        (map D.faults doors.old) (map D.faults doors.new) result }
+{
+    if boards.len() < 2 {
+        return serve_first(rt, alloc, most, gate, boards, doors);
+    }
+    let middle = boards.len() / 2;
+    let (near_boards, far_boards) = boards.split_at_mut(middle);
+    let (near_doors, far_doors) = doors.split_at_mut(middle);
+    serve_both(
+        rt,
+        alloc,
+        most,
+        gate,
+        near_boards,
+        near_doors,
+        far_boards,
+        far_doors,
+    )
+}
+
+// Serves the places of two parts of the server at once.
+#[cycle(places)]
+fn serve_both<
+    R: Threads + Wait + Sync + Clock + Log,
+    B: Board + Send,
+    D: Door + Send,
+    G: Gate + Sync,
+>(
+    rt: &R,
+    alloc: Global,
+    most: u32,
+    gate: &G,
+    near_boards: &mut [B],
+    near_doors: &mut [D],
+    far_boards: &mut [B],
+    far_doors: &mut [D],
+) -> PlaceEnd
+where
+    D::In: Send,
+    D::Out: Send,
+    requires near { length near_boards.old ≡ length near_doors.old }
+    requires far { length far_boards.old ≡ length far_doors.old }
+    requires some { (0 < length near_boards.old) × (0 < length far_boards.old) }
+    ensures { ArePlaces most (map B.content near_boards.old ++ map B.content far_boards.old) (map B.content near_boards.new ++ map B.content far_boards.new)
+        (map D.connections near_doors.old ++ map D.connections far_doors.old) (map D.connections near_doors.new ++ map D.connections far_doors.new)
+        (map D.faults near_doors.old ++ map D.faults far_doors.old) (map D.faults near_doors.new ++ map D.faults far_doors.new) result }
+{
+    let (near, far) = join_mut(
+        rt,
+        &mut || -> PlaceEnd
+            requires { IsSync R.row × IsSync G.row × IsSend B.row × IsSend D.row × (length near_boards.now ≡ length near_doors.now) }
+            ensures { ArePlaces most (map B.content near_boards.entry.now) (map B.content near_boards.exit.now)
+                (map D.connections near_doors.entry.now) (map D.connections near_doors.exit.now)
+                (map D.faults near_doors.entry.now) (map D.faults near_doors.exit.now) result }
+        { serve_places(rt, alloc, most, gate, near_boards, near_doors) },
+        &mut || -> PlaceEnd
+            requires { IsSync R.row × IsSync G.row × IsSend B.row × IsSend D.row × (length far_boards.now ≡ length far_doors.now) }
+            ensures { ArePlaces most (map B.content far_boards.entry.now) (map B.content far_boards.exit.now)
+                (map D.connections far_doors.entry.now) (map D.connections far_doors.exit.now)
+                (map D.faults far_doors.entry.now) (map D.faults far_doors.exit.now) result }
+        { serve_places(rt, alloc, most, gate, far_boards, far_doors) },
+    );
+    near.worse(far)
+}
+
+// Serves the one place, where there is one.
+fn serve_first<R: Threads + Wait + Sync + Clock + Log, B: Board, D: Door, G: Gate + Sync>(
+    rt: &R,
+    alloc: Global,
+    most: u32,
+    gate: &G,
+    boards: &mut [B],
+    doors: &mut [D],
+) -> PlaceEnd
+    requires same { length boards.old ≡ length doors.old }
+    requires few { length boards.old < 2 }
+    ensures { ArePlaces most (map B.content boards.old) (map B.content boards.new) (map D.connections doors.old) (map D.connections doors.new)
+        (map D.faults doors.old) (map D.faults doors.new) result }
+{
+    if boards.is_empty() {
+        return PlaceEnd::Done;
+    }
+    let mut steps = Steps::new();
+    serve_place(
+        rt,
+        alloc,
+        &mut boards[0],
+        &mut doors[0],
+        most,
+        gate,
+        &mut steps,
+    )
+}

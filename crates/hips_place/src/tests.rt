@@ -1,0 +1,109 @@
+//! Places over a door in memory.
+use crate::{PlaceEnd, serve_place};
+use generation::Generation;
+use leaf_store::Store;
+use log::Log;
+use parent_rule::Steps;
+use reader_pin::Solo;
+use std::alloc::{AllocError, Global};
+use std::sync::{Arc, Wait};
+use std::test::Fail;
+use std::thread::Threads;
+use std::time::Clock;
+use survey_conf::Conf;
+use survey_core::State;
+use survey_link::{MemDoor, MemSink, MemSource, OpenGate};
+
+// A survey of order 4 whose tiles have two columns and two lines of 16 bits.
+static SURVEY: &str = "creator_did = ivo://example/P/one
+obs_title = Survey one
+hips_release_date = 2024-05-01T00:00Z
+hips_status = public master clonable
+hips_order = 4
+hips_tile_width = 2
+survey_bitpix = 16
+survey_blank = -32768
+";
+
+// The board of the survey, without leaves.
+fn opened<R: Threads + Sync + Clock + Log>(rt: &R, alloc: Global) -> Result<Solo, Fail> {
+    let conf = Arc::new(alloc, Conf::read(alloc, SURVEY.as_bytes())?)?;
+    let generation = Generation::start(
+        rt,
+        alloc,
+        conf,
+        Store::new(alloc),
+        &OpenGate::new(),
+        &mut Steps::new(),
+    )?;
+    let state = State::start(alloc, Arc::new(alloc, generation)?)?;
+    Ok(Solo::new(alloc, state)?)
+}
+
+static PIN: &[u8] = b"POST /pin HTTP/1.1\r\nHost: a\r\n\r\n";
+
+static PINNED: &[u8] =
+    b"HTTP/1.1 200 OK\r\nContent-Type: text/plain\r\nContent-Length: 9\r\nSurvey-Prefix: 0\r\n\r\npinned 0\n";
+
+fn client(alloc: Global) -> Result<(MemSource, MemSink), AllocError> {
+    let source = MemSource::new(Vec::from_slice(alloc, PIN)?, 8, Vec::new(alloc));
+    let sink = MemSink::new(alloc, 1024, Vec::new(alloc))?;
+    Ok((source, sink))
+}
+
+// A door through which two clients come, whose accept with this number fails.
+fn door_of(alloc: Global, fails: u64) -> Result<MemDoor, AllocError> {
+    let mut clients = Vec::new(alloc);
+    clients.push(client(alloc)?)?;
+    clients.push(client(alloc)?)?;
+    MemDoor::new(alloc, clients, Vec::from_slice(alloc, &[fails])?)
+}
+
+// How many of the clients were served and given back.
+fn served(door: &MemDoor) -> usize {
+    (0..2)
+        .filter(|i| match door.given(*i) {
+            Some((_, sink)) => sink.bytes() == PINNED,
+            None => false,
+        })
+        .count()
+}
+
+// How a place ends that takes so many connections, and how many of them it serves.
+fn place<R: Threads + Wait + Sync + Clock + Log>(
+    rt: &R,
+    alloc: Global,
+    most: u32,
+    fails: u64,
+) -> Result<(PlaceEnd, usize), Fail> {
+    let mut board = opened(rt, alloc)?;
+    let mut door = door_of(alloc, fails)?;
+    let end = serve_place(
+        rt,
+        alloc,
+        &mut board,
+        &mut door,
+        most,
+        &OpenGate::new(),
+        &mut Steps::new(),
+    );
+    Ok((end, served(&door)))
+}
+
+// Each row: how many connections are to be taken, the accept that fails, how the place ends, and how many were served.
+static PLACES: [(u32, u64, PlaceEnd, usize); 5] = [
+    (0, 9, PlaceEnd::Done, 0),
+    (1, 9, PlaceEnd::Done, 1),
+    (2, 9, PlaceEnd::Done, 2),
+    (9, 9, PlaceEnd::Done, 2),
+    (9, 1, PlaceEnd::Failed, 1),
+];
+
+#[test]
+fn a_place_serves_its_connections(rt: HostRuntime) -> Result<(), Fail> {
+    for (most, fails, end, count) in &PLACES {
+        let went = place(&rt, rt.alloc(), *most, *fails)?;
+        assert!(rt; went == (*end, *count), "{most} {fails}");
+    }
+    Ok(())
+}

@@ -1,6 +1,0 @@
-use Rattle.hipsd.proofs.PlaceLemmas.{starved_once}
-use Rattle.hipsd.proofs.place.serve.Goals as goal
-
-pub returns-in-None-clause-served : goal.returns-in-None-clause-served
-returns-in-None-clause-served g c =
-    starved_once (g.B.Board.content c.args.board.now) (g.B.Board.content c.release.new.self) _ c.last-legal.ensures.legal c.release.ensures

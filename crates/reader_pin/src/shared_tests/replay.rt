@@ -1,0 +1,267 @@
+//! One history, and whether it explains what boards told.
+use crate::Published;
+use crate::shared_tests::storm::{Answer, Asked, Call, Seen, Told};
+use edit_journal::Edit;
+use std::alloc::Global;
+use std::process::Abort;
+use std::test::Fail;
+use survey_core::State;
+
+/// What the history is after so many edits, and what boards told of it.
+#[derive(Clone, Copy)]
+struct Place {
+    // The edit behind it, and the leaves before that one, a bit each.
+    edit: Asked,
+    leaves: u32,
+    // Whether a batch ends here.
+    is_end: bool,
+    // How many calls made the edit behind it, and how many publications published the edits before it.
+    made: u32,
+    published: u32,
+    // Whether a board saw so many edits published.
+    is_tip: bool,
+    // The least and the greatest number of published edits that a board saw with so many edits.
+    least: u32,
+    most: u32,
+}
+
+/// The history that all boards have seen in the end.
+#[derive(Drop)]
+pub(crate) struct Replay {
+    places: Vec<Place>,
+    last: Seen,
+}
+
+// The bit of a leaf.
+fn bit(leaf: u32) -> u32 {
+    1 << (leaf % 16)
+}
+
+// The leaves after an edit.
+fn after(leaves: u32, edit: Asked) -> u32 {
+    if edit.kind == 3 {
+        return leaves & !bit(edit.leaf);
+    }
+    leaves | bit(edit.leaf)
+}
+
+// The fault of an edit: 1 to add a leaf that is there, 2 to replace or to remove one that isn't, 0 for none.
+fn fault(leaves: u32, edit: Asked) -> u8 {
+    let is_there = leaves & bit(edit.leaf) != 0;
+    match edit.kind {
+        0 => 0,
+        1 => u8::from(is_there),
+        _ => { if is_there { 0 } else { 2 } }
+    }
+}
+
+// What was asked for by an edit.
+fn asked(edit: &Edit) -> Option<Asked> {
+    let kind = match edit {
+        Edit::Put { .. } => 0,
+        Edit::Add { .. } => 1,
+        Edit::Replace { .. } => 2,
+        Edit::Remove { .. } => 3,
+    };
+    let leaf = u32::try_from(edit.leaf()).ok()?;
+    Some(Asked { kind, leaf })
+}
+
+impl Replay {
+    /// The history that leads to a state.
+    pub(crate) fn of(alloc: Global, state: &State) -> Result<Replay, Fail> {
+        let journal = state.journal();
+        let mut places = Vec::new(alloc);
+        let mut leaves = 0;
+        for k in 0..=journal.len() {
+            let edit = journal
+                .edit(k)
+                .and_then(asked)
+                .unwrap_or(Asked { kind: 4, leaf: 0 });
+            places.push(Place {
+                edit,
+                leaves,
+                is_end: journal.is_end(k),
+                made: 0,
+                published: 0,
+                is_tip: false,
+                least: u32::MAX,
+                most: 0,
+            })?;
+            leaves = after(leaves, edit);
+        }
+        let last = Seen {
+            edits: state.edits(),
+            tip: state.tip(),
+        };
+        Ok(Replay { places, last })
+    }
+
+    fn place(&self, k: u32) -> Option<Place> {
+        self.places.get(k as usize).copied()
+    }
+
+    // Whether a batch ends after so many edits.
+    fn is_end(&self, k: u32) -> bool {
+        match self.place(k) {
+            Some(place) => place.is_end,
+            None => false,
+        }
+    }
+
+    // A board saw a state.
+    fn see(&mut self, seen: Seen) {
+        if let Some(place) = self.places.get_mut(seen.tip as usize) {
+            place.is_tip = true;
+        }
+        if let Some(place) = self.places.get_mut(seen.edits as usize) {
+            place.least = place.least.min(seen.tip);
+            place.most = place.most.max(seen.tip);
+        }
+    }
+
+    // Somebody made an edit; whether it is the history's.
+    fn make(&mut self, k: u32, edit: Asked) -> bool {
+        match self.places.get_mut(k as usize) {
+            Some(place) => {
+                place.made = place.made.saturating_add(1);
+                place.edit.kind == edit.kind && place.edit.leaf == edit.leaf
+            }
+            None => false,
+        }
+    }
+
+    // Whether a batch of so many edits stands just before there.
+    fn has_batch(&mut self, first: Asked, count: u32, number: u32) -> bool {
+        let Some(start) = number.checked_sub(count) else {
+            return false;
+        };
+        let mut is_one = self.is_end(start) && self.is_end(number);
+        for at in 0..count {
+            let k = start.saturating_add(at);
+            is_one &= self.make(k, first.behind(at)) && (at == 0 || !self.is_end(k));
+        }
+        is_one
+    }
+
+    // Whether the first edit of a batch with a fault, after so many edits, is the one at that place.
+    fn has_fault(&self, first: Asked, at: u32, number: u8, edits: u32) -> bool {
+        let Some(place) = self.place(edits) else {
+            return false;
+        };
+        let mut leaves = place.leaves;
+        for before in 0..at {
+            let edit = first.behind(before);
+            if fault(leaves, edit) != 0 {
+                return false;
+            }
+            leaves = after(leaves, edit);
+        }
+        place.is_end && number != 0 && fault(leaves, first.behind(at)) == number
+    }
+
+    // Whether the leaf of the edit before there was absent.
+    fn was_absent(&self, edit: Asked, number: u32) -> bool {
+        match self.place(number.saturating_sub(1)) {
+            Some(place) => place.leaves & bit(edit.leaf) == 0,
+            None => false,
+        }
+    }
+
+    // Somebody published so many edits; whether a batch ends there.
+    fn publish(&mut self, k: u32) -> bool {
+        match self.places.get_mut(k as usize) {
+            Some(place) => {
+                place.published = place.published.saturating_add(1);
+                place.is_end
+            }
+            None => false,
+        }
+    }
+
+    // Whether the history explains an answer, where that was the last state seen before.
+    fn explains(&mut self, before: Seen, told: Told) -> bool {
+        let last = told.last;
+        match (told.call, told.answer) {
+            (Call::Edit(edit), Answer::Accepted(number, Some(created))) => {
+                number == last.edits
+                    && number > before.edits
+                    && self.has_batch(edit, 1, number)
+                    && self.was_absent(edit, number) == created
+            }
+            (Call::Batch(first, count), Answer::Accepted(number, None)) => {
+                number == last.edits
+                    && number >= before.edits.saturating_add(count)
+                    && self.has_batch(first, count, number)
+            }
+            (Call::Edit(edit), Answer::Fault(at, fault, edits)) => {
+                let is_seen = before.edits <= edits && edits <= last.edits;
+                at == 0 && is_seen && self.has_fault(edit, 0, fault, edits)
+            }
+            (Call::Batch(first, count), Answer::Fault(at, fault, edits)) => {
+                let is_seen = before.edits <= edits && edits <= last.edits;
+                at < count && is_seen && self.has_fault(first, at, fault, edits)
+            }
+            (Call::Publish, Answer::Published(Published::New(k))) => {
+                k == last.tip && k >= before.edits && k > before.tip && self.publish(k)
+            }
+            (Call::Publish, Answer::Published(Published::Already(k))) => {
+                k == last.tip && k == last.edits
+            }
+            (Call::Pin, Answer::Nothing) => true,
+            (Call::Hold, Answer::Nothing) | (Call::Release, Answer::Nothing) => last == before,
+            _ => false,
+        }
+    }
+
+    /// The history explains all that a board told.
+    pub(crate) fn explain_all<R: Abort>(&mut self, rt: &R, all: &[Told]) -> Result<(), Fail> {
+        let mut before = Seen { edits: 0, tip: 0 };
+        let mut held = None;
+        for told in all {
+            match told.call {
+                Call::Hold => held = Some(told.last),
+                Call::Release => held = None,
+                _ => {}
+            }
+            let last = told.last;
+            self.see(last);
+            let rises = before.edits <= last.edits
+                && before.tip <= last.tip
+                && last.tip <= last.edits;
+            assert!(rt;
+                rises && held == told.held && self.explains(before, *told),
+                "{told:?} after {before:?}"
+            );
+            before = last;
+        }
+        Ok(())
+    }
+
+    /// Each edit was made once, each tip was published once, and all states that were seen follow one another.
+    pub(crate) fn end<R: Abort>(&self, rt: &R) -> Result<(), Fail> {
+        let mut most = 0;
+        let mut k = 0;
+        for place in &self.places {
+            assert!(rt;
+                place.made == u32::from(k < self.last.edits),
+                "edit {k} was made {} times",
+                place.made
+            );
+            assert!(rt;
+                place.published == u32::from(place.is_tip && k > 0),
+                "{k} was published {} times",
+                place.published
+            );
+            assert!(rt;
+                place.least >= most,
+                "with {k} edits only {} were published",
+                place.least
+            );
+            most = most.max(place.most);
+            k = k.saturating_add(1);
+        }
+        assert_eq!(rt; most, self.last.tip);
+        Ok(())
+    }
+}

@@ -1,0 +1,85 @@
+//! A history of plain numbers.
+ghost use Rattle.std.specs.Prelude.{◌≡◌};
+
+use crate::{Blank, Law, Naming, Seat, SharedHistory, Shown};
+use std::alloc::{AllocError, Global};
+use std::marker::Brand;
+use std::process::Abort;
+use std::sync::Wait;
+use std::test::Fail;
+
+// Any numbers are a history.
+struct Numbers;
+
+impl Law<u64> for Numbers {
+    ghost legal = { λ _. Unit {0} };
+}
+
+// Appends a number.
+fn add<J: Naming, R: Wait>(
+    rt: &R,
+    history: &SharedHistory<u64, Numbers, J>,
+    number: u64,
+) -> Result<Shown<u64, Numbers, J>, AllocError> {
+    let mut desk = history.lock(rt);
+    (**desk).append(rt, number)
+}
+
+// How many numbers were seen, and the last of them.
+fn seen<J: Naming>(shown: &Shown<u64, Numbers, J>) -> (u64, u64) {
+    (shown.len(), **shown.last())
+}
+
+// How many numbers the other has seen and the last of them, where these are more.
+fn more<J: Naming>(
+    shown: &Shown<u64, Numbers, J>,
+    other: &Shown<u64, Numbers, J>,
+) -> Result<Option<(u64, u64)>, AllocError> {
+    match shown.newer(other)? {
+        Some(more) => Ok(Some(seen(&more))),
+        None => Ok(None),
+    }
+}
+
+// Two numbers are appended, and seen through a window.
+fn appended<J: Naming, R: Wait + Abort>(
+    rt: &R,
+    history: &SharedHistory<u64, Numbers, J>,
+    seat: Seat<u64, Numbers, J>,
+) -> Result<(), Fail> {
+    let (mut window, first) = seat.into_parts();
+    assert_eq!(rt; seen(&first), (1, 7));
+    assert!(rt; window.look(&first).is_none());
+    let second = add(rt, history, 9)?;
+    assert_eq!(rt; seen(&second), (2, 9));
+    add(rt, history, 8)?;
+    let third = window.look(&first).ok_or("nothing was shown")?;
+    assert_eq!(rt; seen(&third), (3, 8));
+    assert_eq!(rt; more(&first, &second)?, Some((2, 9)));
+    assert_eq!(rt; more(&third, &third)?, None);
+    assert!(rt; more(&third, &second).is_err());
+    Ok(())
+}
+
+// Opens a history with two seats, and ends it.
+fn opened<J: Naming, R: Wait + Abort>(
+    rt: &R,
+    alloc: Global,
+    book: Blank<u64, Numbers>,
+) -> Result<(), Fail>
+    requires { book ≡ J.book }
+{
+    let (history, mut seats): (SharedHistory<u64, Numbers, J>, Vec<Seat<u64, Numbers, J>>) =
+        book.open(rt, alloc, 7, 2)?;
+    let told = match seats.pop() {
+        Some(seat) => appended(rt, &history, seat),
+        None => Err("no seat".into()),
+    };
+    history.close(rt);
+    told
+}
+
+#[test]
+fn numbers_are_appended_and_seen(rt: HostRuntime) -> Result<(), Fail> {
+    opened::<Brand, HostRuntime>(&rt, rt.alloc(), Blank::new())
+}

@@ -1,0 +1,240 @@
+#!/bin/bash
+# Tries `hipsd serve` over real sockets as clients use it: with curl, with many connections of Python's standard library that
+# edit, publish and read at once, and with astropy and stilts where they are installed. It starts the built program on a free
+# port of the loopback, over a survey of its own, and ends the server that it started.
+#
+#     scripts/check-serve.sh [PROGRAM [SECONDS]]
+#
+# PROGRAM is crates/hipsd/out/hipsd if none is named, which `rt run` leaves there (check-statuses.sh has it built). SECONDS is how
+# long the many connections go on, 20 if not said. Where curl or Python is missing this fails if CI=true, and else says so.
+PATH=$PATH:/usr/sbin
+cd "$(dirname "$0")/.." || exit 1
+program=$(realpath -e "${1:-crates/hipsd/out/hipsd}") || { echo "check-serve: there is no built hipsd" >&2; exit 1; }
+seconds=${2:-20}
+python=/usr/bin/python3
+scripts=$PWD/scripts
+examples=$PWD/examples
+missing=
+command -v curl >/dev/null 2>&1 || missing="$missing curl"
+[ -x "$python" ] || missing="$missing python3"
+if [ -n "$missing" ]; then
+    echo "check-serve: LEFT OUT, the server was not tried: not installed here:$missing"
+    [ "${CI:-}" = true ] && exit 1
+    exit 0
+fi
+
+folder=$(mktemp -d) || exit 1
+server=
+# shellcheck disable=SC2317 # it is called by the trap
+end() {
+    [ -n "$server" ] && kill "$server" 2>/dev/null && wait "$server" 2>/dev/null
+    rm -rf "$folder"
+}
+trap end EXIT
+wrong=0
+blame() {
+    echo "check-serve: $*" >&2
+    wrong=1
+}
+
+mkdir "$folder/survey" && cd "$folder/survey" || exit 1
+"$python" - "$scripts" <<'PYTHON' || exit 1
+import sys
+from pathlib import Path
+
+sys.path.insert(0, sys.argv[1])
+from survey_files import Survey, image, tile_path
+
+survey = Survey("serve", "Survey serve", top=5, low=3, width=8)
+Path("survey.conf").write_bytes(survey.description())
+Path("../leaf").write_bytes(image(8, 8, range(64), ("ORDER", 5), ("NPIX", 7)))
+Path("../tile").write_bytes(survey.tile({7: list(range(64))}, 3, 0))
+PYTHON
+free_port() {
+    "$python" -c 'import socket; s = socket.socket(); s.bind(("127.0.0.1", 0)); print(s.getsockname()[1])'
+}
+
+# start CONNECTIONS PLACES: the server, once it answers.
+start() {
+    port=$(free_port)
+    base=http://127.0.0.1:$port
+    "$program" serve "127.0.0.1:$port" "$1" "$2" >"$folder/output" 2>"$folder/log" &
+    server=$!
+    for _ in $(seq 1200); do
+        (exec 3<>"/dev/tcp/127.0.0.1/$port") 2>/dev/null && return
+        kill -0 "$server" 2>/dev/null || break
+        sleep 0.05
+    done
+    cat "$folder/log" >&2
+    echo "check-serve: the server doesn't listen" >&2
+    exit 1
+}
+
+# stop: ends it.
+stop() {
+    kill "$server" 2>/dev/null
+    wait "$server" 2>/dev/null
+    server=
+}
+
+# ---- the command line
+
+"$program" serve 127.0.0.1:1 0 1 >"$folder/output" 2>/dev/null
+[ $? = 1 ] || blame "no connections, and the status isn't 1"
+"$program" serve 127.0.0.1:1 1 65 >"$folder/output" 2>/dev/null
+[ $? = 1 ] || blame "65 places, and the status isn't 1"
+[ "$(cat "$folder/output")" = "usage: hipsd COMMAND" ] || blame "65 places, and no usage line"
+
+# ---- curl
+
+start 65536 4
+
+# asks CODE WORD ..: curl's WORDs, and the code of the reply.
+asks() {
+    code=$1
+    shift
+    got=$(curl -s -o "$folder/body" -w '%{http_code}' --max-time 20 "$@")
+    [ "$got" = "$code" ] || blame "curl $*: $got in place of $code"
+}
+leaf=$base/Norder5/Dir0/Npix7.fits
+asks 404 "$leaf"
+asks 201 -T "$folder/leaf" -H 'Expect:' "$leaf"
+asks 204 -T "$folder/leaf" -H 'Expect: 100-continue' "$leaf"
+asks 412 -T "$folder/leaf" -H 'If-None-Match: *' "$leaf"
+asks 200 -X POST "$base/publish"
+[ "$(cat "$folder/body")" = "published 2" ] || blame "POST publish is answered $(cat "$folder/body")"
+asks 200 "$base/Norder3/Dir0/Npix0.fits"
+cmp -s "$folder/body" "$folder/tile" || blame "the tile above the leaf isn't the mean of its pixels"
+asks 200 --http1.0 "$base/properties"
+grep -q '^survey_leaves = 1$' "$folder/body" || blame "properties by HTTP/1.0: $(cat "$folder/body")"
+asks 405 -X PUT -d '' "$base/properties"
+asks 405 -X BREW "$base/properties"
+asks 411 -X PUT -H 'Content-Length:' "$leaf"
+asks 422 -X PUT -d 'no tile' "$leaf"
+asks 400 -H 'Host:' "$base/properties"
+asks 501 -X PUT -H 'Transfer-Encoding: chunked' -d x "$leaf"
+# raw CODE REQUEST: the code of the reply to these bytes, a format of printf.
+raw() {
+    exec 3<>"/dev/tcp/127.0.0.1/$port" || return
+    printf "$2" >&3
+    read -r -t 20 _ got _ <&3
+    exec 3>&-
+    [ "$got" = "$1" ] || blame "$2: $got in place of $1"
+}
+raw 505 'GET / HTTP/1.2\r\nHost: a\r\n\r\n'
+raw 400 'GET / HTTP/1.1\r\n\r\n'
+raw 413 'PUT /Norder5/Dir0/Npix7.fits HTTP/1.1\r\nHost: a\r\nContent-Length: 99999999999\r\n\r\n'
+raw 431 "GET /$(printf '%08200d' 0) HTTP/1.1\r\nHost: a\r\n\r\n"
+[ "$(curl -s -I --max-time 20 "$base/Moc.fits" | tr -d '\r' | sed -n 's/^Content-Length: //p')" = 8640 ] || blame "HEAD of Moc.fits"
+opened=$(curl -s -v --max-time 20 "$base/properties" "$base/Moc.fits" "$base/Norder3/Allsky.fits" 2>&1 >/dev/null | grep -c '^\* Connected')
+[ "$opened" = 1 ] || blame "three files of one curl took $opened connections"
+# More clients than places, each of which closes: all are served.
+for _ in $(seq 40); do curl -s --max-time 20 -H 'Connection: close' "$base/properties" >/dev/null & done
+asks 200 -H 'Connection: close' "$base/properties"
+for client in $(jobs -p); do [ "$client" = "$server" ] || wait "$client"; done
+
+# ---- tools of others
+
+if "$python" -c 'import astropy' 2>/dev/null; then
+    "$python" - "$base" <<'PYTHON' || blame "astropy"
+import io
+import sys
+from urllib.request import urlopen
+
+from astropy.io import fits
+
+with fits.open(io.BytesIO(urlopen(sys.argv[1] + "/Norder5/Dir0/Npix7.fits").read())) as file:
+    assert file[0].data.shape == (8, 8) and file[0].data.sum() == sum(range(64)), "the leaf"
+with fits.open(io.BytesIO(urlopen(sys.argv[1] + "/Norder3/Allsky.fits").read())) as file:
+    assert file[0].data.shape == (29 * 8, 27 * 8), "the mosaic"
+with fits.open(io.BytesIO(urlopen(sys.argv[1] + "/Moc.fits").read())) as file:
+    assert [int(row[0]) for row in file[1].data] == [4 * 4**5 + 7], "the coverage"
+PYTHON
+else
+    echo "check-serve: left out: python3-astropy"
+fi
+if command -v stilts >/dev/null 2>&1; then
+    rows=$(stilts tpipe ifmt=fits in="$base/Moc.fits" omode=out ofmt=csv out=- 2>/dev/null | tail -1)
+    [ "$rows" = 4103 ] || blame "stilts reads '$rows' in the coverage"
+else
+    echo "check-serve: left out: stilts"
+fi
+
+# ---- the examples: edits by curl, and a proxy
+
+edit() {
+    HIPSD=$base ORDER=5 "$examples/edit.sh" "$@" >"$folder/body" 2>&1
+}
+edit put 8 "$folder/leaf" || blame "edit.sh put: $(cat "$folder/body")"
+edit add 8 "$folder/leaf" && blame "edit.sh add, of a leaf that is there: $(cat "$folder/body")"
+edit replace 8 "$folder/leaf" || blame "edit.sh replace: $(cat "$folder/body")"
+edit publish && grep -q '^published 4$' "$folder/body" || blame "edit.sh publish: $(cat "$folder/body")"
+{ printf 'put 9 %d\n' "$(wc -c <"$folder/leaf")" && cat "$folder/leaf" && printf 'remove 8\n'; } >"$folder/batch"
+edit batch <"$folder/batch" && grep -q '^accepted 2$' "$folder/body" || blame "edit.sh batch: $(cat "$folder/body")"
+edit publish || blame "edit.sh publish: $(cat "$folder/body")"
+mkdir "$folder/read" && cd "$folder/read" || exit 1
+edit read properties Moc.fits Norder3/Dir0/Npix0.fits || blame "edit.sh read: $(cat "$folder/body")"
+[ "$(tail -n 1 properties)" = 'survey_leaves = 2' ] && [ -s Moc.fits ] && [ -s Npix0.fits ] || blame "edit.sh read: $(ls)"
+cd "$folder/survey" || exit 1
+
+if command -v nginx >/dev/null 2>&1; then
+    web=$(free_port)
+    printf 'editor:{PLAIN}secret\n' >"$folder/users"
+    chmod 755 "$folder" && chmod 644 "$folder/users"
+    sed -e "s/127.0.0.1:8080/127.0.0.1:$port/" -e "s/listen 80;/listen 127.0.0.1:$web;/" -e '/listen \[::\]:80;/d' \
+        -e "s#/etc/nginx/hipsd.users#$folder/users#" -e "s#/var/cache/nginx/hipsd#$folder/cache#" "$examples/nginx.conf" >"$folder/site"
+    printf 'worker_processes 1;\npid %s/nginx.pid;\nerror_log %s/nginx.log;\nevents { }\nhttp { access_log off; client_body_temp_path %s/bodies; include %s/site; }\n' \
+        "$folder" "$folder" "$folder" "$folder" >"$folder/nginx.conf"
+    if nginx -c "$folder/nginx.conf" -p "$folder" 2>"$folder/refused"; then
+        proxy=http://127.0.0.1:$web
+        asks 200 "$proxy/survey/properties"
+        cmp -s "$folder/body" "$folder/read/properties" || blame "the proxy gives other properties"
+        asks 200 "$proxy/survey/Norder3/Allsky.fits"
+        curl -s -I --max-time 20 "$proxy/survey/Moc.fits" | grep -qi '^access-control-allow-origin: \*' || blame "the proxy has no cross-origin field"
+        asks 403 -X DELETE "$proxy/survey/Norder5/Dir0/Npix9.fits"
+        asks 401 -X DELETE "$proxy/edit/Norder5/Dir0/Npix9.fits"
+        asks 204 -u editor:secret -X DELETE "$proxy/edit/Norder5/Dir0/Npix9.fits"
+        asks 201 -u editor:secret -T "$folder/leaf" "$proxy/edit/Norder5/Dir0/Npix10.fits"
+        asks 200 -u editor:secret -X POST "$proxy/edit/publish"
+        sleep 2
+        asks 404 "$proxy/survey/Norder5/Dir0/Npix9.fits"
+        asks 200 "$proxy/survey/Norder5/Dir0/Npix10.fits"
+        kill "$(cat "$folder/nginx.pid")"
+    else
+        blame "nginx: $(cat "$folder/refused")"
+    fi
+else
+    echo "check-serve: left out: nginx"
+fi
+
+# ---- an address in use
+
+"$program" serve "127.0.0.1:$port" 1 1 >"$folder/output" 2>"$folder/refused"
+[ $? = 8 ] || blame "an address in use, and the status isn't 8"
+grep -q "127.0.0.1:$port" "$folder/refused" || blame "an address in use isn't named: $(cat "$folder/refused")"
+stop
+
+# ---- the same address at once after a restart, and places that end by themselves
+
+"$program" serve "127.0.0.1:$port" 1 2 >"$folder/output" 2>"$folder/log" &
+server=$!
+for _ in 1 2; do
+    for _ in $(seq 100); do
+        curl -s --max-time 5 -H 'Connection: close' "$base/properties" >"$folder/body" && break
+        sleep 0.1
+    done
+done
+wait "$server"
+ended=$?
+server=
+[ "$ended" = 0 ] || blame "two places of one connection end with status $ended: $(cat "$folder/log")"
+[ -s "$folder/output" ] && blame "the server wrote to standard output"
+
+# ---- many connections at once
+
+start 65536 20
+"$python" "$scripts/serve-client.py" "$port" "$seconds" 16 || wrong=1
+kill -0 "$server" 2>/dev/null || blame "the server ended while it was tried"
+stop
+[ "$wrong" = 0 ] && echo "check-serve: the server did as it must"
+exit "$wrong"
