@@ -16,8 +16,6 @@ mod reply;
 mod send;
 mod served;
 mod step;
-#[cfg(test)]
-mod tests;
 mod text;
 
 pub use connection::{session, session_in};

@@ -15,8 +15,6 @@ mod order;
 mod refusal;
 mod spelling;
 mod strays;
-#[cfg(test)]
-mod tests;
 mod verdict;
 mod verifying;
 
