@@ -5,16 +5,18 @@ use crate::conversations::{EDIT, EDITED};
 use crate::rows::{push_replies, push_requests, replies, requests};
 use crate::surveys::{SURVEY, opened, serve};
 use hips_http::SessionEnd;
+use log::Log;
 use parent_rule::Steps;
 use std::alloc::Global;
 use std::sync::Wait;
 use std::test::Fail;
 use std::thread::Threads;
+use std::time::Clock;
 use survey_link::{MemSink, MemSource, OpenGate};
 
 // Serves a connection over the survey without leaves, with the bytes in pieces of some size, where the reads and the writes
 // with these numbers fail, and answers how it ends.
-fn breaks<R: Threads + Wait + Sync>(
+fn breaks<R: Threads + Wait + Sync + Clock + Log>(
     rt: &R,
     alloc: Global,
     input: &[u8],
@@ -41,7 +43,7 @@ fn breaks<R: Threads + Wait + Sync>(
 }
 
 // Whether the connection of these bytes ends so with this output where the read with that number fails.
-fn ends<R: Threads + Wait + Sync>(
+fn ends<R: Threads + Wait + Sync + Clock + Log>(
     rt: &R,
     alloc: Global,
     input: &[u8],
@@ -59,7 +61,7 @@ fn ends<R: Threads + Wait + Sync>(
 
 // Whether the output is all that is written where only the first bytes of the input come, and where all come but the read
 // behind these fails. `begun` bytes are whole requests.
-fn is_cut<R: Threads + Wait + Sync>(
+fn is_cut<R: Threads + Wait + Sync + Clock + Log>(
     rt: &R,
     alloc: Global,
     input: &[u8],
@@ -88,12 +90,6 @@ fn is_cut<R: Threads + Wait + Sync>(
     )
 }
 
-// Whether a cut behind so many bytes is tried: some within each head, and fewer within the body of a tile.
-fn is_tried(at: usize, begun: usize) -> bool {
-    let within = at.saturating_sub(begun);
-    within % 256 == 0 || within < 100 && within % 4 == 0
-}
-
 #[test]
 fn a_cut_input_is_answered_up_to_its_last_whole_request(rt: HostRuntime) -> Result<(), Fail> {
     let alloc = rt.alloc();
@@ -103,8 +99,10 @@ fn a_cut_input_is_answered_up_to_its_last_whole_request(rt: HostRuntime) -> Resu
         let begun = input.len();
         push_requests(alloc, &mut input, asked)?;
         for at in begun..input.len() {
-            let is_well = !is_tried(at, begun) || is_cut(&rt, alloc, &input, at, begun, &output)?;
-            assert!(rt; is_well, "{asked}, cut at {at}");
+            assert!(rt;
+                is_cut(&rt, alloc, &input, at, begun, &output)?,
+                "{asked}, cut at {at}"
+            );
         }
         push_replies(alloc, &mut output, answered)?;
     }
@@ -113,7 +111,7 @@ fn a_cut_input_is_answered_up_to_its_last_whole_request(rt: HostRuntime) -> Resu
 
 // Whether the connection that edits and publishes ends so where the write or flush with that number fails, with a first part
 // of its output, or all of it.
-fn fails<R: Threads + Wait + Sync>(
+fn fails<R: Threads + Wait + Sync + Clock + Log>(
     rt: &R,
     alloc: Global,
     call: u64,

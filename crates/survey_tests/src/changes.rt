@@ -5,6 +5,7 @@ use crate::rows::{push_requests, requests};
 use crate::surveys::{SURVEY, opened, serve};
 use generation::{Body, Generation, Parts};
 use hips_http::SessionEnd;
+use log::Log;
 use parent_rule::Steps;
 use reader_pin::{Board, Solo};
 use std::alloc::{AllocError, Global};
@@ -12,11 +13,12 @@ use std::sync::Wait;
 use std::sync::atomic::{AtomicU64, Ordering};
 use std::test::Fail;
 use std::thread::Threads;
+use std::time::Clock;
 use survey_link::{Gate, MemSink, MemSource, OpenGate};
 use tile_path::Path;
 
 // Sends these requests to the board, as one connection, and says whether it was closed at their end.
-fn sends<R: Threads + Wait + Sync, G: Gate + Sync>(
+fn sends<R: Threads + Wait + Sync + Clock + Log, G: Gate + Sync>(
     rt: &R,
     alloc: Global,
     board: &mut Solo,
@@ -58,7 +60,10 @@ static ONE_LEAF: &str = "PUT /Norder4/Dir0/Npix0.fits;Content-Length: 2888|tile 
 POST /publish";
 
 // How many pass the gate for the last edit.
-fn passes_of_the_last<R: Threads + Wait + Sync>(rt: &R, alloc: Global) -> Result<u64, Fail> {
+fn passes_of_the_last<R: Threads + Wait + Sync + Clock + Log>(
+    rt: &R,
+    alloc: Global,
+) -> Result<u64, Fail> {
     let mut board = opened(rt, alloc, SURVEY)?;
     let open = OpenGate::new();
     let gate = Counting {
@@ -227,7 +232,7 @@ fn are_same(alloc: Global, one: &Generation, other: &Generation) -> Result<bool,
 }
 
 // The generation of the same leaves, made at once.
-fn at_once<R: Threads + Sync>(
+fn at_once<R: Threads + Sync + Clock + Log>(
     rt: &R,
     alloc: Global,
     generation: &Generation,
@@ -239,7 +244,11 @@ fn at_once<R: Threads + Sync>(
 }
 
 // Whether the board's generation is that of all its edits, and has the files that its leaves make.
-fn is_made<R: Threads + Sync>(rt: &R, alloc: Global, board: &Solo) -> Result<bool, Fail> {
+fn is_made<R: Threads + Sync + Clock + Log>(
+    rt: &R,
+    alloc: Global,
+    board: &Solo,
+) -> Result<bool, Fail> {
     let state = board.last();
     let whole = at_once(rt, alloc, state.generation())?;
     Ok(state.tip() == state.edits() && are_same(alloc, &whole, state.generation())?)
@@ -256,7 +265,7 @@ survey_blank = -32768
 ";
 
 // Whether each step makes what the leaves make, over a survey whose description ends by these lines.
-fn goes<R: Threads + Wait + Sync>(
+fn goes<R: Threads + Wait + Sync + Clock + Log>(
     rt: &R,
     alloc: Global,
     top: u8,

@@ -2,11 +2,13 @@
 use crate::rows::{push_replies, push_requests};
 use crate::surveys::{SURVEY, answers, opened};
 use hips_http::SessionEnd;
+use log::Log;
 use parent_rule::Steps;
 use std::alloc::Global;
 use std::sync::Wait;
 use std::test::Fail;
 use std::thread::Threads;
+use std::time::Clock;
 
 // The survey with a rule of its own, or without one.
 const MEDIANS: &str = "creator_did = ivo://example/P/one
@@ -448,7 +450,7 @@ PUT /Norder4/Dir0/Npix0.fits;Content-Length: 5761|tile 4 0&short 1 2 3 5&spaces 
 ];
 
 // Whether the connection of a row goes so: its requests are answered by these replies, and it ends so.
-fn goes<R: Threads + Wait + Sync>(
+fn goes<R: Threads + Wait + Sync + Clock + Log>(
     rt: &R,
     alloc: Global,
     conf: &str,

@@ -2,12 +2,14 @@
 use crate::rows::{push_body, replies, requests};
 use crate::surveys::{SURVEY, answers, opened, serve};
 use hips_http::SessionEnd;
+use log::Log;
 use parent_rule::Steps;
 use reader_pin::{Board, Solo};
 use std::alloc::Global;
 use std::sync::Wait;
 use std::test::Fail;
 use std::thread::Threads;
+use std::time::Clock;
 use survey_link::{MemSink, MemSource, OpenGate};
 
 // A survey of order 11, and one that goes down to order 0.
@@ -46,7 +48,7 @@ static FAR_ANSWERED: &str = "201 Created;Content-Length: 0;Survey-Edits: 1
 200 OK;Content-Type: application/fits;Content-Length: 5760;Survey-Prefix: 2";
 
 // Whether these requests have these replies, as one connection over the board that is closed at their end.
-fn asks<R: Threads + Wait + Sync>(
+fn asks<R: Threads + Wait + Sync + Clock + Log>(
     rt: &R,
     alloc: Global,
     board: &mut Solo,
@@ -60,7 +62,7 @@ fn asks<R: Threads + Wait + Sync>(
 }
 
 // Whether the two leaves are published, the survey has so many files then, and at most so many tiles were read or merged.
-fn is_published<R: Threads + Wait + Sync>(
+fn is_published<R: Threads + Wait + Sync + Clock + Log>(
     rt: &R,
     alloc: Global,
     conf: &str,
@@ -96,7 +98,11 @@ fn batch_of_256(alloc: Global) -> Result<Vec<u8>, Fail> {
 }
 
 // Has the board accept 65,536 edits, by 256 connections of that batch.
-fn fill<R: Threads + Wait + Sync>(rt: &R, alloc: Global, board: &mut Solo) -> Result<(), Fail> {
+fn fill<R: Threads + Wait + Sync + Clock + Log>(
+    rt: &R,
+    alloc: Global,
+    board: &mut Solo,
+) -> Result<(), Fail> {
     let batch = batch_of_256(alloc)?;
     for _ in 0..256 {
         send(rt, alloc, board, &batch)?;
@@ -105,7 +111,7 @@ fn fill<R: Threads + Wait + Sync>(rt: &R, alloc: Global, board: &mut Solo) -> Re
 }
 
 // Sends the input as a connection.
-fn send<R: Threads + Wait + Sync>(
+fn send<R: Threads + Wait + Sync + Clock + Log>(
     rt: &R,
     alloc: Global,
     board: &mut Solo,

@@ -2,12 +2,14 @@
 use generation::Generation;
 use hips_http::{SessionEnd, session};
 use leaf_store::Store;
+use log::Log;
 use parent_rule::Steps;
 use reader_pin::Solo;
 use std::alloc::Global;
 use std::sync::{Arc, Wait};
 use std::test::Fail;
 use std::thread::Threads;
+use std::time::Clock;
 use survey_conf::Conf;
 use survey_core::State;
 use survey_link::{Gate, MemSink, MemSource, OpenGate};
@@ -24,7 +26,11 @@ survey_blank = -32768
 ";
 
 // The board of the survey with that description, without leaves.
-pub(crate) fn opened<R: Threads + Sync>(rt: &R, alloc: Global, conf: &str) -> Result<Solo, Fail> {
+pub(crate) fn opened<R: Threads + Sync + Clock + Log>(
+    rt: &R,
+    alloc: Global,
+    conf: &str,
+) -> Result<Solo, Fail> {
     let conf = Arc::new(alloc, Conf::read(alloc, conf.as_bytes())?)?;
     let generation = Generation::start(
         rt,
@@ -39,7 +45,7 @@ pub(crate) fn opened<R: Threads + Sync>(rt: &R, alloc: Global, conf: &str) -> Re
 }
 
 // Serves a connection over the board, and answers how it ends: `OutOfMemory` also where a reply told want of memory.
-pub(crate) fn serve<R: Threads + Wait + Sync, G: Gate + Sync>(
+pub(crate) fn serve<R: Threads + Wait + Sync + Clock + Log, G: Gate + Sync>(
     rt: &R,
     alloc: Global,
     board: &mut Solo,
@@ -56,7 +62,7 @@ pub(crate) fn serve<R: Threads + Wait + Sync, G: Gate + Sync>(
 }
 
 // Whether a connection with that input ends so, and what was written is the output.
-pub(crate) fn answers<R: Threads + Wait + Sync>(
+pub(crate) fn answers<R: Threads + Wait + Sync + Clock + Log>(
     rt: &R,
     alloc: Global,
     board: &mut Solo,
