@@ -1,5 +1,5 @@
 -- Lemmas for the proof that the words of a command line are read exactly.
-use Rattle.std.proofs.Common.{◌≡◌, ◌≢◌, ℕ, zero, suc, ◌^◌, ◌<◌, ◌≤◌, ◌+◌, ◌*◌, List, [], ◌∷◌, length, get_or, decimal, codes, Result, Ok, Err, Option, Some, None, MatchOption, IfNone, refl, sym, ◌∙◌, ap, subst, arith}
+use Rattle.std.proofs.Common.{◌≡◌, ◌≢◌, ℕ, zero, suc, ◌^◌, ◌<◌, ◌≤◌, ◌+◌, ◌*◌, List, [], ◌∷◌, length, get_or, decimal, codes, Result, Ok, Err, Option, Some, None, MatchOption, IfSome, IfNone, refl, sym, ◌∙◌, ap, subst, arith}
 use Rattle.std.proofs.Math.ListN.{drop, drop_of_length-le}
 use Rattle.std.proofs.Math.Seq.{drop-cons}
 use Rattle.std.specs.Result.{result_ok}
@@ -192,13 +192,13 @@ same_command words a b asks_a asks_b = let e : sign_for a ≡ sign_for b = same_
 
 -- a command that needs more doors than there are: the words ask for no other
 pub too_few : (words : List (List ℕ)) (doors : ℕ) (command : Command) → Asks words command → doors < doors_of command → ¬ IsCommandFor doors words
-too_few words doors command asks more (other, (asks', fits)) =
+too_few words doors command asks more (other, asks', fits) =
     let same : doors_of other ≡ doors_of command = ap doors_of (same_command words other command asks' asks) in
     omega arith
 
 -- words that ask for nothing ask for nothing, however many doors there are
 pub none_for : (words : List (List ℕ)) (doors : ℕ) → ¬ IsCommand words → ¬ IsCommandFor doors words
-none_for words doors none (command, (asks, fits)) = none (command, asks)
+none_for words doors none (command, asks, fits) = none (command, asks)
 
 -- no command needs more than 64 doors
 few_doors : (words : List (List ℕ)) (command : Command) → Asks words command → doors_of command ≤ 64
@@ -210,4 +210,17 @@ few_doors words (Make n m) asks = omega arith
 few_doors words (Serve n m) asks = let range : IsServe n m = asks.in_range in omega arith
 
 pub none_at_all : (words : List (List ℕ)) (doors : ℕ) → 64 ≤ doors → ¬ IsCommandFor doors words → ¬ IsCommand words
-none_at_all words doors many none (command, asks) = let few = few_doors words command asks in none (command, (asks, omega arith))
+none_at_all words doors many none (command, asks) = let few = few_doors words command asks in none (command, asks, omega arith)
+
+-- at one address
+pub serve_command : (found : Option Command) (address connections places : List ℕ)
+    → IfSome found (λ command. (any : List ℕ) → Asks (codes "serve" ∷ any ∷ connections ∷ places ∷ []) command)
+    → IfSome found (Asks (codes "serve" ∷ address ∷ connections ∷ places ∷ []))
+serve_command None address connections places asks = tt
+serve_command (Some command) address connections places asks = asks address
+
+pub none_at : (found : Option Command) (address connections places : List ℕ)
+    → IfNone found ((any : List ℕ) (n m : ℕ) → ¬ Asks (codes "serve" ∷ any ∷ connections ∷ places ∷ []) (Serve n m))
+    → IfNone found ((n m : ℕ) → ¬ Asks (codes "serve" ∷ address ∷ connections ∷ places ∷ []) (Serve n m))
+none_at None address connections places none = none address
+none_at (Some command) address connections places none = tt

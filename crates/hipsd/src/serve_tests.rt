@@ -57,11 +57,7 @@ fn door_of(alloc: Global, fails: u64) -> Result<MemDoor, Fail> {
     let sink = MemSink::new(alloc, 1_024, Vec::new(alloc))?;
     let mut clients = Vec::new(alloc);
     clients.push((source, sink))?;
-    Ok(MemDoor::new(
-        alloc,
-        clients,
-        Vec::from_slice(alloc, &[fails])?,
-    )?)
+    Ok(MemDoor::new(alloc, clients, Vec::from_slice(alloc, &[fails])?)?)
 }
 
 // The words CONNECTIONS and PLACES, the accept of the first door that fails, the status, and how many of two doors' clients
@@ -89,7 +85,10 @@ fn serves_the_doors_of_its_places(rt: HostRuntime) -> Result<(), Fail> {
                 None => false,
             })
             .count();
-        assert!(rt; (ended, count) == (*status, *served), "{connections} {places} {fails}");
+        assert!(rt;
+            (ended, count) == (*status, *served),
+            "{connections} {places} {fails}"
+        );
     }
     Ok(())
 }
