@@ -1,6 +1,6 @@
-use Rattle.std.proofs.Common.{rules, arith, ◌∷◌, [], ◌≡◌, codes, get_or, sym, string_bytes}
+use Rattle.std.proofs.Common.{rules, arith, ◌∷◌, [], ◌≡◌, codes, get_or, string_bytes}
 use Rattle.std.proofs.lemmas.List.{get_or_default}
-use Rattle.hipsd.proofs.CommandLemmas.{items_from_reads, no_command, no_make_command, serve_command, none_at, no_serve_command}
+use Rattle.hipsd.proofs.CommandLemmas.{items_from_reads, no_command, no_make_command, serve_words, no_serve_words}
 use Rattle.hipsd.proofs.command.read_command.Goals as goal
 
 pub returns-in_err-probe-in-len5-clause-none : goal.returns-in_err-probe-in-len5-clause-none
@@ -81,13 +81,8 @@ returns-in-len4-clause-asked c =
     (omega arith)
     (c.name-item-then-words-lt5.is, (get_or_default c.args.words.now 1 c.name-item-then-words-lt5.result address (omega arith), (c.connections-item.is, (c.places-item.is, tt)))) in
     let name : string_bytes c.name-item-then-words-lt5.result ≡ codes "serve" = search rules in
-    rw (
-      words,
-      name,
-      ← c.as_str-in-len4.ensures.value,
-      ← c.as_str-in-len4-2.ensures.value,
-    )
-    (serve_command c.read_serve.result _ _ _ c.read_serve.ensures.asked)
+    serve_words c.args.words.now c.name-item-then-words-lt5.result address c.connections-item.result c.places-item.result c.read_serve.result c.as_str-in-len4.result.now c.as_str-in-len4-2.result.now
+    words name c.as_str-in-len4.ensures.value c.as_str-in-len4-2.ensures.value c.read_serve.ensures.asked
 
 pub returns-in-len4-clause-none : goal.returns-in-len4-clause-none
 returns-in-len4-clause-none c =
@@ -98,10 +93,5 @@ returns-in-len4-clause-none c =
     (omega arith)
     (c.name-item-then-words-lt5.is, (get_or_default c.args.words.now 1 c.name-item-then-words-lt5.result address (omega arith), (c.connections-item.is, (c.places-item.is, tt)))) in
     let name : string_bytes c.name-item-then-words-lt5.result ≡ codes "serve" = search rules in
-    rw (
-      words,
-      name,
-      ← c.as_str-in-len4.ensures.value,
-      ← c.as_str-in-len4-2.ensures.value,
-    )
-    (no_serve_command c.read_serve.result _ _ _ (none_at c.read_serve.result _ _ _ c.read_serve.ensures.none))
+    no_serve_words c.args.words.now c.name-item-then-words-lt5.result address c.connections-item.result c.places-item.result c.read_serve.result c.as_str-in-len4.result.now c.as_str-in-len4-2.result.now
+    words name c.as_str-in-len4.ensures.value c.as_str-in-len4-2.ensures.value c.read_serve.ensures.none
