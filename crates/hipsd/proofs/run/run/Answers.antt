@@ -42,10 +42,10 @@ returns-in-Serve-clause-serve g c = λ connections places asks there.
     let old = c.deref_mut.ensures.value in
     let new = written_back c.args.doors.now.len c.run_serve.new.doors c.args.doors.now.items (c.run_serve.auto.doors ∙ c.deref_mut.ensures.len) in
     subst (λ xs. RunsServe (g.H.Shelf.files c.args.shelf.now) connections (map g.D.Door.connections (take places xs)) (map g.D.Door.connections (take places
-        (take c.args.doors.now.len (c.run_serve.new.doors ++ drop (length c.run_serve.new.doors) c.args.doors.now.items)))) c.run_serve.result (g.K.Sink.held c.args.sink.now)
-        (g.K.Sink.held c.run_serve.new.sink) (g.K.Sink.handed_on c.args.sink.now) (g.K.Sink.handed_on c.run_serve.new.sink)) old
+    (take c.args.doors.now.len (c.run_serve.new.doors ++ drop (length c.run_serve.new.doors) c.args.doors.now.items)))) c.run_serve.result (g.K.Sink.held c.args.sink.now)
+    (g.K.Sink.held c.run_serve.new.sink) (g.K.Sink.handed_on c.args.sink.now) (g.K.Sink.handed_on c.run_serve.new.sink)) old
     (subst (λ xs. RunsServe (g.H.Shelf.files c.args.shelf.now) connections (map g.D.Door.connections (take places c.deref_mut.result.now)) (map g.D.Door.connections (take places xs))
-        c.run_serve.result (g.K.Sink.held c.args.sink.now) (g.K.Sink.held c.run_serve.new.sink) (g.K.Sink.handed_on c.args.sink.now) (g.K.Sink.handed_on c.run_serve.new.sink)) (sym new)
+    c.run_serve.result (g.K.Sink.held c.args.sink.now) (g.K.Sink.held c.run_serve.new.sink) (g.K.Sink.handed_on c.args.sink.now) (g.K.Sink.handed_on c.run_serve.new.sink)) (sym new)
     (rw (same.0, same.1) at c.run_serve.ensures.run))
 
 pub returns-in-Serve-clause-serve_beyond : goal.returns-in-Serve-clause-serve_beyond
