@@ -26,6 +26,8 @@ from survey_files import Survey, image, tile_path
 
 SURVEY = Survey("serve", "Survey serve", top=5, low=3, width=8)
 LEAVES = range(0, 96)
+# A survey takes 65,536 edits: so many for each connection, of 20 at most.
+EDITS = 3_000
 PATHS = ["properties", "Moc.fits", "Norder3/Allsky.fits"]
 PATHS += [tile_path(order, npix) for order in (3, 4, 5) for npix in range(len(LEAVES) // 4 ** (5 - order) + 1)]
 
@@ -52,6 +54,7 @@ class Connection(threading.Thread):
         self.requests = Counter()
         self.least = 0
         self.pinned = None
+        self.budget = EDITS
 
     def ask(self, method, path, body=b"", **fields):
         headers = {name.replace("_", "-"): value for name, value in fields.items()}
@@ -151,7 +154,11 @@ class Connection(threading.Thread):
         weights = (60, 16, 5, 3, 4, 2, 6)
         try:
             while time.monotonic() < self.until:
-                self.random.choices(calls, weights)[0]()
+                call = self.random.choices(calls, weights)[0]
+                if call in (self.put, self.delete, self.batch):
+                    self.budget -= 3
+                    call = call if self.budget >= 0 else self.read
+                call()
         except Exception as error:  # the connection broke: that is a fault of the server too
             self.blame("broken off:", repr(error))
         self.http.close()

@@ -11,8 +11,6 @@ mod generation;
 mod levels;
 mod mosaic;
 mod pyramid;
-#[cfg(test)]
-mod tests;
 
 pub use files::{Body, Parts};
 pub use generation::Generation;

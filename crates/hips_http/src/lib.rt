@@ -17,8 +17,6 @@ mod saying;
 mod send;
 mod served;
 mod step;
-#[cfg(test)]
-mod tests;
 mod text;
 
 pub use connection::{session, session_in};

@@ -1,11 +1,10 @@
 -- The doors of a survey.
-use Rattle.std.proofs.Common.{◌≡◌, ◌≢◌, inl, inr, ℕ, zero, suc, ◌+◌, ◌<◌, ◌≤◌, List, [], ◌∷◌, ◌++◌, length, map, take, drop, get_or, slice_set, add-one, drop-cons, Option, Some, None, refl, sym, ap, ◌∙◌, subst, arith}
+use Rattle.std.proofs.Common.{◌≡◌, inl, inr, ℕ, zero, suc, ◌+◌, ◌<◌, List, [], ◌∷◌, ◌++◌, length, map, take, drop, get_or, slice_set, add-one, drop-cons, Option, None, refl, sym, ap, ◌∙◌, subst, arith}
 use Rattle.std.specs.Prelude.{All, Contains, Result, Ok, Err, OnOk}
 use Rattle.std.specs.List.{AllZip}
 use Rattle.std.proofs.lemmas.List.{length-set, take_more, drop-set-lt}
 use Rattle.std.proofs.lemmas.List.Elements.{All-nil, All-cons, All-head, All-tail, All-push, All-weaker}
 use Rattle.survey_conf.specs.Description.{Description}
-use Rattle.survey_link.specs.Link.{Rises}
 use Rattle.survey_link.specs.Door.{Connections}
 use Rattle.edit_journal.specs.Leaves.{LeafTiles}
 use Rattle.shared_history.specs.Histories.{SeenHistory, one_state}
@@ -15,8 +14,8 @@ use Rattle.survey_core.specs.State.{StateContent}
 use Rattle.reader_pin.specs.Board.{BoardContent, Stays}
 use Rattle.reader_pin.specs.Shared.{seated, HaveMet}
 use Rattle.hips_place.specs.declared.place.PlaceEnd.{PlaceEnd}
-use Rattle.hips_place.specs.declared.place.PlaceEnd.TheVariants.{Done, Failed, OutOfMemory}
-use Rattle.hips_place.specs.Place.{OnePlace, IsServedPlace, EndAs, ArePlaces, AllReturned, IsPlace, PlaceRun, PlaceGoes, first_board, ServesDoor, ServesDoors, SomeRises, HaveAllMet}
+use Rattle.hips_place.specs.declared.place.PlaceEnd.TheVariants.{Done, Failed}
+use Rattle.hips_place.specs.Place.{OnePlace, IsServedPlace, ArePlaces, AllReturned, IsPlace, PlaceRun, first_board, ServesDoor, ServesDoors, SomeRises, HaveAllMet}
 
 -- ---- boards that meet
 

@@ -1,15 +1,13 @@
 -- The places of a server.
-use Rattle.std.proofs.Common.{◌≡◌, ◌≢◌, ◌⊎◌, inl, inr, ℕ, zero, suc, ◌≤◌, ◌<◌, List, [], ◌∷◌, ◌++◌, length, get_or, map, slice_set, Option, Some, None, Result, Ok, Err, refl, sym, ap, ap₂, ◌∙◌, subst, arith}
-use Rattle.std.specs.Prelude.{All, Contains}
-use Rattle.std.specs.List.{AllZip}
+use Rattle.std.proofs.Common.{◌≡◌, ◌≢◌, ℕ, List, [], ◌∷◌, ◌++◌, length, get_or, map, slice_set, Option, refl, sym, ap₂, ◌∙◌, subst, arith}
+use Rattle.std.specs.Prelude.{All}
 use Rattle.std.proofs.lemmas.List.{map-append}
-use Rattle.std.proofs.lemmas.List.Elements.{All-nil, All-cons, All-head, All-tail, All-append, All-weaker, Contains-append_left, Contains-append_right}
-use Rattle.survey_link.specs.Link.{Rises}
+use Rattle.std.proofs.lemmas.List.Elements.{All-nil, All-cons, All-append, All-weaker, Contains-append_left, Contains-append_right}
 use Rattle.survey_link.specs.Door.{Connections}
 use Rattle.reader_pin.specs.Board.{BoardContent}
 use Rattle.hips_place.specs.declared.place.PlaceEnd.{PlaceEnd}
 use Rattle.hips_place.specs.declared.place.PlaceEnd.TheVariants.{Done, Failed, OutOfMemory}
-use Rattle.hips_place.specs.Place.{OnePlace, IsServedPlace, EndAs, ArePlaces, AllReturned, IsPlace, PlaceGoes, worse}
+use Rattle.hips_place.specs.Place.{OnePlace, IsServedPlace, EndAs, ArePlaces, worse}
 
 -- ---- how places end
 

@@ -1,12 +1,14 @@
 -- Lemmas for the proof that the words of a command line are read exactly.
-use Rattle.std.proofs.Common.{◌≡◌, ◌≢◌, ℕ, zero, suc, ◌^◌, ◌<◌, ◌≤◌, ◌+◌, ◌*◌, List, [], ◌∷◌, length, get_or, decimal, codes, Result, Ok, Err, Option, Some, None, MatchOption, IfNone, refl, sym, ◌∙◌, ap, subst, arith}
+use Rattle.std.proofs.Common.{◌≡◌, ◌≢◌, ℕ, zero, suc, ◌^◌, ◌<◌, ◌≤◌, ◌+◌, ◌*◌, List, [], ◌∷◌, length, get_or, decimal, codes, Result, Ok, Err, Option, Some, None, MatchOption, IfSome, IfNone, refl, sym, ◌∙◌, ap, subst, arith}
 use Rattle.std.proofs.Math.ListN.{drop, drop_of_length-le}
 use Rattle.std.proofs.Math.Seq.{drop-cons}
+use Rattle.std.specs.Prelude.{String, string_bytes}
+use Rattle.std.specs.declared.alloc.Global.{Global}
 use Rattle.std.specs.Result.{result_ok}
 use Rattle.std.specs.Str.Parse.{AllDigits, digits_value, ParsesUnsigned}
 use Rattle.std.proofs.lemmas.Str.Parse.{IsNumeralModel, numerals_by_value, tells_digits, parse_plain, digit_at}
 use Rattle.std.proofs.lemmas.Fmt.{decimal_digit, decimal_nonempty, first_decimal, digits_decimal, decimal-digits_value, decimal_injective, parse-decimal}
-use Rattle.hipsd.specs.Command.{Asks, IsProbe, IsMake, IsServe, IsCommand, IsCommandFor, doors_of, words_of}
+use Rattle.hipsd.specs.Command.{texts, Asks, IsProbe, IsMake, IsServe, IsCommand, IsCommandFor, doors_of, words_of}
 use Rattle.hipsd.specs.declared.command.Probe.{Probe}
 use Rattle.hipsd.specs.declared.command.Command.{Command}
 use Rattle.hipsd.specs.declared.command.Command.TheVariants.{Probe as ProbeCommand, Session, Export, Verify, Make, Serve}
@@ -98,7 +100,7 @@ no_make_command None number edits none = no_make number edits none
 no_make_command (Some command) number edits none = tt
 
 -- words that begin with `serve` and ask for no doors ask for nothing
-pub no_serve : (address connections places : List ℕ)
+no_serve : (address connections places : List ℕ)
     → ((n m : ℕ) → ¬ Asks (codes "serve" ∷ address ∷ connections ∷ places ∷ []) (Serve n m))
     → ¬ IsCommand (codes "serve" ∷ address ∷ connections ∷ places ∷ [])
 no_serve address connections places none (ProbeCommand asked, asks) = let e = asks.spelled in cc
@@ -108,7 +110,7 @@ no_serve address connections places none (Verify, asks) = let e = asks.spelled i
 no_serve address connections places none (Make number edits, asks) = let e = asks.spelled in cc
 no_serve address connections places none (Serve n m, asks) = none n m asks
 
-pub no_serve_command : (found : Option Command) (address connections places : List ℕ)
+no_serve_command : (found : Option Command) (address connections places : List ℕ)
     → IfNone found ((n m : ℕ) → ¬ Asks (codes "serve" ∷ address ∷ connections ∷ places ∷ []) (Serve n m))
     → IfNone found (¬ IsCommand (codes "serve" ∷ address ∷ connections ∷ places ∷ []))
 no_serve_command None address connections places none = no_serve address connections places none
@@ -192,13 +194,13 @@ same_command words a b asks_a asks_b = let e : sign_for a ≡ sign_for b = same_
 
 -- a command that needs more doors than there are: the words ask for no other
 pub too_few : (words : List (List ℕ)) (doors : ℕ) (command : Command) → Asks words command → doors < doors_of command → ¬ IsCommandFor doors words
-too_few words doors command asks more (other, (asks', fits)) =
+too_few words doors command asks more (other, asks', fits) =
     let same : doors_of other ≡ doors_of command = ap doors_of (same_command words other command asks' asks) in
     omega arith
 
 -- words that ask for nothing ask for nothing, however many doors there are
 pub none_for : (words : List (List ℕ)) (doors : ℕ) → ¬ IsCommand words → ¬ IsCommandFor doors words
-none_for words doors none (command, (asks, fits)) = none (command, asks)
+none_for words doors none (command, asks, fits) = none (command, asks)
 
 -- no command needs more than 64 doors
 few_doors : (words : List (List ℕ)) (command : Command) → Asks words command → doors_of command ≤ 64
@@ -210,4 +212,30 @@ few_doors words (Make n m) asks = omega arith
 few_doors words (Serve n m) asks = let range : IsServe n m = asks.in_range in omega arith
 
 pub none_at_all : (words : List (List ℕ)) (doors : ℕ) → 64 ≤ doors → ¬ IsCommandFor doors words → ¬ IsCommand words
-none_at_all words doors many none (command, asks) = let few = few_doors words command asks in none (command, (asks, omega arith))
+none_at_all words doors many none (command, asks) = let few = few_doors words command asks in none (command, asks, omega arith)
+
+-- at one address
+serve_command : (found : Option Command) (address connections places : List ℕ)
+    → IfSome found (λ command. (any : List ℕ) → Asks (codes "serve" ∷ any ∷ connections ∷ places ∷ []) command)
+    → IfSome found (Asks (codes "serve" ∷ address ∷ connections ∷ places ∷ []))
+serve_command None address connections places asks = tt
+serve_command (Some command) address connections places asks = asks address
+
+none_at : (found : Option Command) (address connections places : List ℕ)
+    → IfNone found ((any : List ℕ) (n m : ℕ) → ¬ Asks (codes "serve" ∷ any ∷ connections ∷ places ∷ []) (Serve n m))
+    → IfNone found ((n m : ℕ) → ¬ Asks (codes "serve" ∷ address ∷ connections ∷ places ∷ []) (Serve n m))
+none_at None address connections places none = none address
+none_at (Some command) address connections places none = tt
+
+-- four words, of which the first is `serve`
+pub serve_words : (words : List (String Global)) (name address connections places : String Global) (found : Option Command) (third fourth : List ℕ)
+    → words ≡ name ∷ address ∷ connections ∷ places ∷ [] → string_bytes name ≡ codes "serve" → third ≡ string_bytes connections → fourth ≡ string_bytes places
+    → IfSome found (λ command. (any : List ℕ) → Asks (codes "serve" ∷ any ∷ third ∷ fourth ∷ []) command) → IfSome found (Asks (texts words))
+serve_words words name address connections places found third fourth is named is_third is_fourth asks =
+    rw (is, named, ← is_third, ← is_fourth) (serve_command found (string_bytes address) third fourth asks)
+
+pub no_serve_words : (words : List (String Global)) (name address connections places : String Global) (found : Option Command) (third fourth : List ℕ)
+    → words ≡ name ∷ address ∷ connections ∷ places ∷ [] → string_bytes name ≡ codes "serve" → third ≡ string_bytes connections → fourth ≡ string_bytes places
+    → IfNone found ((any : List ℕ) (n m : ℕ) → ¬ Asks (codes "serve" ∷ any ∷ third ∷ fourth ∷ []) (Serve n m)) → IfNone found (¬ IsCommand (texts words))
+no_serve_words words name address connections places found third fourth is named is_third is_fourth none =
+    rw (is, named, ← is_third, ← is_fourth) (no_serve_command found (string_bytes address) third fourth (none_at found (string_bytes address) third fourth none))

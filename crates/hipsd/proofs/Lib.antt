@@ -6,3 +6,4 @@ pub mod MergingLemmas
 pub mod PieceLemmas
 pub mod ReadLemmas
 pub mod ShelfLemmas
+pub mod ServeLemmas

@@ -130,7 +130,7 @@ where
         result (K.held sink.old) (K.held sink.new) (K.handed_on sink.old) (K.handed_on sink.new) }
     ensures serve_beyond { (connections : ℕ) (places : ℕ) → Asks (texts words.now) (Serve connections places)
         → drop places doors.new.items ≡ drop places doors.old.items }
-    ensures serve_closed { (result ≡ 2) ⊎ ((result ≡ 3) ⊎ (result ≡ 7)) → doors.new ≡ doors.old }
+    ensures serve_closed { (result ≡ 2) ⊎ ((result ≡ 3) ⊎ (result ≡ 7)) → doors.new.items ≡ doors.old.items }
 
     // What a command doesn't use stays.
     ensures source { (command : AskedCommand) → Asks (texts words.now) command → reads_source command ≡ false → source.new ≡ source.old }

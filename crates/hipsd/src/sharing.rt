@@ -1,8 +1,9 @@
 //! The command `serve`: the connections of many doors at once, over one survey.
-ghost use Rattle.std.specs.Prelude.{◌≡◌, ◌≢◌, ◌⊎◌, ◌<◌, ◌≤◌, map, length, take, drop, IfOk, IfErr, IsErrOf};
+ghost use Rattle.std.specs.Prelude.{◌≡◌, ◌≢◌, ◌⊎◌, ◌<◌, ◌≤◌, [], map, length, take, drop, IfOk, IfErr, IsErrOf};
 ghost use Rattle.survey_link.specs.Link.{Rises};
 ghost use Rattle.hips_place.specs.Place.{SomeRises};
 ghost use Rattle.shelf_io.specs.Opening.{OpenedSurvey};
+ghost use Rattle.hipsd.specs.Command.{IsServe};
 ghost use Rattle.hipsd.specs.Session.{OpensAs, OpensNot};
 ghost use Rattle.hipsd.specs.Serve.{state_of, Serves, RunsServe, place_status};
 
@@ -40,8 +41,7 @@ where
     D::In: Send,
     D::Out: Send,
     G: Gate + Sync,
-    requires some { 0 < places }
-    requires most { places ≤ 64 }
+    requires asked { IsServe connections places }
     requires there { places ≤ length doors.old }
     ensures run { RunsServe (H.files shelf.old) connections (map D.connections (take places doors.old)) (map D.connections (take places doors.new)) result
         (K.held sink.old) (K.held sink.new) (K.handed_on sink.old) (K.handed_on sink.new) }
@@ -55,9 +55,9 @@ where
     ensures door_fault { result ≡ 8 → SomeRises (map D.faults doors.old) (map D.faults doors.new) }
     ensures steps_never_fall { steps.old ≤ steps.new }
 {
-    let (doors, _) = doors.split_at_mut(places);
+    let (served, _) = doors.split_at_mut(places);
     match open_state(rt, shelf, gate, steps) {
-        Ok(state) => serve_state(rt, state, connections, gate, doors),
+        Ok(state) => serve_state(rt, state, connections, gate, served),
         Err(refusal) => say_why(rt.alloc(), sink, &refusal),
     }
 }
@@ -102,6 +102,7 @@ where
     D::In: Send,
     D::Out: Send,
     G: Gate + Sync,
+    requires first { (state.batches ≡ []) × (state.tip ≡ 0) }
     requires some { 0 < length doors.old }
     requires most { length doors.old ≤ 64 }
     ensures served { (survey : OpenedSurvey) → state ≡ state_of survey

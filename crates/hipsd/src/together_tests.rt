@@ -72,7 +72,7 @@ impl Sink for Replies {
 
     ghost handed_on = { λ _. None };
 
-    ghost faults = { λ replies. MemSink.faults replies.sink };
+    ghost faults = { λ replies. replies.sink.faults };
 
     fn write(&mut self, buf: &[u8]) -> Result<usize, Failed> {
         self.sink.write(buf)

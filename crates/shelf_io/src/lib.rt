@@ -16,8 +16,6 @@ mod progress;
 mod refusal;
 mod spelling;
 mod strays;
-#[cfg(test)]
-mod tests;
 mod verdict;
 mod verifying;
 

@@ -12,8 +12,6 @@ pub mod laws;
 mod line;
 mod refusal;
 mod state;
-#[cfg(test)]
-mod tests;
 
 pub use batch::{batch_room, read_batch};
 pub use fault::{BatchRead, EntryFault};

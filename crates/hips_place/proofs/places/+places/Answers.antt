@@ -1,4 +1,4 @@
-use Rattle.std.proofs.Common.{◌≡◌, ◌++◌, map, rules}
+use Rattle.std.proofs.Common.{map, rules}
 use Rattle.hips_place.specs.Place.{ArePlaces}
 use Rattle.hips_place.proofs.PlacesLemmas.{both_places}
 use Rattle.hips_place.proofs.places.+places.Goals as goal

@@ -1,5 +1,6 @@
-use Rattle.std.proofs.Common.{rules, arith, ◌∷◌, [], ◌≡◌, codes, string_bytes}
-use Rattle.hipsd.proofs.CommandLemmas.{items_from_reads, no_command, no_make_command}
+use Rattle.std.proofs.Common.{rules, arith, ◌∷◌, [], ◌≡◌, codes, get_or, string_bytes}
+use Rattle.std.proofs.lemmas.List.{get_or_default}
+use Rattle.hipsd.proofs.CommandLemmas.{items_from_reads, no_command, no_make_command, serve_words, no_serve_words}
 use Rattle.hipsd.proofs.command.read_command.Goals as goal
 
 pub returns-in_err-probe-in-len5-clause-none : goal.returns-in_err-probe-in-len5-clause-none
@@ -70,3 +71,27 @@ returns-in-len3-clause-none c =
       ← c.as_str-in-len3-2.ensures.value,
     )
     (no_make_command c.read_make.result _ _ c.read_make.ensures.none)
+
+pub returns-in-len4-clause-asked : goal.returns-in-len4-clause-asked
+returns-in-len4-clause-asked c =
+    let address = get_or c.args.words.now 1 c.name-item-then-words-lt5.result in
+    let words =
+    items_from_reads c.args.words.now
+    (c.name-item-then-words-lt5.result ∷ address ∷ c.connections-item.result ∷ c.places-item.result ∷ [])
+    (omega arith)
+    (c.name-item-then-words-lt5.is, (get_or_default c.args.words.now 1 c.name-item-then-words-lt5.result address (omega arith), (c.connections-item.is, (c.places-item.is, tt)))) in
+    let name : string_bytes c.name-item-then-words-lt5.result ≡ codes "serve" = search rules in
+    serve_words c.args.words.now c.name-item-then-words-lt5.result address c.connections-item.result c.places-item.result c.read_serve.result c.as_str-in-len4.result.now c.as_str-in-len4-2.result.now
+    words name c.as_str-in-len4.ensures.value c.as_str-in-len4-2.ensures.value c.read_serve.ensures.asked
+
+pub returns-in-len4-clause-none : goal.returns-in-len4-clause-none
+returns-in-len4-clause-none c =
+    let address = get_or c.args.words.now 1 c.name-item-then-words-lt5.result in
+    let words =
+    items_from_reads c.args.words.now
+    (c.name-item-then-words-lt5.result ∷ address ∷ c.connections-item.result ∷ c.places-item.result ∷ [])
+    (omega arith)
+    (c.name-item-then-words-lt5.is, (get_or_default c.args.words.now 1 c.name-item-then-words-lt5.result address (omega arith), (c.connections-item.is, (c.places-item.is, tt)))) in
+    let name : string_bytes c.name-item-then-words-lt5.result ≡ codes "serve" = search rules in
+    no_serve_words c.args.words.now c.name-item-then-words-lt5.result address c.connections-item.result c.places-item.result c.read_serve.result c.as_str-in-len4.result.now c.as_str-in-len4-2.result.now
+    words name c.as_str-in-len4.ensures.value c.as_str-in-len4-2.ensures.value c.read_serve.ensures.none

@@ -9,7 +9,7 @@ use std::alloc::Global;
 use std::test::Fail;
 
 // The cards of each tile of a survey whose tiles have two columns and two lines of 16 bits, but for those of its cell.
-const TILE: &str = "SIMPLE  =                    T
+static TILE: &str = "SIMPLE  =                    T
 BITPIX  =                   16
 NAXIS   =                    2
 NAXIS1  =                    2
@@ -20,7 +20,7 @@ BLANK   =               -32768
 ";
 
 // The cards of the mosaic of such a survey.
-const MOSAIC: &str = "SIMPLE  =                    T
+static MOSAIC: &str = "SIMPLE  =                    T
 BITPIX  =                   16
 NAXIS   =                    2
 NAXIS1  =                   54
@@ -31,7 +31,7 @@ BLANK   =               -32768
 END";
 
 // The cards of a tile as an outside tool writes them, in two blocks.
-const OUTSIDE: &str = "SIMPLE  =                    T / conforms to FITS
+static OUTSIDE: &str = "SIMPLE  =                    T / conforms to FITS
 BITPIX  = 16
 NAXIS   = 2
 NAXIS1  = 2
@@ -46,19 +46,19 @@ COMMENT 1\nCOMMENT 2\nCOMMENT 3\nCOMMENT 4\nCOMMENT 5\nCOMMENT 6\nCOMMENT 7\nCOM
 END";
 
 // The cards of the coverage: those of its first header, and those of its table, but for the last ones.
-const COVERAGE: &str = "SIMPLE  =                    T
+static COVERAGE: &str = "SIMPLE  =                    T
 BITPIX  =                    8
 NAXIS   =                    0
 EXTEND  =                    T
 END";
 
-const TABLE: &str = "XTENSION= 'BINTABLE'
+static TABLE: &str = "XTENSION= 'BINTABLE'
 BITPIX  =                    8
 NAXIS   =                    2
 NAXIS1  =                    8
 ";
 
-const COLUMN: &str = "PCOUNT  =                    0
+static COLUMN: &str = "PCOUNT  =                    0
 GCOUNT  =                    1
 TFIELDS =                    1
 TTYPE1  = 'UNIQ    '
@@ -69,7 +69,7 @@ COORDSYS= 'C       '
 ";
 
 // The properties of the survey, but for their last lines.
-const PROPERTIES: &str = "creator_did = ivo://example/P/one
+static PROPERTIES: &str = "creator_did = ivo://example/P/one
 obs_title = Survey one
 dataproduct_type = image
 hips_version = 1.4
@@ -145,46 +145,97 @@ fn put_card(file: &mut Vec<u8>, card: &str, behind: bool) -> Result<(), Fail> {
     Ok(())
 }
 
-// Appends a part of a body, or changes what stands there.
-fn push_part(alloc: Global, body: &mut Vec<u8>, part: &str) -> Result<(), Fail> {
-    let (word, rest) = part.split_once(' ').unwrap_or((part, ""));
-    let (first, second) = rest.split_once(' ').unwrap_or((rest, ""));
-    match word {
-        "line" => body.extend_from_slice(format!(in alloc; "{rest}\n")?.as_bytes())?,
-        "text" => body.extend_from_slice(rest.as_bytes())?,
-        "properties" => body.extend_from_slice(PROPERTIES.as_bytes())?,
-        // Headers: of a tile by its order and its number, of the coverage by its order and how many rows it has.
-        "tile" => push_header(
-            alloc,
-            body,
-            &format!(in alloc; "{TILE}ORDER   = {first:>20}\nNPIX    = {second:>20}\nEND")?,
-        )?,
-        "outside" => push_header(alloc, body, OUTSIDE)?,
-        "mosaic" => push_header(alloc, body, MOSAIC)?,
-        "coverage" => {
-            push_header(alloc, body, COVERAGE)?;
-            let table = format!(in alloc;
-                "{TABLE}NAXIS2  = {second:>20}\n{COLUMN}MOCORDER= {first:>20}\nEND"
-            )?;
-            push_header(alloc, body, &table)?;
-        }
-        "card" => put_card(body, rest, false)?,
-        "behind" => put_card(body, rest, true)?,
-        // Numbers of 16 bits and of 64, and zero bytes until the block is full.
-        "short" => push_numbers(body, rest, 2)?,
-        "long" => push_numbers(body, rest, 8)?,
-        "pad" => pad(body, 0)?,
-        "spaces" => push_times(body, rest, b" ")?,
-        "blanks" => push_times(body, rest, &[0x80, 0])?,
-        "removals" => push_times(body, rest, b"remove 0\n")?,
-        "cut" => body.truncate(body.len().saturating_sub(1)),
-        "" => {}
-        _ => return Err("no such part".into()),
-    }
+// Appends some bytes.
+fn push_bytes(body: &mut Vec<u8>, bytes: &[u8]) -> Result<(), Fail> {
+    body.extend_from_slice(bytes)?;
     Ok(())
 }
 
-// Appends the bytes of a message: the first line of its head stands between `before` and `behind`.
+// Appends a line.
+fn push_line(body: &mut Vec<u8>, line: &str) -> Result<(), Fail> {
+    body.extend_from_slice(line.as_bytes())?;
+    body.push(b'\n')?;
+    Ok(())
+}
+
+// Appends the header of a tile: `cell` is its order and its number.
+fn push_tile(alloc: Global, body: &mut Vec<u8>, cell: &str) -> Result<(), Fail> {
+    let (order, npix) = cell.split_once(' ').unwrap_or((cell, ""));
+    let cards = format!(in alloc; "{TILE}ORDER   = {order:>20}\nNPIX    = {npix:>20}\nEND")?;
+    push_header(alloc, body, &cards)
+}
+
+// Appends the headers of the coverage: `counts` is its order and how many rows it has.
+fn push_coverage(alloc: Global, body: &mut Vec<u8>, counts: &str) -> Result<(), Fail> {
+    let (order, rows) = counts.split_once(' ').unwrap_or((counts, ""));
+    push_header(alloc, body, COVERAGE)?;
+    let cards = format!(in alloc;
+        "{TABLE}NAXIS2  = {rows:>20}\n{COLUMN}MOCORDER= {order:>20}\nEND"
+    )?;
+    push_header(alloc, body, &cards)
+}
+
+// Takes the last byte out.
+fn cut(body: &mut Vec<u8>) -> Result<(), Fail> {
+    body.truncate(body.len().saturating_sub(1));
+    Ok(())
+}
+
+// Appends a part of a body, or changes what stands there.
+fn push_part(alloc: Global, body: &mut Vec<u8>, part: &str) -> Result<(), Fail> {
+    let (word, rest) = part.split_once(' ').unwrap_or((part, ""));
+    match word {
+        "line" => push_line(body, rest),
+        "text" => push_bytes(body, rest.as_bytes()),
+        "properties" => push_bytes(body, PROPERTIES.as_bytes()),
+        "tile" => push_tile(alloc, body, rest),
+        "outside" => push_header(alloc, body, OUTSIDE),
+        "mosaic" => push_header(alloc, body, MOSAIC),
+        "coverage" => push_coverage(alloc, body, rest),
+        "card" => put_card(body, rest, false),
+        "behind" => put_card(body, rest, true),
+        // Numbers of 16 bits and of 64, and zero bytes until the block is full.
+        "short" => push_numbers(body, rest, 2),
+        "long" => push_numbers(body, rest, 8),
+        "pad" => pad(body, 0),
+        "spaces" => push_times(body, rest, b" "),
+        "blanks" => push_times(body, rest, &[0x80, 0]),
+        "removals" => push_times(body, rest, b"remove 0\n"),
+        "cut" => cut(body),
+        "" => Ok(()),
+        _ => Err("no such part".into()),
+    }
+}
+
+// Appends the bytes that the parts of a body stand for.
+pub(crate) fn push_body(alloc: Global, bytes: &mut Vec<u8>, parts: &str) -> Result<(), Fail> {
+    let mut body = Vec::new(alloc);
+    for part in parts.split('&') {
+        push_part(alloc, &mut body, part)?;
+    }
+    push_bytes(bytes, &body)
+}
+
+// Appends a line of a head.
+fn push_field(bytes: &mut Vec<u8>, field: &str) -> Result<(), Fail> {
+    bytes.extend_from_slice(field.as_bytes())?;
+    bytes.extend_from_slice(b"\r\n")?;
+    Ok(())
+}
+
+// Appends a head: its first line stands between `before` and `behind`.
+fn push_head(bytes: &mut Vec<u8>, before: &str, head: &str, behind: &str) -> Result<(), Fail> {
+    let (first, fields) = head.split_once(';').unwrap_or((head, ""));
+    bytes.extend_from_slice(before.as_bytes())?;
+    bytes.extend_from_slice(first.as_bytes())?;
+    push_field(bytes, behind)?;
+    for field in fields.split_terminator(';') {
+        push_field(bytes, field)?;
+    }
+    push_field(bytes, "")
+}
+
+// Appends the bytes of a message, whose head may be left out.
 fn push_message(
     alloc: Global,
     bytes: &mut Vec<u8>,
@@ -194,39 +245,45 @@ fn push_message(
 ) -> Result<(), Fail> {
     let (head, parts) = row.split_once('|').unwrap_or((row, ""));
     if !head.is_empty() {
-        let (first, fields) = head.split_once(';').unwrap_or((head, ""));
-        bytes.extend_from_slice(format!(in alloc; "{before}{first}{behind}\r\n")?.as_bytes())?;
-        for field in fields.split_terminator(';') {
-            bytes.extend_from_slice(format!(in alloc; "{field}\r\n")?.as_bytes())?;
-        }
-        bytes.extend_from_slice(b"\r\n")?;
+        push_head(bytes, before, head, behind)?;
     }
-    let mut body = Vec::new(alloc);
-    for part in parts.split('&') {
-        push_part(alloc, &mut body, part)?;
+    push_body(alloc, bytes, parts)
+}
+
+// Appends the bytes of a request. A row that begins with a space stands as it is; to another the version and Host are added.
+fn push_request(alloc: Global, bytes: &mut Vec<u8>, row: &str) -> Result<(), Fail> {
+    match row.strip_prefix(' ') {
+        Some(row) => push_message(alloc, bytes, "", row, ""),
+        None => push_message(alloc, bytes, "", row, " HTTP/1.1\r\nHost: a"),
     }
-    bytes.extend_from_slice(&body)?;
+}
+
+// Appends the bytes of the requests in these rows, one a line.
+pub(crate) fn push_requests(alloc: Global, bytes: &mut Vec<u8>, rows: &str) -> Result<(), Fail> {
+    for row in rows.lines() {
+        push_request(alloc, bytes, row)?;
+    }
     Ok(())
 }
 
-// The bytes of the requests in these rows, one a line. A row that begins with a space stands as it is; to another the version
-// and Host are added.
-pub(super) fn requests(alloc: Global, rows: &str) -> Result<Vec<u8>, Fail> {
-    let mut bytes = Vec::new(alloc);
+// Appends the bytes of the replies in these rows, one a line.
+pub(crate) fn push_replies(alloc: Global, bytes: &mut Vec<u8>, rows: &str) -> Result<(), Fail> {
     for row in rows.lines() {
-        match row.strip_prefix(' ') {
-            Some(row) => push_message(alloc, &mut bytes, "", row, "")?,
-            None => push_message(alloc, &mut bytes, "", row, " HTTP/1.1\r\nHost: a")?,
-        }
+        push_message(alloc, bytes, "HTTP/1.1 ", row, "")?;
     }
+    Ok(())
+}
+
+// The bytes of the requests in these rows.
+pub(crate) fn requests(alloc: Global, rows: &str) -> Result<Vec<u8>, Fail> {
+    let mut bytes = Vec::new(alloc);
+    push_requests(alloc, &mut bytes, rows)?;
     Ok(bytes)
 }
 
-// The bytes of the replies in these rows, one a line.
-pub(super) fn replies(alloc: Global, rows: &str) -> Result<Vec<u8>, Fail> {
+// The bytes of the replies in these rows.
+pub(crate) fn replies(alloc: Global, rows: &str) -> Result<Vec<u8>, Fail> {
     let mut bytes = Vec::new(alloc);
-    for row in rows.lines() {
-        push_message(alloc, &mut bytes, "HTTP/1.1 ", row, "")?;
-    }
+    push_replies(alloc, &mut bytes, rows)?;
     Ok(bytes)
 }

@@ -1,26 +1,16 @@
 //! Shelves in memory: what is refused, and what is written, compared and read again.
-use crate::{LoadRefusal, export, load, verify};
+use crate::surveys::SURVEY;
 use generation::Generation;
 use log::Log;
 use parent_rule::Steps;
+use shelf_io::{LoadRefusal, export, load, verify};
 use std::alloc::{AllocError, Global};
 use std::test::Fail;
 use std::thread::Threads;
 use std::time::Clock;
 use survey_link::{LinkFault, MemShelf, OpenGate, Shelf};
 
-// A survey of order 4 whose tiles have two columns and two lines of 16 bits.
-const SURVEY: &str = "creator_did = ivo://example/P/one
-obs_title = Survey one
-hips_release_date = 2024-05-01T00:00Z
-hips_status = public master clonable
-hips_order = 4
-hips_tile_width = 2
-survey_bitpix = 16
-survey_blank = -32768
-";
-
-// The same with an order out of range.
+// The small survey with an order out of range.
 const TOO_DEEP: &str = "creator_did = ivo://example/P/one
 obs_title = Survey one
 hips_release_date = 2024-05-01T00:00Z

@@ -1,7 +1,7 @@
 //! Connections in full: what is asked, and what is answered.
-use super::rows::{replies, requests};
-use super::{SURVEY, converse, opened};
-use crate::SessionEnd;
+use crate::rows::{push_replies, push_requests};
+use crate::surveys::{SURVEY, answers, opened};
+use hips_http::SessionEnd;
 use log::Log;
 use parent_rule::Steps;
 use std::alloc::Global;
@@ -47,21 +47,21 @@ survey_version = 2
 ";
 
 // An edit and a publication, and the tile above.
-pub(super) const EDIT: &str =
+pub(crate) static EDIT: &str =
     "PUT /Norder4/Dir0/Npix0.fits;Content-Length: 2888|tile 4 0&short 1 2 3 5
 GET /Norder3/Dir0/Npix0.fits
 POST /publish
 GET /Norder3/Dir0/Npix0.fits
 ";
 
-pub(super) const EDITED: &str = "201 Created;Content-Length: 0;Survey-Edits: 1
+pub(crate) static EDITED: &str = "201 Created;Content-Length: 0;Survey-Edits: 1
 404 Not Found;Content-Type: text/plain;Content-Length: 10;Survey-Prefix: 0|line not found
 200 OK;Content-Type: text/plain;Content-Length: 12;Survey-Prefix: 1|line published 1
 200 OK;Content-Type: application/fits;Content-Length: 5760;Survey-Prefix: 1|tile 3 0&short -32768 -32768 3 -32768&pad
 ";
 
 // A description, whether the edit comes first, further requests of the connection, their replies, and how it ends.
-static CONVERSATIONS: [(&str, bool, &str, &str, SessionEnd); 22] = [
+static CONVERSATIONS: [(&str, bool, &str, &str, SessionEnd); 35] = [
     (
         SURVEY,
         false,
@@ -330,183 +330,160 @@ GET /properties",
         SessionEnd::Asked,
     ),
     (SURVEY, false, "|text GET /prop", "", SessionEnd::Cut),
-];
-
-// The parts of a body, its length, and what stands behind `tile refused` in the answer to it.
-static TILES: [(&str, &str, &str); 13] = [
-    ("", "0", "1 header 1"),
+    // Hostile tiles.
     (
-        "tile 4 0&short 1 2 3 5&card 1 \x07IMPLE  =                    T",
-        "2888",
-        "1 header 2 0",
+        SURVEY,
+        false,
+        "PUT /Norder4/Dir0/Npix0.fits;Content-Length: 0|
+PUT /Norder4/Dir0/Npix0.fits;Content-Length: 2888|tile 4 0&short 1 2 3 5&card 1 \x07IMPLE  =                    T
+PUT /Norder4/Dir0/Npix0.fits;Content-Length: 103680|spaces 103680
+PUT /Norder4/Dir0/Npix0.fits;Content-Length: 2888|tile 4 0&short 1 2 3 5&card 2 BITPIX  =                 16.0
+PUT /Norder4/Dir0/Npix0.fits;Content-Length: 2888|tile 4 0&short 1 2 3 5&behind 2 BITPIX  =                   16
+PUT /Norder4/Dir0/Npix0.fits;Content-Length: 2888|tile 4 0&short 1 2 3 5&card 1 SIMPLE  =                    F
+PUT /Norder4/Dir0/Npix0.fits;Content-Length: 2888|tile 4 0&short 1 2 3 5&card 2 BITPIX  =                    8
+PUT /Norder4/Dir0/Npix0.fits;Content-Length: 2888|tile 4 0&short 1 2 3 5&card 3 NAXIS   =                    3
+PUT /Norder4/Dir0/Npix0.fits;Content-Length: 2888|tile 4 0&short 1 2 3 5&card 4 NAXIS1  =                    4
+PUT /Norder4/Dir0/Npix0.fits;Content-Length: 2888|tile 4 0&short 1 2 3 5&card 6 BSCALE  =                  2.0
+PUT /Norder4/Dir0/Npix0.fits;Content-Length: 2888|tile 4 0&short 1 2 3 5&card 7 BZERO   =                  1.0
+PUT /Norder4/Dir0/Npix0.fits;Content-Length: 2888|tile 4 0&short 1 2 3 5&card 8 BLANK   =                    0
+PUT /Norder4/Dir0/Npix0.fits;Content-Length: 5761|tile 4 0&short 1 2 3 5&spaces 2873",
+        "422 Unprocessable Content;Content-Type: text/plain;Content-Length: 24|line tile refused 1 header 1
+422 Unprocessable Content;Content-Type: text/plain;Content-Length: 26|line tile refused 1 header 2 0
+422 Unprocessable Content;Content-Type: text/plain;Content-Length: 24|line tile refused 1 header 3
+422 Unprocessable Content;Content-Type: text/plain;Content-Length: 26|line tile refused 1 header 4 2
+422 Unprocessable Content;Content-Type: text/plain;Content-Length: 26|line tile refused 1 header 5 3
+422 Unprocessable Content;Content-Type: text/plain;Content-Length: 22|line tile refused 2 simple
+422 Unprocessable Content;Content-Type: text/plain;Content-Length: 24|line tile refused 3 bitpix 8
+422 Unprocessable Content;Content-Type: text/plain;Content-Length: 23|line tile refused 4 naxis 3
+422 Unprocessable Content;Content-Type: text/plain;Content-Length: 25|line tile refused 5 width 1 4
+422 Unprocessable Content;Content-Type: text/plain;Content-Length: 21|line tile refused 6 scale
+422 Unprocessable Content;Content-Type: text/plain;Content-Length: 20|line tile refused 7 zero
+422 Unprocessable Content;Content-Type: text/plain;Content-Length: 23|line tile refused 8 blank 0
+422 Unprocessable Content;Content-Type: text/plain;Content-Length: 27|line tile refused 10 trailing 1",
+        SessionEnd::Closed,
     ),
-    ("spaces 103680", "103680", "1 header 3"),
+    // Heads that are refused.
     (
-        "tile 4 0&short 1 2 3 5&card 2 BITPIX  =                 16.0",
-        "2888",
-        "1 header 4 2",
-    ),
-    (
-        "tile 4 0&short 1 2 3 5&behind 2 BITPIX  =                   16",
-        "2888",
-        "1 header 5 3",
-    ),
-    (
-        "tile 4 0&short 1 2 3 5&card 1 SIMPLE  =                    F",
-        "2888",
-        "2 simple",
-    ),
-    (
-        "tile 4 0&short 1 2 3 5&card 2 BITPIX  =                    8",
-        "2888",
-        "3 bitpix 8",
-    ),
-    (
-        "tile 4 0&short 1 2 3 5&card 3 NAXIS   =                    3",
-        "2888",
-        "4 naxis 3",
-    ),
-    (
-        "tile 4 0&short 1 2 3 5&card 4 NAXIS1  =                    4",
-        "2888",
-        "5 width 1 4",
-    ),
-    (
-        "tile 4 0&short 1 2 3 5&card 6 BSCALE  =                  2.0",
-        "2888",
-        "6 scale",
-    ),
-    (
-        "tile 4 0&short 1 2 3 5&card 7 BZERO   =                  1.0",
-        "2888",
-        "7 zero",
-    ),
-    (
-        "tile 4 0&short 1 2 3 5&card 8 BLANK   =                    0",
-        "2888",
-        "8 blank 0",
-    ),
-    (
-        "tile 4 0&short 1 2 3 5&spaces 2873",
-        "5761",
-        "10 trailing 1",
-    ),
-];
-
-// A request with which a connection begins, and the code and the reason by which it is refused.
-static REFUSED: [(&str, &str, u16); 12] = [
-    (
+        SURVEY,
+        false,
         "PUT /Norder4/Dir0/Npix0.fits;Content-Length: 5;Content-Length: 5|text hello",
-        "400 Bad Request",
-        400,
+        "400 Bad Request;Content-Length: 0;Connection: close",
+        SessionEnd::Refused(400),
     ),
     (
+        SURVEY,
+        false,
         "PUT /Norder4/Dir0/Npix0.fits;Content-Length: +5;Transfer-Encoding: chunked|text hello",
-        "400 Bad Request",
-        400,
+        "400 Bad Request;Content-Length: 0;Connection: close",
+        SessionEnd::Refused(400),
     ),
     (
+        SURVEY,
+        false,
         "PUT /Norder4/Dir0/Npix0.fits;Transfer-Encoding: chunked",
-        "501 Not Implemented",
-        501,
+        "501 Not Implemented;Content-Length: 0;Connection: close",
+        SessionEnd::Refused(501),
     ),
     (
+        SURVEY,
+        false,
         "PUT /Norder4/Dir0/Npix0.fits;Content-Length: 99999999999",
-        "413 Content Too Large",
-        413,
+        "413 Content Too Large;Content-Length: 0;Connection: close",
+        SessionEnd::Refused(413),
     ),
     (
+        SURVEY,
+        false,
         "PUT /Norder4/Dir0/Npix0.fits;Content-Length: 437761",
-        "413 Content Too Large",
-        413,
+        "413 Content Too Large;Content-Length: 0;Connection: close",
+        SessionEnd::Refused(413),
     ),
-    ("GET /properties;Host: b", "400 Bad Request", 400),
     (
+        SURVEY,
+        false,
+        "GET /properties;Host: b",
+        "400 Bad Request;Content-Length: 0;Connection: close",
+        SessionEnd::Refused(400),
+    ),
+    (
+        SURVEY,
+        false,
         " GET /properties HTTP/1.0;Host: a;Host: b",
-        "400 Bad Request",
-        400,
+        "400 Bad Request;Content-Length: 0;Connection: close",
+        SessionEnd::Refused(400),
     ),
     (
+        SURVEY,
+        false,
         " GET /properties HTTP/1.2;Host: a",
-        "505 HTTP Version Not Supported",
-        505,
+        "505 HTTP Version Not Supported;Content-Length: 0;Connection: close",
+        SessionEnd::Refused(505),
     ),
-    (" GET / HTTP/2.0", "505 HTTP Version Not Supported", 505),
-    (" GET / HTTP/1.1", "400 Bad Request", 400),
-    ("PUT /Norder4/Dir0/Npix0.fits", "411 Length Required", 411),
-    ("|spaces 8192", "431 Request Header Fields Too Large", 431),
+    (
+        SURVEY,
+        false,
+        " GET / HTTP/2.0",
+        "505 HTTP Version Not Supported;Content-Length: 0;Connection: close",
+        SessionEnd::Refused(505),
+    ),
+    (
+        SURVEY,
+        false,
+        " GET / HTTP/1.1",
+        "400 Bad Request;Content-Length: 0;Connection: close",
+        SessionEnd::Refused(400),
+    ),
+    (
+        SURVEY,
+        false,
+        "PUT /Norder4/Dir0/Npix0.fits",
+        "411 Length Required;Content-Length: 0;Connection: close",
+        SessionEnd::Refused(411),
+    ),
+    (
+        SURVEY,
+        false,
+        "|spaces 8192",
+        "431 Request Header Fields Too Large;Content-Length: 0;Connection: close",
+        SessionEnd::Refused(431),
+    ),
 ];
 
-// Serves these requests as one connection over the survey, and tells what is wrong: nothing where the replies are these and
-// it ends so.
-fn complaint<R: Threads + Wait + Sync + Clock + Log>(
+// Whether the connection of a row goes so: its requests are answered by these replies, and it ends so.
+fn goes<R: Threads + Wait + Sync + Clock + Log>(
     rt: &R,
     alloc: Global,
     conf: &str,
+    begun: bool,
     asked: &str,
     answered: &str,
     wanted: SessionEnd,
-) -> Result<String, Fail> {
+) -> Result<bool, Fail> {
     let mut board = opened(rt, alloc, conf)?;
-    let input = requests(alloc, asked)?;
-    let (sink, end) = converse(rt, alloc, &mut board, input, &mut Steps::new())?;
-    let output = replies(alloc, answered)?;
-    if end == wanted && sink.bytes() == output.as_slice() {
-        return Ok(String::new(alloc));
+    let mut input = Vec::new(alloc);
+    let mut output = Vec::new(alloc);
+    if begun {
+        push_requests(alloc, &mut input, EDIT)?;
+        push_replies(alloc, &mut output, EDITED)?;
     }
-    let same = sink
-        .bytes()
-        .iter()
-        .zip(&output)
-        .take_while(|(a, b)| a == b)
-        .count();
-    Ok(format!(in alloc; "{asked}: {end:?}, {same} bytes are as wanted")?)
+    push_requests(alloc, &mut input, asked)?;
+    push_replies(alloc, &mut output, answered)?;
+    answers(
+        rt,
+        alloc,
+        &mut board,
+        input,
+        &output,
+        wanted,
+        &mut Steps::new(),
+    )
 }
 
 #[test]
 fn conversations_are_answered(rt: HostRuntime) -> Result<(), Fail> {
-    let alloc = rt.alloc();
     for (conf, begun, asked, answered, wanted) in &CONVERSATIONS {
-        let (before, told) = if *begun { (EDIT, EDITED) } else { ("", "") };
-        let asked = format!(in alloc; "{before}{asked}")?;
-        let answered = format!(in alloc; "{told}{answered}")?;
-        let wrong = complaint(&rt, alloc, conf, &asked, &answered, *wanted)?;
-        assert!(rt; wrong.is_empty(), "{wrong}");
-    }
-    Ok(())
-}
-
-#[test]
-fn hostile_tiles_are_refused(rt: HostRuntime) -> Result<(), Fail> {
-    let alloc = rt.alloc();
-    for (body, length, fault) in &TILES {
-        let asked = format!(in alloc;
-            "PUT /Norder4/Dir0/Npix0.fits;Content-Length: {length}|{body}"
-        )?;
-        let size = "tile refused ".len() + fault.len() + 1;
-        let answered = format!(in alloc;
-            "422 Unprocessable Content;Content-Type: text/plain;Content-Length: {size}|line tile refused {fault}"
-        )?;
-        let wrong = complaint(&rt, alloc, SURVEY, &asked, &answered, SessionEnd::Closed)?;
-        assert!(rt; wrong.is_empty(), "{wrong}");
-    }
-    Ok(())
-}
-
-#[test]
-fn hostile_requests_are_refused(rt: HostRuntime) -> Result<(), Fail> {
-    let alloc = rt.alloc();
-    for (asked, reason, code) in &REFUSED {
-        let answered = format!(in alloc; "{reason};Content-Length: 0;Connection: close")?;
-        let wrong = complaint(
-            &rt,
-            alloc,
-            SURVEY,
-            asked,
-            &answered,
-            SessionEnd::Refused(*code),
-        )?;
-        assert!(rt; wrong.is_empty(), "{wrong}");
+        let is_well = goes(&rt, rt.alloc(), conf, *begun, asked, answered, *wanted)?;
+        assert!(rt; is_well, "{asked}: not {answered}");
     }
     Ok(())
 }

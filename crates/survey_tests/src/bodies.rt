@@ -1,0 +1,148 @@
+//! Worked batches.
+use crate::rows::push_body;
+use crate::surveys::SURVEY;
+use edit_journal::Edit;
+use parent_rule::Steps;
+use std::alloc::{AllocError, Global};
+use std::test::Fail;
+use survey_conf::Conf;
+use survey_core::{batch_room, read_batch};
+
+// A body: the text, where `;` stands for a line feed and `@` for the file of a tile, 2,888 bytes.
+fn body(alloc: Global, text: &str) -> Result<Vec<u8>, Fail> {
+    let mut file = Vec::new(alloc);
+    push_body(alloc, &mut file, "tile 4 0&short 1 2 3 5")?;
+    let mut body = Vec::new(alloc);
+    for byte in text.as_bytes() {
+        match *byte {
+            b';' => body.push(b'\n')?,
+            b'@' => body.extend_from_slice(&file)?,
+            other => body.push(other)?,
+        }
+    }
+    Ok(body)
+}
+
+// An edit as its word and its leaf.
+fn shown(alloc: Global, edit: &Edit) -> Result<String, AllocError> {
+    let leaf = edit.leaf();
+    match edit {
+        Edit::Put { .. } => format!(in alloc; " put {leaf}"),
+        Edit::Add { .. } => format!(in alloc; " add {leaf}"),
+        Edit::Replace { .. } => format!(in alloc; " replace {leaf}"),
+        Edit::Remove { .. } => format!(in alloc; " remove {leaf}"),
+    }
+}
+
+// What is read of a body: how many steps that took, and the edits or the refusal.
+fn answer(alloc: Global, body: &[u8], conf: &Conf) -> Result<String, AllocError> {
+    let mut steps = Steps::new();
+    match read_batch(alloc, body, conf, &mut steps) {
+        Ok(edits) => {
+            let mut text = format!(in alloc; "{}", steps.count())?;
+            for edit in &edits {
+                text.push_str(&shown(alloc, edit)?)?;
+            }
+            Ok(text)
+        }
+        Err(refusal) => format!(in alloc; "{} {refusal}", steps.count()),
+    }
+}
+
+// A body, and what is read of it.
+static BODIES: &str = "put 0 2888;@remove 0;|1 put 0 remove 0
+add 0 2888;@add 0 2888;@|2 add 0 add 0
+replace 3071 2888;@|1 replace 3071
+remove 3071;|0 remove 3071
+|0 0 line
+;|0 0 line
+put 3072 2888;@|0 0 line
+remove 3072;|0 0 line
+put 0 2889;@|0 0 short
+put 0 2887;@|0 0 9 truncated 1
+put 0 0;|0 0 1 header 1
+put 0 4294967295;|0 0 short
+put 0 4294967296;|0 0 line
+put 0 18446744073709551616;|0 0 line
+put 18446744073709551616 2888;@|0 0 line
+put 0 02888;@|0 0 line
+put 00 2888;@|0 0 line
+put +0 2888;@|0 0 line
+put 0 2888 ;@|0 0 line
+put  0 2888;@|0 0 line
+put 0  2888;@|0 0 line
+ put 0 2888;@|0 0 line
+Put 0 2888;@|0 0 line
+put 0;|0 0 line
+remove 0 0;|0 0 line
+remove 01;|0 0 line
+remove -0;|0 0 line
+remove ;|0 0 line
+remove;|0 0 line
+remove 0|0 0 line
+remove 0;;|0 1 line
+remove 0;remove 1;removes 2;|0 2 line
+put 0 2888;@add 1 2888;@put 2 1;x|2 2 1 header 1
+put 0 2888;@remove 5;put 2 2889;@|1 2 short
+put 0 2888;@@|1 1 line";
+
+#[test]
+fn bodies_are_read_entry_by_entry(rt: HostRuntime) -> Result<(), Fail> {
+    let alloc = rt.alloc();
+    let conf = Conf::read(alloc, SURVEY.as_bytes())?;
+    for line in BODIES.lines() {
+        let (text, expected) = line.split_once('|').ok_or("no answer")?;
+        let found = answer(alloc, &body(alloc, text)?, &conf)?;
+        assert!(rt; found.as_str() == expected, "{text}: {found}");
+    }
+    Ok(())
+}
+
+// What is read of the first `len` bytes of a body of two entries.
+fn expected_of_cut(len: usize) -> &'static str {
+    match len {
+        0..11 => "0 0 line",
+        11..2_899 => "0 0 short",
+        2_899 => "1 put 0",
+        2_900..2_908 => "1 1 line",
+        _ => "1 put 0 remove 0",
+    }
+}
+
+#[test]
+fn a_body_is_cut_at_each_byte(rt: HostRuntime) -> Result<(), Fail> {
+    let alloc = rt.alloc();
+    let conf = Conf::read(alloc, SURVEY.as_bytes())?;
+    let body = body(alloc, "put 0 2888;@remove 0;")?;
+    assert_eq!(rt; body.len(), 2_908);
+    for (len, _) in body.iter().enumerate() {
+        let found = answer(alloc, &body[..len], &conf)?;
+        assert!(rt; found.as_str() == expected_of_cut(len), "{len}: {found}");
+    }
+    Ok(())
+}
+
+// How many edits are read of so many removals; or the refusal.
+fn removals(alloc: Global, count: usize, end: &str, conf: &Conf) -> Result<String, AllocError> {
+    let mut body = Vec::new(alloc);
+    for _ in 0..count {
+        body.extend_from_slice(b"remove 0\n")?;
+    }
+    body.extend_from_slice(end.as_bytes())?;
+    match read_batch(alloc, &body, conf, &mut Steps::new()) {
+        Ok(edits) => format!(in alloc; "{}", edits.len()),
+        Err(refusal) => format!(in alloc; "{refusal}"),
+    }
+}
+
+#[test]
+fn a_body_has_at_most_1024_entries(rt: HostRuntime) -> Result<(), Fail> {
+    let alloc = rt.alloc();
+    let conf = Conf::read(alloc, SURVEY.as_bytes())?;
+    assert!(rt; removals(alloc, 1_024, "", &conf)?.as_str() == "1024");
+    assert!(rt; removals(alloc, 1_025, "", &conf)?.as_str() == "1024 many");
+    assert!(rt; removals(alloc, 1_024, "x", &conf)?.as_str() == "1024 many");
+    assert!(rt; removals(alloc, 1_023, "x", &conf)?.as_str() == "1023 line");
+    assert_eq!(rt; batch_room(&conf), 437_760);
+    Ok(())
+}
