@@ -1,3 +1,4 @@
+//! The mosaic, made of all tiles.
 ghost use Rattle.std.specs.Prelude.{◌≡◌, ℕ, ◌-◌, ◌<◌, ◌≤◌, ◌↔◌, [], vec_len, slice_index_or, IfOk, IfSome, IsNone};
 ghost use Rattle.pyramid_model.specs.Shape.{PyramidShape, LeafMap};
 ghost use Rattle.allsky_mosaic.specs.Mosaic.{side_of};
@@ -8,11 +9,11 @@ use crate::bands::{ROWS, band};
 use leaf_store::Store;
 use parent_rule::Depth;
 use std::alloc::{AllocError, Global};
-use std::thread::{Threads, available_parallelism, map_indices};
+use std::thread::{Threads, available_parallelism, for_each_mut};
 use tile_pixels::Tile;
 
-// Tiles have at least this many pixels where they are halved or copied by a thread for each row of places: it takes many
-// times as long as to start the threads.
+// Tiles have at least this many pixels where they are halved or copied by more than one thread: it takes many times as long as
+// to start the threads.
 const PIXELS_OF_THREADS: usize = 1 << 20;
 
 /// The mosaic of the tiles of order 3, as the stored bytes of its image, bottom line first; `None` exactly where there is
@@ -58,23 +59,24 @@ fn all_bands<R: Threads + Sync>(
     requires tiles { AreOfOrder3 depth n tiles.now }
     ensures { IfOk result (λ raw. AreBands depth n tiles.now 28 29 raw.items) }
 {
-    if repay_threads(rt, tiles.len(), n) {
-        bands_by_many(rt, alloc, depth, n, tiles)
+    let threads = threads_for(rt, tiles.len(), n);
+    if threads > 1 {
+        bands_by_many(rt, alloc, depth, n, tiles, threads)
     } else {
         bands(alloc, depth, n, tiles)
     }
 }
 
-// Whether some tiles repay more than one thread, and there are processors for it.
-fn repay_threads(rt: &impl Threads, tiles: usize, n: u8) -> bool
+// How many threads some tiles repay: one, or as many as there are processors.
+fn threads_for(rt: &impl Threads, tiles: usize, n: u8) -> usize
     requires { n ≤ 9 }
 {
     if tiles.saturating_mul(1 << (2 * n)) < PIXELS_OF_THREADS {
-        return false;
+        return 1;
     }
     match available_parallelism(rt) {
-        Ok(count) => count.get() > 1,
-        Err(_) => true,
+        Ok(count) => count.get(),
+        Err(_) => 2,
     }
 }
 
@@ -93,20 +95,22 @@ fn bands(alloc: Global, depth: Depth, n: u8, tiles: &Store<Tile>) -> Result<Vec<
     Ok(raw)
 }
 
-// The bands, each made by a thread of its own.
+// The bands, made by so many threads.
 fn bands_by_many<R: Threads + Sync>(
     rt: &R,
     alloc: Global,
     depth: Depth,
     n: u8,
     tiles: &Store<Tile>,
+    threads: usize,
 ) -> Result<Vec<u8>, AllocError>
+    requires threads { 0 < threads }
     requires least_n { 1 ≤ n }
     requires greatest_n { n ≤ 9 }
     requires tiles { AreOfOrder3 depth n tiles.now }
     ensures { IfOk result (λ raw. AreBands depth n tiles.now 28 29 raw.items) }
 {
-    let made = each_band(rt, alloc, depth, n, tiles)?;
+    let made = each_band(rt, alloc, depth, n, tiles, threads)?;
     let mut raw = Vec::new(alloc);
     for next in &made {
         match next {
@@ -117,24 +121,38 @@ fn bands_by_many<R: Threads + Sync>(
     Ok(raw)
 }
 
-// Each band, the lowest first, or that there was no memory for it.
+// Each band, the lowest first, or that there was no memory for it. A thread makes a run of them.
 fn each_band<R: Threads + Sync>(
     rt: &R,
     alloc: Global,
     depth: Depth,
     n: u8,
     tiles: &Store<Tile>,
+    threads: usize,
 ) -> Result<Vec<Result<Vec<u8>, AllocError>>, AllocError>
+    requires threads { 0 < threads }
     requires least_n { 1 ≤ n }
     requires greatest_n { n ≤ 9 }
     requires tiles { AreOfOrder3 depth n tiles.now }
     ensures count { IfOk result (λ made. vec_len made ≡ 29) }
     ensures bands { IfOk result (λ made. (up : ℕ) (d : _) → up < 29 → IfOk (slice_index_or made.items up d) (λ band. AreBands depth n tiles.now (28 - up) 1 band.items)) }
 {
-    map_indices(
-        rt,
-        alloc,
-        ROWS as usize,
-        &|up| { band(alloc, depth, n, tiles, ROWS - 1 - up as u64) },
-    )
+    let mut made = no_bands(alloc)?;
+    let make = |up: usize, made: &mut Result<Vec<u8>, AllocError>|
+        requires { (1 ≤ n) × (n ≤ 9) × AreOfOrder3 depth n tiles.now × (up < 29) }
+        ensures { IfOk made.exit.now (λ band. AreBands depth n tiles.entry.now (28 - up) 1 band.items) }
+    { *made = band(alloc, depth, n, tiles, ROWS - 1 - up as u64) };
+    for_each_mut(rt, &mut made, threads, &make);
+    Ok(made)
+}
+
+// A place for each band, which is still empty.
+fn no_bands(alloc: Global) -> Result<Vec<Result<Vec<u8>, AllocError>>, AllocError>
+    ensures { IfOk result (λ made. vec_len made ≡ 29) }
+{
+    let mut made = Vec::with_capacity(alloc, ROWS as usize)?;
+    for _ in 0..ROWS {
+        made.push(Ok(Vec::new(alloc)))?;
+    }
+    Ok(made)
 }
