@@ -87,7 +87,7 @@ stop() {
 
 # ---- curl
 
-start 65536 4
+HIPSD_LOG=debug start 65536 4
 
 # asks CODE WORD ..: curl's WORDs, and the code of the reply.
 asks() {
@@ -109,6 +109,8 @@ asks 200 --http1.0 "$base/properties"
 grep -q '^survey_leaves = 1$' "$folder/body" || blame "properties by HTTP/1.0: $(cat "$folder/body")"
 asks 405 -X PUT -d '' "$base/properties"
 asks 405 -X BREW "$base/properties"
+asks 404 "$base/a%0Ab"
+grep -qF ' GET /a\nb: 404' "$folder/log" || blame "a path with a line end isn't one line of the log: $(tail -n 2 "$folder/log")"
 asks 411 -X PUT -H 'Content-Length:' "$leaf"
 asks 422 -X PUT -d 'no tile' "$leaf"
 asks 400 -H 'Host:' "$base/properties"

@@ -1,8 +1,8 @@
 -- Publications and pins, as they are answered.
-use Rattle.std.proofs.Common.{◌≡◌, ℕ, ◌+◌, ◌-◌, ◌*◌, ◌^◌, ◌<◌, ◌≤◌, ◌==◌, min, inl, inr, false, List, [], ◌∷◌, ◌++◌, map, take, drop, length, get_or, Option, Some, None, refl, sym, ap, ◌∙◌, subst, arith, length-append}
+use Rattle.std.proofs.Common.{◌≡◌, ℕ, ◌+◌, ◌-◌, ◌*◌, ◌<◌, ◌≤◌, inl, inr, List, [], ◌∷◌, ◌++◌, map, take, drop, length, get_or, Some, refl, sym, ap, ◌∙◌, subst, arith, length-append}
 use Rattle.std.specs.Prelude.{slice_get, All, Contains}
 use Rattle.std.proofs.lemmas.List.{drop-map, take_all, length-drop, get_or-drop, get_or-append_right}
-use Rattle.std.proofs.lemmas.List.Elements.{All-drop, All-contains_itself}
+use Rattle.std.proofs.lemmas.List.Elements.{All-contains_itself}
 use Rattle.std.proofs.lemmas.Option.{slice_get-get_or}
 use Rattle.pyramid_model.specs.Shape.{PyramidShape}
 use Rattle.dirty_plan.specs.Dirty.{work, steps_after}
@@ -13,11 +13,11 @@ use Rattle.survey_core.specs.History.{SurveyState, edits_at, opening_state, IsHi
 use Rattle.survey_core.specs.HistoryLaws.{begins_itself, begins_length, history_precedes, history_some}
 use Rattle.reader_pin.specs.Board.{BoardContent, Stays, Happens, Publishes, IsPublished, last_of, last_seen, edit_count, publish_work, holding_last, holding_none}
 use Rattle.hips_http.specs.declared.call.Call.TheVariants as call
-use Rattle.hips_http.specs.Replies.{Answer, published, already, no_memory, pinned, released}
+use Rattle.hips_http.specs.Replies.{published, already, no_memory, pinned, released}
 use Rattle.hips_http.specs.declared.call.Call.{Call}
 use Rattle.hips_http.specs.Answers.{Asking, Point, Answers, FindsNoMemory, publication_cost, cost_of}
-use Rattle.hips_http.specs.Progress.{IsAt, Serves}
-use Rattle.hips_http.proofs.Points.{stays_there, place_rises, kept_keeps, event_steps, wants_found, later_own, last_there, kept_point, wanting_point, holding_point, released_point, event_point, kept_at, wanting_at, event_at, event_later, event_old, event_new, event_begins, event_within}
+use Rattle.hips_http.specs.Progress.{Serves}
+use Rattle.hips_http.proofs.Points.{stays_there, place_rises, kept_keeps, event_steps, wants_found, later_own, last_there, kept_point, wanting_point, holding_point, released_point, event_point, kept_at, wanting_at, event_at, event_later, event_old, event_new, event_begins}
 
 -- ---- the steps of a publication
 

@@ -1,8 +1,7 @@
 -- Changes, as they are answered.
-use Rattle.std.proofs.Common.{◌≡◌, ℕ, ◌+◌, ◌-◌, ◌<◌, ◌≤◌, ◌==◌, inl, inr, Bool, true, false, not, List, [], ◌∷◌, ◌++◌, length, Option, Some, None, Ok, Err, refl, sym, ap, ◌∙◌, subst, arith, cond}
+use Rattle.std.proofs.Common.{◌≡◌, ℕ, ◌+◌, ◌-◌, ◌<◌, ◌≤◌, inl, inr, Bool, true, false, not, List, [], ◌∷◌, ◌++◌, length, Option, Some, None, Ok, Err, refl, sym, ap, ◌∙◌, arith}
 use Rattle.std.specs.Option.{option_or}
-use Rattle.std.specs.Prelude.{if◌then◌else◌, nat_le, nat_lt, ◌⊎◌, Result, slice_get, All, Contains, find, is_some, option_map, option_and_then}
-use Rattle.std.specs.List.{range_with_len}
+use Rattle.std.specs.Prelude.{if◌then◌else◌, nat_le, nat_lt, ◌⊎◌, slice_get, Contains, find, is_some, option_map, option_and_then}
 use Rattle.std.proofs.lemmas.Bool.{cases_order}
 use Rattle.std.proofs.lemmas.List.{append-nil}
 use Rattle.std.proofs.lemmas.Option.{slice_get_within}
@@ -22,17 +21,17 @@ use Rattle.edit_journal.specs.Edit.{LeafEdit, leaf_of}
 use Rattle.edit_journal.specs.Leaves.{LeafTiles, leaves_of, FitsTile, charge_of}
 use Rattle.edit_journal.specs.Faults.{has_leaf, leaf_fault, limit_fault, edit_fault, item_fault, batch_fault, most_edits, most_charge}
 use Rattle.survey_core.specs.declared.fault.EntryFault.{EntryFault}
-use Rattle.survey_core.specs.BatchBody.{BatchEntries, batch_entries, tile_count}
-use Rattle.survey_core.specs.History.{SurveyState, edits_at, IsHistory, Begins, AppendsBatch}
+use Rattle.survey_core.specs.BatchBody.{batch_entries, tile_count}
+use Rattle.survey_core.specs.History.{SurveyState, edits_at, IsHistory, AppendsBatch}
 use Rattle.survey_core.specs.HistoryLaws.{begins_itself, begins_length, history_some}
 use Rattle.reader_pin.specs.declared.answer.Accepted.{Accepted}
 use Rattle.reader_pin.specs.Board.{BoardContent, Stays, Happens, InOne, last_of, last_seen, edit_count}
 use Rattle.reader_pin.specs.Answers.{Accepts as BoardAccepts, AcceptsAll, IsRefused, AreRefused}
 use Rattle.hips_http.specs.declared.call.Call.{Call}
 use Rattle.hips_http.specs.declared.call.Call.TheVariants as call
-use Rattle.hips_http.specs.Verdict.{Cause, missing, unmet, limit, Verdict, refused, refused_at, accepted, Change, put, delete, batch, put_edit, delete_edit, cause_of, unmet_cause, delete_cause, edit_verdict, fields_verdict, batch_verdict, verdict}
+use Rattle.hips_http.specs.Verdict.{Cause, missing, unmet, limit, refused, accepted, Change, put, delete, batch, put_edit, delete_edit, cause_of, unmet_cause, delete_cause, edit_verdict, verdict}
 use Rattle.hips_http.specs.Replies.{Answer, refused_answer, refused_batch, accepted_answer, edited, batch_accepted, tile_refused, batch_refused}
-use Rattle.hips_http.specs.Answers.{Asking, Point, Asked, asked_put, asked_delete, asked_batch, refusal_of, Judges, Refuses, Accepts, Answers, cost_of}
+use Rattle.hips_http.specs.Answers.{Asking, Point, asked_put, refusal_of, Judges, Answers, cost_of}
 use Rattle.hips_http.specs.Progress.{Serves}
 use Rattle.hips_http.proofs.Points.{IsFound, last_there, kept_point, kept_at, kept_keeps, place_rises, event_point, event_at, event_old, event_new, event_begins, event_later, event_steps}
 

@@ -1,5 +1,5 @@
 -- Files, as they are answered.
-use Rattle.std.proofs.Common.{◌≡◌, ℕ, ◌+◌, ◌-◌, ◌<◌, ◌≤◌, List, length, Option, Some, None, refl, sym, ap, ◌∙◌, arith}
+use Rattle.std.proofs.Common.{◌≡◌, ℕ, ◌+◌, ◌-◌, ◌<◌, ◌≤◌, List, length, Option, Some, None, refl, sym, ◌∙◌, arith}
 use Rattle.std.specs.Prelude.{slice_get, unwrap_or, option_map}
 use Rattle.std.specs.Option.{option_map_or}
 use Rattle.survey_conf.specs.Description.{Description}
@@ -10,9 +10,9 @@ use Rattle.survey_core.specs.State.{StateContent, survey_state}
 use Rattle.survey_core.specs.Reply.{file_at}
 use Rattle.reader_pin.specs.Board.{BoardContent, Stays, last_seen, state_in}
 use Rattle.hips_http.specs.declared.call.Call.TheVariants as call
-use Rattle.hips_http.specs.Replies.{Answer, found_answer, not_found, file_answer}
-use Rattle.hips_http.specs.Answers.{Asking, Point}
-use Rattle.hips_http.specs.Progress.{IsHeld, IsAt, Serves}
+use Rattle.hips_http.specs.Replies.{found_answer, not_found, file_answer}
+use Rattle.hips_http.specs.Answers.{Asking}
+use Rattle.hips_http.specs.Progress.{IsHeld, Serves}
 use Rattle.hips_http.proofs.Points.{IsFound, last_there, kept_point, kept_at, kept_keeps, place_rises}
 use Rattle.hips_http.proofs.Changes.{stays_itself}
 

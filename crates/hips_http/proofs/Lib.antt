@@ -12,3 +12,4 @@ pub mod OneKind
 pub mod Same
 pub mod Effects
 pub mod Outcome
+pub mod Fulfilled

@@ -29,20 +29,20 @@ use Rattle.hips_http.proofs.Effects.{wants_rise, OwnSeen, at_end, are_newest}
 -- ---- which requests a connection has
 
 -- no whole request stands next
-abbrev NoWhole : ℕ → List ℕ → Type 0
+abbrev pub NoWhole : ℕ → List ℕ → Type 0
 NoWhole room bytes = (asked : Request) (path : Option (List ℕ)) (body more : List ℕ) → IsWhole room bytes asked path body more → ⊥
 
 -- the requests that are answered of these bytes, `count` others before them, of which the last asked to close or not: they go
 -- on as long as none asked to close, there are not too many, and a whole one stands next
-abbrev AreAll : ℕ → Bool → ℕ → List ℕ → List Asking → List ℕ → Type 0
+abbrev pub AreAll : ℕ → Bool → ℕ → List ℕ → List Asking → List ℕ → Type 0
 AreAll room closed count bytes [] rest = (rest ≡ bytes) × ((closed ≡ true) ⊎ ((count ≡ most_requests) ⊎ NoWhole room bytes))
 AreAll room closed count bytes (request ∷ requests) rest = (more : List ℕ) × (closed ≡ false) × (count < most_requests)
     × IsWhole room bytes request.asked request.path request.body more × AreAll room request.asked.close (count + 1) more requests rest
 
-abbrev StaysOpen : Asking → Type 0
+abbrev pub StaysOpen : Asking → Type 0
 StaysOpen request = request.asked.close ≡ false
 
-open_all : (room count : ℕ) (bytes : List ℕ) (requests : List Asking) (rest : List ℕ) → All StaysOpen requests → count + length requests ≤ most_requests
+pub open_all : (room count : ℕ) (bytes : List ℕ) (requests : List Asking) (rest : List ℕ) → All StaysOpen requests → count + length requests ≤ most_requests
     → (count + length requests ≡ most_requests) ⊎ NoWhole room rest → AreRequests room bytes requests rest → AreAll room false count bytes requests rest
 open_all room count bytes [] rest none few (inl all) are = (are, inr (inl (omega (arith, all))))
 open_all room count bytes [] rest none few (inr lacks) are = (are, inr (inr (subst (λ (b : List ℕ). NoWhole room b) are lacks)))
@@ -59,7 +59,7 @@ open_all room count bytes (request ∷ requests) rest none few why are = (
     moved (inl all) = inl (omega (arith, all))
     moved (inr lacks) = inr lacks
 
-asked_all : (room count : ℕ) (bytes : List ℕ) (before : List Asking) (last : Asking) (rest : List ℕ) → All StaysOpen before → count + length before < most_requests → last.asked.close ≡ true
+pub asked_all : (room count : ℕ) (bytes : List ℕ) (before : List Asking) (last : Asking) (rest : List ℕ) → All StaysOpen before → count + length before < most_requests → last.asked.close ≡ true
     → AreRequests room bytes (before ++ last ∷ []) rest → AreAll room false count bytes (before ++ last ∷ []) rest
 asked_all room count bytes [] last rest none few close are = (are.0, refl, omega (arith, few), are.1, (are.2, inl close))
 asked_all room count bytes (request ∷ before) last rest none few close are = (
@@ -71,8 +71,15 @@ asked_all room count bytes (request ∷ before) last rest none few close are = (
       (asked_all room (count + 1) are.0 before last rest (All-tail StaysOpen request before none) (omega (arith, few)) close are.2),
 )
 
+-- a whole request that stands next is answered, but for one that comes too late
+pub goes_on : (room : ℕ) (closed : Bool) (count : ℕ) (bytes : List ℕ) (request : Asking) (more : List ℕ) → closed ≡ false → count < most_requests → IsWhole room bytes request.asked request.path request.body more
+    → (closed ≡ true) ⊎ ((count ≡ most_requests) ⊎ NoWhole room bytes) → ⊥
+goes_on room closed count bytes request more still few whole (inl close) = true≢false (sym close ∙ still)
+goes_on room closed count bytes request more still few whole (inr (inl all)) = absurd (omega (arith, few, all))
+goes_on room closed count bytes request more still few whole (inr (inr lacks)) = lacks request.asked request.path request.body more whole
+
 module _ (one : NextIsOne) (heads : NextHeadIsOne) where
-  no_end : (room : ℕ) (bytes : List ℕ) → bytes ≡ [] → NoWhole room bytes
+  pub no_end : (room : ℕ) (bytes : List ℕ) → bytes ≡ [] → NoWhole room bytes
   no_end room bytes is asked path body more whole = let same = one room bytes no_request (whole_request asked path body more) is whole in cc
 
   no_refusal : (room : ℕ) (bytes : List ℕ) (code : ℕ) → IsRefusedNext room bytes code → NoWhole room bytes
@@ -98,7 +105,7 @@ module _ (one : NextIsOne) (heads : NextHeadIsOne) where
           let asked : h.0.asked ≡ k.0.asked = cc in
           h.1 ∙ ap leave_bytes asked ∙ sym k.1
 
-  all_of : (ended : SessionEnd) (room : ℕ) (bytes : List ℕ) (requests : List Asking) (rest : List ℕ) (outputs : List (List ℕ)) (exchange : Exchange) → IsFaultless ended
+  pub all_of : (ended : SessionEnd) (room : ℕ) (bytes : List ℕ) (requests : List Asking) (rest : List ℕ) (outputs : List (List ℕ)) (exchange : Exchange) → IsFaultless ended
       → AreRequests room bytes requests rest → Ends ended room requests rest outputs exchange → AreAll room false 0 bytes requests rest
   all_of end.Closed room bytes requests rest outputs exchange f are ends =
       let few = ends.0.few in
@@ -123,11 +130,11 @@ module _ (one : NextIsOne) (heads : NextHeadIsOne) where
 
   -- ---- the same requests, answers and states
 
-  asking_same : (asked asked' : Request) (path path' : Option (List ℕ)) (body body' more more' : List ℕ) → whole_request asked path body more ≡ whole_request asked' path' body' more' →
+  pub asking_same : (asked asked' : Request) (path path' : Option (List ℕ)) (body body' more more' : List ℕ) → whole_request asked path body more ≡ whole_request asked' path' body' more' →
       (let r : Asking = record { asked = asked; path = path; body = body } in let s : Asking = record { asked = asked'; path = path'; body = body' } in s ≡ r)
   asking_same asked asked' path path' body body' more more' e = cc
 
-  more_same : (asked asked' : Request) (path path' : Option (List ℕ)) (body body' more more' : List ℕ) → whole_request asked path body more ≡ whole_request asked' path' body' more' → more' ≡ more
+  pub more_same : (asked asked' : Request) (path path' : Option (List ℕ)) (body body' more more' : List ℕ) → whole_request asked path body more ≡ whole_request asked' path' body' more' → more' ≡ more
   more_same asked asked' path path' body body' more more' e = cc
 
   pub record RunsSame (states later later' : List SurveyState) (requests requests' : List Asking) (rest rest' : List ℕ) (last last' : Point) (outputs outputs' : List (List ℕ)) : Type 0 where
@@ -154,12 +161,6 @@ module _ (one : NextIsOne) (heads : NextHeadIsOne) where
           point = comes.point;
         }
 
-    goes_on : (closed : Bool) (count : ℕ) (bytes : List ℕ) (request : Asking) (more : List ℕ) → closed ≡ false → count < most_requests → IsWhole room bytes request.asked request.path request.body more
-        → (closed ≡ true) ⊎ ((count ≡ most_requests) ⊎ NoWhole room bytes) → ⊥
-    goes_on closed count bytes request more still few whole (inl close) = true≢false (sym close ∙ still)
-    goes_on closed count bytes request more still few whole (inr (inl all)) = absurd (omega (arith, few, all))
-    goes_on closed count bytes request more still few whole (inr (inr lacks)) = lacks request.asked request.path request.body more whole
-
     runs_same : (closed : Bool) (count : ℕ) (bytes : List ℕ) (p q : Point) (requests requests' : List Asking) (rest rest' : List ℕ) (last last' : Point) (outputs outputs' : List (List ℕ))
         → IsSame states later later' p q → AreAll room closed count bytes requests rest → AreAll room closed count bytes requests' rest'
         → (answered : AreAnswered conf opening later count p requests last outputs) → AreNewest states conf opening later count p requests last outputs answered → last.wants ≡ 0
@@ -172,9 +173,9 @@ module _ (one : NextIsOne) (heads : NextHeadIsOne) where
       point = subst (λ (x : Point). IsSame states later later' x last') (sym is.0) (subst (λ (x : Point). IsSame states later later' p x) (sym is'.0) same);
     }
     runs_same closed count bytes p q [] (r' ∷ rs') rest rest' last last' outputs outputs' same all all' is n none is' n' none' =
-        absurd (goes_on closed count bytes r' all'.0 all'.1 all'.2 all'.3 all.1)
+        absurd (goes_on room closed count bytes r' all'.0 all'.1 all'.2 all'.3 all.1)
     runs_same closed count bytes p q (r ∷ rs) [] rest rest' last last' outputs outputs' same all all' is n none is' n' none' =
-        absurd (goes_on closed count bytes r all.0 all.1 all.2 all.3 all'.1)
+        absurd (goes_on room closed count bytes r all.0 all.1 all.2 all.3 all'.1)
     runs_same closed count bytes p q (r ∷ rs) (r' ∷ rs') rest rest' last last' [] outputs' same all all' is n none is' n' none' = absurd is
     runs_same closed count bytes p q (r ∷ rs) (r' ∷ rs') rest rest' last last' (o ∷ os) [] same all all' is n none is' n' none' = absurd is'
     runs_same closed count bytes p q (r ∷ rs) (r' ∷ rs') rest rest' last last' (o ∷ os) (o' ∷ os') same all all' is n none is' n' none' =
@@ -197,9 +198,9 @@ module _ (one : NextIsOne) (heads : NextHeadIsOne) where
 
   -- ---- the same end
 
-  record EndsSame (ended ended' : SessionEnd) (written written' : List ℕ) : Type 0 where
-    end_same : ended ≡ ended'
-    written_same : written ≡ written'
+  pub record EndsSame (ended ended' : SessionEnd) (written written' : List ℕ) : Type 0 where
+    pub end_same : ended ≡ ended'
+    pub written_same : written ≡ written'
 
   closes_not : (requests : List Asking) (last : Asking) → All StaysOpen requests → EndsWith requests last → last.asked.close ≡ true → ⊥
   closes_not requests last none ends close = true≢false (sym close ∙ last_open ends.before (subst (λ (rs : List Asking). All StaysOpen rs) ends.is none))
@@ -209,7 +210,7 @@ module _ (one : NextIsOne) (heads : NextHeadIsOne) where
       last_open (x ∷ before) all = last_open before (All-tail StaysOpen x (before ++ last ∷ []) all)
 
   module _ (room : ℕ) (requests : List Asking) (rest : List ℕ) (outputs : List (List ℕ)) (x y : Exchange) where
-    ends_same : (ended ended' : SessionEnd) → IsFaultless ended → IsFaultless ended' → Ends ended room requests rest outputs x → Ends ended' room requests rest outputs y
+    pub ends_same : (ended ended' : SessionEnd) → IsFaultless ended → IsFaultless ended' → Ends ended room requests rest outputs x → Ends ended' room requests rest outputs y
         → EndsSame ended ended' x.written y.written
     ends_same end.Closed end.Closed f f' a b = record { end_same = refl; written_same = a.2 ∙ sym b.2 }
     ends_same end.Closed end.Asked f f' a b = absurd (closes_not requests b.0.0 a.0.none_closes b.0.1 b.0.2)
@@ -251,7 +252,7 @@ module _ (one : NextIsOne) (heads : NextHeadIsOne) where
 
 -- ---- the whole
 
-told_input : (ended : SessionEnd) (exchange : Exchange) → IsFaultless ended → told_bytes ended exchange ≡ input_of exchange
+pub told_input : (ended : SessionEnd) (exchange : Exchange) → IsFaultless ended → told_bytes ended exchange ≡ input_of exchange
 told_input end.Closed exchange f = refl
 told_input end.Asked exchange f = refl
 told_input (end.Refused code) exchange f = refl

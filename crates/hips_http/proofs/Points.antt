@@ -1,13 +1,12 @@
 -- Where a board is after a call.
-use Rattle.std.proofs.Common.{◌≡◌, ℕ, ◌+◌, ◌-◌, ◌<◌, ◌≤◌, ◌==◌, false, List, [], ◌∷◌, ◌++◌, length, Option, Some, None, refl, sym, ap, ◌∙◌, subst, arith, append_assoc, length-append}
+use Rattle.std.proofs.Common.{◌≡◌, ℕ, ◌+◌, ◌-◌, ◌<◌, ◌≤◌, ◌==◌, false, List, [], ◌∷◌, ◌++◌, length, Option, Some, None, refl, sym, ap, ◌∙◌, arith, append_assoc, length-append}
 use Rattle.std.specs.Prelude.{slice_get, All}
-use Rattle.std.proofs.lemmas.Grind.{common_steps}
 use Rattle.std.proofs.lemmas.List.{get_or-append_right}
 use Rattle.std.proofs.lemmas.List.Elements.{All-push, All-weaker}
 use Rattle.std.proofs.lemmas.Option.{slice_get-get_or}
-use Rattle.survey_core.specs.History.{SurveyState, opening_state, IsHistory, Begins}
-use Rattle.survey_core.specs.HistoryLaws.{begins_length, begins_trans, begins_more, slice_get-append, history_some}
-use Rattle.reader_pin.specs.Board.{BoardContent, Stays, Happens, last_of, last_seen, holding_last, holding_none}
+use Rattle.survey_core.specs.History.{SurveyState, opening_state, Begins}
+use Rattle.survey_core.specs.HistoryLaws.{begins_length, begins_trans, begins_more, slice_get-append}
+use Rattle.reader_pin.specs.Board.{BoardContent, Stays, Happens, last_of}
 use Rattle.hips_http.specs.Replies.{Answer}
 use Rattle.hips_http.specs.Answers.{Point, Keeps, Steps}
 use Rattle.hips_http.specs.Progress.{IsHeld, IsAt, wants_after}

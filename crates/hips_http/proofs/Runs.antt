@@ -1,10 +1,7 @@
 -- Runs over several requests: they go on by one more, and stay runs where more states follow.
-use Rattle.std.proofs.Common.{◌≡◌, ◌⊎◌, inl, inr, ℕ, zero, suc, ◌+◌, ◌-◌, ◌*◌, ◌<◌, ◌≤◌, Bool, true, false, List, [], ◌∷◌, ◌++◌, length, get_or, Option, Some, None, Ok, Err, refl, sym, ap, ◌∙◌, subst, arith, append_assoc}
-use Rattle.std.specs.Prelude.{slice_get, unwrap_or, Result, IfSome, IsSomeAnd}
-use Rattle.std.specs.List.{concat}
-use Rattle.std.proofs.lemmas.List.{append-nil}
+use Rattle.std.proofs.Common.{◌≡◌, inl, inr, ℕ, ◌+◌, ◌-◌, ◌<◌, List, [], ◌∷◌, ◌++◌, length, get_or, Ok, Err, refl, sym, ap, ◌∙◌, subst, arith}
+use Rattle.std.specs.Prelude.{slice_get, unwrap_or}
 use Rattle.std.proofs.lemmas.Option.{slice_get-get_or}
-use Rattle.pyramid_model.specs.Shape.{PyramidShape}
 use Rattle.survey_conf.specs.Description.{Description}
 use Rattle.edit_journal.specs.Leaves.{LeafTiles}
 use Rattle.http_frame.specs.Next.{IsWhole}
@@ -13,10 +10,9 @@ use Rattle.survey_core.specs.HistoryLaws.{begins_length}
 use Rattle.hips_http.specs.declared.call.Call.{Call}
 use Rattle.hips_http.specs.declared.call.Call.TheVariants as call
 use Rattle.hips_http.specs.Paths.{call_of}
-use Rattle.hips_http.specs.Verdict.{Change}
-use Rattle.hips_http.specs.Replies.{Answer, output_of}
-use Rattle.hips_http.specs.Answers.{Asking, Point, Asked, asked_put, asked_delete, asked_batch, Judges, Changes, Refuses, Accepts, Answers, IsAnswered, publication_cost, cost_of}
-use Rattle.hips_http.specs.SessionRun.{AreRequests, AreAnswered, IsOutput, closes}
+use Rattle.hips_http.specs.Replies.{Answer}
+use Rattle.hips_http.specs.Answers.{Asking, Point, Asked, asked_put, asked_delete, asked_batch, Judges, Changes, Answers, cost_of}
+use Rattle.hips_http.specs.SessionRun.{AreRequests, AreAnswered, IsOutput}
 use Rattle.hips_http.proofs.Points.{stays_there}
 
 -- ---- more states follow

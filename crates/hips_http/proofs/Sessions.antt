@@ -1,18 +1,18 @@
 -- Whole connections, from their requests.
-use Rattle.std.proofs.Common.{◌≡◌, ◌⊎◌, inl, inr, ℕ, ◌+◌, ◌-◌, ◌^◌, ◌<◌, ◌≤◌, ◌==◌, ◌||◌, min, Bool, true, false, List, [], ◌∷◌, ◌++◌, length, Option, Some, None, Ok, Err, refl, sym, ap, ◌∙◌, subst, arith, append_assoc, length-append}
+use Rattle.std.proofs.Common.{◌≡◌, ◌⊎◌, inl, inr, ℕ, ◌+◌, ◌<◌, ◌≤◌, true, false, List, [], ◌∷◌, ◌++◌, length, Option, Some, None, Ok, Err, refl, sym, ap, ◌∙◌, subst, arith, append_assoc, length-append}
 use Rattle.std.specs.Prelude.{IfSome, IsSomeAnd, All}
 use Rattle.std.specs.List.{concat}
 use Rattle.std.specs.Io.KnownBytes.{Appends, prepend_known}
 use Rattle.std.proofs.lemmas.List.{append-nil}
 use Rattle.std.proofs.lemmas.List.Elements.{All-push}
 use Rattle.survey_conf.specs.Description.{Description}
-use Rattle.survey_link.specs.Link.{Rises, next_count}
+use Rattle.survey_link.specs.Link.{Rises}
 use Rattle.edit_journal.specs.Leaves.{LeafTiles}
 use Rattle.http_frame.specs.Next.{IsWhole}
 use Rattle.http_frame.specs.declared.stop.Turn.TheVariants.{AtHead}
 use Rattle.http_frame.specs.Frame.{FrameState, unread}
-use Rattle.survey_core.specs.History.{SurveyState, IsHistory, Begins}
-use Rattle.survey_core.specs.HistoryLaws.{begins_trans, begins_itself, history_some}
+use Rattle.survey_core.specs.History.{SurveyState, IsHistory}
+use Rattle.survey_core.specs.HistoryLaws.{begins_trans, history_some}
 use Rattle.reader_pin.specs.Board.{BoardContent, holding_none}
 use Rattle.hips_http.specs.declared.call.Call.{Call}
 use Rattle.hips_http.specs.declared.call.Call.TheVariants as call
@@ -20,9 +20,9 @@ use Rattle.hips_http.specs.declared.served.SessionEnd.{SessionEnd}
 use Rattle.hips_http.specs.declared.served.SessionEnd.TheVariants as end
 use Rattle.hips_http.specs.Paths.{call_of}
 use Rattle.hips_http.specs.Replies.{Answer, output_of, refusal_bytes}
-use Rattle.hips_http.specs.Answers.{Asking, Point, Asked, asked_put, asked_delete, asked_batch, Judges, Changes, Answers}
-use Rattle.hips_http.specs.SessionRun.{AreRequests, AreAnswered, IsOutput, closes, room_of, most_requests, first_point, GoOn, EndsWith, BreaksOff, BreaksInRefusal, BreaksInLeave, Exchange, told_bytes, Ends, KeepsStates, IsServed, Goes}
-use Rattle.hips_http.specs.Progress.{IsAt, Serves, Serving, IsServedOne, BreaksOne, StopsOne, Untouched, EndsOne, IsBegunAt, Breaks, ReadsPart, LeavesPart, Progress, Going, wants_after}
+use Rattle.hips_http.specs.Answers.{Asking, Point, Asked, asked_put, asked_delete, asked_batch, Changes, Answers}
+use Rattle.hips_http.specs.SessionRun.{AreRequests, AreAnswered, IsOutput, closes, room_of, most_requests, first_point, GoOn, BreaksOff, BreaksInRefusal, BreaksInLeave, Exchange, told_bytes, Ends, KeepsStates, IsServed, Goes}
+use Rattle.hips_http.specs.Progress.{IsAt, Serving, IsServedOne, BreaksOne, StopsOne, EndsOne, IsBegunAt, LeavesPart, Progress, Going, wants_after}
 use Rattle.hips_http.proofs.Runs.{answered_more, answered_push, requests_push}
 use Rattle.hips_http.proofs.Truncated.{requests_front}
 use Rattle.hips_http.proofs.Steps.{appends_trans, split_of}

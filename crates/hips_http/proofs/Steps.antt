@@ -11,17 +11,16 @@ use Rattle.hips_http.specs.Paths.{IsOfKind}
 use Rattle.http_frame.specs.declared.request.Request.{Request}
 use Rattle.http_frame.specs.declared.stop.Stop.{Stop}
 use Rattle.http_frame.specs.declared.stop.Stop.TheVariants.{End, Cut, ReadFault, Refuse}
-use Rattle.http_frame.specs.Frame.{FrameState, unread, ReadsHead, StopsHead, StopsBody, KeepsUnread}
+use Rattle.http_frame.specs.Frame.{FrameState, unread, StopsHead, StopsBody, KeepsUnread}
 use Rattle.http_frame.specs.Next.{IsFound, IsWhole, IsRefusedNext, IsCut}
-use Rattle.http_frame.specs.Refusal.{has_wrong_hosts, has_wrong_length, lacks_length}
 use Rattle.http_frame.specs.Reply.{is_reply_code, continue_bytes}
 use Rattle.hips_http.specs.declared.served.SessionEnd.{SessionEnd}
 use Rattle.hips_http.specs.declared.served.SessionEnd.TheVariants as end
 use Rattle.hips_http.specs.Replies.{Answer, leave_bytes, refusal_bytes}
 use Rattle.hips_http.specs.SessionRun.{IsCutInput, room_of, most_requests}
-use Rattle.hips_http.specs.Progress.{EndsAt, EndsOne, Breaks, IsBegunAt, ReadsPart, LeavesNoBody, body_end, ReadsCall, Replied, Halts, Serves, Serving, IsServedOne, BreaksOne, StopsOne, LeavesPart, reply_of}
+use Rattle.hips_http.specs.Progress.{EndsAt, EndsOne, Breaks, ReadsPart, body_end, ReadsCall, Replied, Halts, Serves, Serving, IsServedOne, BreaksOne, StopsOne, LeavesPart, reply_of}
 use Rattle.hips_http.proofs.Whole.{appends_nothing}
-use Rattle.hips_http.proofs.Truncated.{Front, found_front}
+use Rattle.hips_http.proofs.Truncated.{found_front}
 
 -- ---- what was written
 

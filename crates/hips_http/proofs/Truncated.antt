@@ -1,9 +1,9 @@
 -- Requests of bytes of which the last were not read.
-use Rattle.std.proofs.Common.{◌≡◌, ◌⊎◌, inl, inr, ℕ, ◌+◌, ◌-◌, ◌<◌, ◌≤◌, List, [], ◌∷◌, ◌++◌, length, take, drop, slice_index, Option, refl, sym, ap, ◌∙◌, subst, arith, append_assoc, length-append}
+use Rattle.std.proofs.Common.{◌≡◌, ℕ, ◌+◌, ◌-◌, ◌≤◌, List, [], ◌∷◌, ◌++◌, length, take, drop, Option, refl, sym, ap, ◌∙◌, subst, arith, append_assoc, length-append}
 use Rattle.std.proofs.lemmas.List.{take-append-drop, take-append-le, drop-append-le, take_all, nil_from_length, length-drop, length-take-le, get_or_append_left}
-use Rattle.memchr.specs.Find.{OccursAt, Nowhere}
+use Rattle.memchr.specs.Find.{OccursAt}
 use Rattle.http_frame.specs.declared.request.Request.{Request}
-use Rattle.http_frame.specs.Next.{head_end, most_head, IsHeadLength, IsFound, IsWhole, IsTaken}
+use Rattle.http_frame.specs.Next.{head_end, IsHeadLength, IsFound, IsWhole, IsTaken}
 use Rattle.hips_http.specs.Answers.{Asking}
 use Rattle.hips_http.specs.SessionRun.{AreRequests}
 

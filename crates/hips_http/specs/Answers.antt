@@ -1,18 +1,17 @@
 -- What one request of a connection is answered, by the states of its survey: `states` are all that are known when the
 -- connection ends, and each request is answered at a place of theirs. This project's profile.
-use Rattle.std.specs.Prelude.{◌≡◌, ◌⊎◌, ℕ, ◌+◌, ◌-◌, ◌*◌, ◌<◌, ◌≤◌, Bool, List, [], ◌∷◌, ◌++◌, length, slice_get, Contains, Option, Some, None, unwrap_or, ℤ, Result, Ok, Err}
+use Rattle.std.specs.Prelude.{◌≡◌, ◌⊎◌, ℕ, ◌+◌, ◌-◌, ◌*◌, ◌<◌, ◌≤◌, List, [], ◌∷◌, ◌++◌, length, slice_get, Contains, Option, Some, None, unwrap_or, ℤ, Result, Ok, Err}
 use Rattle.survey_conf.specs.Description.{Description}
 use Rattle.pyramid_model.specs.Shape.{PyramidShape}
 use Rattle.dirty_plan.specs.Dirty.{work}
 use Rattle.generation.specs.Steps.{touched}
-use Rattle.tile_pixels.specs.Tile.{PixelTile}
 use Rattle.fits_tile.specs.Reading.{reads}
 use Rattle.fits_tile.specs.declared.fault.TileFault.{TileFault}
 use Rattle.edit_journal.specs.Edit.{LeafEdit}
 use Rattle.edit_journal.specs.Leaves.{LeafTiles}
 use Rattle.http_frame.specs.declared.request.Request.{Request}
 use Rattle.survey_core.specs.declared.fault.EntryFault.{EntryFault}
-use Rattle.survey_core.specs.BatchBody.{BatchEntries, batch_entries, tile_count}
+use Rattle.survey_core.specs.BatchBody.{batch_entries, tile_count}
 use Rattle.survey_core.specs.History.{SurveyState, edits_at, AppendsBatch, IsPublication}
 use Rattle.hips_http.specs.declared.call.PathKind.{PathKind}
 use Rattle.hips_http.specs.declared.call.Call.{Call}

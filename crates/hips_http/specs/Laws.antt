@@ -1,12 +1,15 @@
 -- Laws of connections, each the whole contract of a function of `laws`.
-use Rattle.std.specs.Prelude.{◌≡◌, ℕ, ◌+◌, ◌<◌, ◌≤◌, List, [], ◌∷◌, length, Contains}
+use Rattle.std.specs.Prelude.{◌≡◌, ◌⊎◌, ℕ, ◌+◌, ◌<◌, ◌≤◌, List, [], ◌∷◌, length, Contains}
+use Rattle.std.specs.List.{AllZip, concat}
 use Rattle.survey_conf.specs.Description.{Description}
+use Rattle.survey_link.specs.Link.{Rises}
 use Rattle.edit_journal.specs.Leaves.{LeafTiles}
 use Rattle.survey_core.specs.History.{SurveyState, IsHistory}
 use Rattle.hips_http.specs.declared.served.SessionEnd.{SessionEnd}
 use Rattle.hips_http.specs.declared.served.SessionEnd.TheVariants.{Closed, Asked, Refused, Cut, Spent, ReadFault, WriteFault, OutOfMemory}
 use Rattle.hips_http.specs.Answers.{Asking, Point}
 use Rattle.hips_http.specs.SessionRun.{Exchange, input_of, SessionRun, AreAnswered, first_point}
+use Rattle.hips_http.specs.Fulfilled.{IsSoundInput, AreAccepted, IsFulfilled}
 
 -- a connection to a survey of which these states were seen before it
 pub record Connection (conf : Description) (opening : LeafTiles) (states : List SurveyState) : Type 0 where
@@ -71,3 +74,35 @@ OneOutcome = (conf : Description) (opening : LeafTiles) (states : List SurveySta
 abbrev pub OwnIsNewest : Type 0
 OwnIsNewest = (conf : Description) (opening : LeafTiles) (states : List SurveyState) (c : Connection conf opening states)
     → IsHistory opening states → OwnsAll states c.later c.own → EachNewest c
+
+-- ---- completeness
+
+-- each change that was asked for was accepted by the state that judged it
+abbrev pub EachAccepted : {conf : Description} {opening : LeafTiles} {states : List SurveyState} → Connection conf opening states → Type 0
+EachAccepted {conf} {opening} {states} c =
+    AreAccepted conf opening c.later 0 (first_point states) c.run.requests c.run.last c.run.outputs c.run.answered
+
+-- neither the source nor the sink failed
+pub record IsUnbroken (exchange : Exchange) : Type 0 where
+  pub source : ¬ Rises exchange.source_faults exchange.source_faults_then
+  pub sink : ¬ Rises exchange.sink_faults exchange.sink_faults_then
+
+-- these requests were answered, each was fulfilled, and nothing else was written
+pub record FulfilsAll {conf : Description} {opening : LeafTiles} {states : List SurveyState} (c : Connection conf opening states) (requests : List Asking) : Type 0 where
+  pub ended : (c.end ≡ Closed) ⊎ (c.end ≡ Asked)
+  pub answered : c.run.requests ≡ requests
+  pub fulfilled : AllZip (IsFulfilled conf) c.run.requests c.run.outputs
+  pub written : c.exchange.written ≡ concat c.run.outputs
+
+-- there was no memory to begin with, and nothing was read, written or changed
+pub record NeverBegins {conf : Description} {opening : LeafTiles} {states : List SurveyState} (c : Connection conf opening states) : Type 0 where
+  pub ended : c.end ≡ OutOfMemory
+  pub read : c.exchange.read ≡ []
+  pub written : c.exchange.written ≡ []
+  pub later : c.later ≡ states
+
+-- the law of completeness: where the input has only sound requests, each change is accepted, and neither source nor sink
+-- fails, all requests are fulfilled, or the connection never begins
+abbrev pub Completeness : Type 0
+Completeness = (conf : Description) (opening : LeafTiles) (states : List SurveyState) (c : Connection conf opening states) (requests : List Asking)
+    → IsSoundInput conf (input_of c.exchange) requests → EachAccepted c → IsUnbroken c.exchange → FulfilsAll c requests ⊎ NeverBegins c

@@ -4,4 +4,5 @@ pub mod Replies
 pub mod Answers
 pub mod SessionRun
 pub mod Progress
+pub mod Fulfilled
 pub mod Laws

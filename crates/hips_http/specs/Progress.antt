@@ -4,7 +4,6 @@ use Rattle.std.specs.Prelude.{◌≡◌, ◌⊎◌, ℕ, ◌+◌, ◌<◌, ◌�
 use Rattle.std.specs.List.{concat}
 use Rattle.std.specs.Io.KnownBytes.{Appends}
 use Rattle.healpix_nested.specs.Cells.{cell_count}
-use Rattle.survey_conf.specs.Description.{Description}
 use Rattle.survey_link.specs.Link.{AppendsPrefix}
 use Rattle.survey_link.specs.declared.faults.Failed.{Failed}
 use Rattle.http_frame.specs.declared.request.Request.{Request}

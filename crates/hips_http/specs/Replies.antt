@@ -1,7 +1,7 @@
 -- The reply of each case: its code, its fields and its body (RFC 9110, section 15; RFC 4918, section 11.5). The texts of the
 -- bodies and the fields Survey-Prefix and Survey-Edits are this project's profile.
-use Rattle.std.specs.Prelude.{ℕ, Bool, true, false, List, [], ◌∷◌, ◌++◌, length, codes, decimal, Option, Some, None, if◌then◌else◌}
-use Rattle.std.specs.Option.{option_map_or, option_and_then}
+use Rattle.std.specs.Prelude.{ℕ, Bool, true, List, [], ◌∷◌, ◌++◌, length, codes, decimal, Option, Some, None, if◌then◌else◌}
+use Rattle.std.specs.Option.{option_map_or}
 use Rattle.std.specs.Str.{bytes_eq}
 use Rattle.survey_conf.specs.Description.{Description}
 use Rattle.fits_tile.specs.declared.fault.TileFault.{TileFault}

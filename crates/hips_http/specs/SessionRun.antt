@@ -1,6 +1,6 @@
 -- One connection, from when it is taken to when it is given back: which requests its input has, what they are answered, how
 -- it ends, and what is written. This project's profile; framing by RFC 9112.
-use Rattle.std.specs.Prelude.{◌≡◌, ◌⊎◌, ℕ, ◌+◌, ◌-◌, ◌*◌, ◌<◌, ◌≤◌, ◌==◌, ◌||◌, Bool, true, false, List, [], ◌∷◌, ◌++◌, length, take, All, Option, None, Some}
+use Rattle.std.specs.Prelude.{◌≡◌, ◌⊎◌, ℕ, ◌+◌, ◌-◌, ◌*◌, ◌<◌, ◌≤◌, ◌==◌, ◌||◌, Bool, true, false, List, [], ◌∷◌, ◌++◌, length, All, Option, None, Some}
 use Rattle.std.specs.List.{concat}
 use Rattle.fits_header.specs.Cards.{whole_blocks}
 use Rattle.fits_tile.specs.TileFile.{data_len}

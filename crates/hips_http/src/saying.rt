@@ -1,13 +1,12 @@
 //! What is said to the log.
 use http_frame::Method;
 use log::{Log, debug, info};
-use std::str;
 use std::time::{Clock, Instant};
 
-/// Says that a request was answered, and by which code.
+/// Says that a request was answered, and by which code: one line, whatever bytes its path has.
 pub(crate) fn say_answered<R: Log>(rt: &R, method: Method, path: Option<&[u8]>, code: u16) {
-    let path = path.and_then(|text| str::from_utf8(text).ok());
-    debug!(rt; "{} /{}: {code}", name(method), path.unwrap_or("?"));
+    let path = path.unwrap_or(b"?");
+    debug!(rt; "{} /{}: {code}", name(method), path.escape_ascii());
 }
 
 // How a method is written (RFC 9110, section 9.3).

@@ -1,7 +1,6 @@
-use Rattle.std.proofs.Common.{◌≡◌, ◌+◌, ◌≤◌, length, map, sym, ap, ◌∙◌, inr, arith}
+use Rattle.std.proofs.Common.{◌≡◌, length, map, ap, ◌∙◌, inr, arith}
 use Rattle.std.proofs.lemmas.List.{length-map}
 use Rattle.edit_journal.specs.Edit.{edit_of}
-use Rattle.reader_pin.specs.Board.{last_seen, edit_count}
 use Rattle.hips_http.specs.declared.call.Call.TheVariants as call
 use Rattle.hips_http.specs.Replies.{batch_accepted}
 use Rattle.hips_http.proofs.Calls.{no_memory_serves}

@@ -1,6 +1,5 @@
-use Rattle.std.proofs.Common.{◌≡◌, sym, ap, ◌∙◌, inr}
+use Rattle.std.proofs.Common.{sym, inr}
 use Rattle.edit_journal.specs.Edit.{edit_of}
-use Rattle.reader_pin.specs.Board.{last_seen, edit_count}
 use Rattle.hips_http.specs.declared.call.Call.TheVariants as call
 use Rattle.hips_http.proofs.Calls.{no_memory_serves}
 use Rattle.hips_http.proofs.Changes.{stays_itself, delete_unmet, delete_refused, delete_accepted}

@@ -1,11 +1,10 @@
-use Rattle.std.proofs.Common.{◌≡◌, ℕ, ◌+◌, ◌≤◌, Option, Some, None, Ok, sym, ap, ◌∙◌, inl, inr, refl, arith}
-use Rattle.std.specs.Prelude.{option_map}
+use Rattle.std.proofs.Common.{◌≡◌, sym, ap, ◌∙◌, inr}
 use Rattle.std.specs.Arc.{arc_value}
 use Rattle.edit_journal.specs.Edit.{edit_of}
 use Rattle.reader_pin.specs.Board.{last_seen, edit_count}
 use Rattle.hips_http.specs.declared.call.Call.TheVariants as call
 use Rattle.hips_http.specs.Verdict.{unmet}
-use Rattle.hips_http.specs.Replies.{edited, refused_answer}
+use Rattle.hips_http.specs.Replies.{refused_answer}
 use Rattle.hips_http.proofs.Calls.{no_memory_serves}
 use Rattle.hips_http.proofs.Changes.{stays_itself, put_unread, put_unmet, put_refused, put_accepted}
 use Rattle.hips_http.proofs.change.put.Goals as goal

@@ -1,8 +1,7 @@
-use Rattle.std.proofs.Common.{◌≡◌, ◌<◌, ◌≤◌, true, false, Err, refl, ap, ◌∙◌, subst, arith}
+use Rattle.std.proofs.Common.{◌≡◌, Err, ap, arith}
 use Rattle.http_frame.specs.Frame.{unread}
 use Rattle.hips_http.specs.declared.served.SessionEnd.TheVariants.{Asked}
-use Rattle.hips_http.specs.SessionRun.{most_requests, room_of}
-use Rattle.hips_http.specs.Progress.{IsServedOne}
+use Rattle.hips_http.specs.SessionRun.{most_requests}
 use Rattle.hips_http.proofs.Sessions.{Ended, begins_loop, loop_goes_on, asked_served, stopped_served, spent_served, rises_from}
 use Rattle.hips_http.proofs.connection.session_in.Goals as goal
 

@@ -1,4 +1,4 @@
-use Rattle.std.proofs.Common.{◌≡◌, sym, ap, ◌∙◌}
+use Rattle.std.proofs.Common.{◌≡◌, ap, ◌∙◌}
 use Rattle.reader_pin.specs.Board.{last_seen}
 use Rattle.hips_http.specs.Replies.{pinned}
 use Rattle.hips_http.proofs.Calls.{pinned_serves}

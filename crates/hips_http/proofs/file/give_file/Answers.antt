@@ -1,4 +1,3 @@
-use Rattle.std.proofs.Common.{sym}
 use Rattle.survey_core.specs.State.{survey_state}
 use Rattle.std.specs.Prelude.{option_copied}
 use Rattle.hips_http.specs.Replies.{file_answer}

@@ -1,4 +1,4 @@
-use Rattle.std.proofs.Common.{◌≡◌, None, ap, ◌∙◌}
+use Rattle.std.proofs.Common.{◌≡◌, None}
 use Rattle.survey_core.specs.State.{survey_state}
 use Rattle.survey_core.specs.Reply.{file_at}
 use Rattle.survey_core.specs.History.{leaves_at}

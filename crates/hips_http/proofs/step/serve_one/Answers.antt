@@ -1,6 +1,6 @@
-use Rattle.std.proofs.Common.{◌≡◌, inl, inr, Err, refl, ap}
+use Rattle.std.proofs.Common.{◌≡◌, inl, inr, Err, ap}
 use Rattle.hips_http.specs.declared.served.SessionEnd.{SessionEnd}
-use Rattle.hips_http.specs.declared.served.SessionEnd.TheVariants.{ReadFault, WriteFault}
+use Rattle.hips_http.specs.declared.served.SessionEnd.TheVariants.{ReadFault}
 use Rattle.hips_http.proofs.Steps.{head_stops, stops_by_read, leave_stops, served_one, breaks_one, halts_one, is_write_fault, kept_part, head_part, body_part, no_body_part}
 use Rattle.hips_http.proofs.step.serve_one.Goals as goal
 
