@@ -9,7 +9,7 @@ use survey_conf::Conf;
 use survey_core::{batch_room, read_batch};
 
 // A body: the text, where `;` stands for a line feed and `@` for the file of a tile, 2,888 bytes.
-fn body(alloc: Global, text: &str) -> Result<Vec<u8>, Fail> {
+pub(crate) fn body(alloc: Global, text: &str) -> Result<Vec<u8>, Fail> {
     let mut file = Vec::new(alloc);
     push_body(alloc, &mut file, "tile 4 0&short 1 2 3 5")?;
     let mut body = Vec::new(alloc);

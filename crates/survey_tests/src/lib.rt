@@ -18,4 +18,6 @@ mod rows;
 #[cfg(test)]
 mod shelves;
 #[cfg(test)]
+mod states;
+#[cfg(test)]
 mod surveys;

@@ -1,16 +1,17 @@
 //! The most that a connection or a survey takes.
-use crate::rows::{push_body, replies, requests};
-use crate::surveys::{SURVEY, answers, opened, serve};
+use crate::rows::{replies, requests};
+use crate::surveys::{SURVEY, answers, fits, opened};
+use edit_journal::Edit;
 use hips_http::SessionEnd;
 use log::Log;
 use parent_rule::Steps;
 use reader_pin::{Board, Solo};
 use std::alloc::Global;
-use std::sync::Wait;
+use std::sync::{Arc, Wait};
 use std::test::Fail;
 use std::thread::Threads;
 use std::time::Clock;
-use survey_link::{MemSink, MemSource, OpenGate};
+use tile_pixels::Tile;
 
 // A survey of order 11, and one that goes down to order 0.
 static DEEP: &str = "creator_did = ivo://example/P/one
@@ -84,56 +85,34 @@ fn two_far_leaves_are_published(rt: HostRuntime) -> Result<(), Fail> {
     Ok(())
 }
 
-// A batch of 256 edits: leaf 0 is put and removed, 128 times.
-fn batch_of_256(alloc: Global) -> Result<Vec<u8>, Fail> {
-    let mut input = requests(alloc, "POST /batch;Content-Length: 372224")?;
-    for _ in 0..128 {
-        push_body(
-            alloc,
-            &mut input,
-            "line put 0 2888&tile 4 0&short 1 2 3 5&line remove 0",
-        )?;
-    }
-    Ok(input)
-}
-
-// Has the board accept 65,536 edits, by 256 connections of that batch.
-fn fill<R: Threads + Wait + Sync + Clock + Log>(
+// Whether the board accepts so many edits, one by one, each of which puts the same tile on leaf 0.
+fn accepts<B: Board, R: Wait>(
     rt: &R,
     alloc: Global,
-    board: &mut Solo,
-) -> Result<(), Fail> {
-    let batch = batch_of_256(alloc)?;
-    for _ in 0..256 {
-        send(rt, alloc, board, &batch)?;
+    board: &mut B,
+    count: u32,
+) -> Result<bool, Fail> {
+    let shape = board.last().conf().shape();
+    if shape.depth.bytes() != 2 || shape.n != 1 {
+        return Err("other tiles".into());
     }
-    Ok(())
-}
-
-// Sends the input as a connection.
-fn send<R: Threads + Wait + Sync + Clock + Log>(
-    rt: &R,
-    alloc: Global,
-    board: &mut Solo,
-    input: &[u8],
-) -> Result<(), Fail> {
-    let mut source = MemSource::new(Vec::from_slice(alloc, input)?, 65_536, Vec::new(alloc));
-    let mut sink = MemSink::new(alloc, 1_024, Vec::new(alloc))?;
-    serve(
-        rt,
-        alloc,
-        board,
-        &mut source,
-        &mut sink,
-        &OpenGate::new(),
-        &mut Steps::new(),
-    );
-    Ok(())
+    let tile = Tile::from_bytes(alloc, &[1; 8], shape.depth, shape.n, &mut Steps::new())?;
+    let tile = Arc::new(alloc, tile)?;
+    for _ in 0..count {
+        let edit = Edit::Put {
+            leaf: 0,
+            tile: tile.clone()?,
+        };
+        if !fits(board.last(), &edit) || board.edit(rt, edit).is_err() {
+            return Ok(false);
+        }
+    }
+    Ok(true)
 }
 
 static ONE_MORE: &str = "PUT /Norder4/Dir0/Npix0.fits;Content-Length: 2888|tile 4 0&short 1 2 3 5
 DELETE /Norder4/Dir0/Npix1.fits
-PUT /Norder4/Dir0/Npix0.fits;If-Match: *;Content-Length: 2888|tile 4 0&short 1 2 3 5";
+PUT /Norder4/Dir0/Npix0.fits;If-None-Match: *;Content-Length: 2888|tile 4 0&short 1 2 3 5";
 
 static REFUSED: &str =
     "507 Insufficient Storage;Content-Type: text/plain;Content-Length: 8;Survey-Edits: 65536|line limit 3
@@ -144,7 +123,7 @@ static REFUSED: &str =
 fn a_survey_takes_no_more_edits(rt: HostRuntime) -> Result<(), Fail> {
     let alloc = rt.alloc();
     let mut board = opened(&rt, alloc, SURVEY)?;
-    fill(&rt, alloc, &mut board)?;
+    assert!(rt; accepts(&rt, alloc, &mut board, 65_536)?);
     let is_refused = asks(&rt, alloc, &mut board, ONE_MORE, REFUSED, &mut Steps::new())?;
     assert!(rt; is_refused);
     Ok(())

@@ -1,5 +1,11 @@
 //! Surveys without leaves, and connections to them.
+ghost use Rattle.std.specs.Prelude.{IsTrue};
+ghost use Rattle.edit_journal.specs.Edit.{edit_of};
+ghost use Rattle.edit_journal.specs.Leaves.{FitsEdit};
+
+use edit_journal::Edit;
 use generation::Generation;
+use healpix_nested::cells;
 use hips_http::{SessionEnd, session};
 use leaf_store::Store;
 use log::Log;
@@ -25,12 +31,12 @@ survey_bitpix = 16
 survey_blank = -32768
 ";
 
-// The board of the survey with that description, without leaves.
-pub(crate) fn opened<R: Threads + Sync + Clock + Log>(
+// The first state of the survey with that description, without leaves.
+pub(crate) fn first_state<R: Threads + Sync>(
     rt: &R,
     alloc: Global,
     conf: &str,
-) -> Result<Solo, Fail> {
+) -> Result<State, Fail> {
     let conf = Arc::new(alloc, Conf::read(alloc, conf.as_bytes())?)?;
     let generation = Generation::start(
         rt,
@@ -40,8 +46,26 @@ pub(crate) fn opened<R: Threads + Sync + Clock + Log>(
         &OpenGate::new(),
         &mut Steps::new(),
     )?;
-    let state = State::start(alloc, Arc::new(alloc, generation)?)?;
-    Ok(Solo::new(alloc, state)?)
+    Ok(State::start(alloc, Arc::new(alloc, generation)?)?)
+}
+
+// The board of that survey.
+pub(crate) fn opened<R: Threads + Sync>(rt: &R, alloc: Global, conf: &str) -> Result<Solo, Fail> {
+    Ok(Solo::new(alloc, first_state(rt, alloc, conf)?)?)
+}
+
+// Whether the edit fits the survey of a state.
+pub(crate) fn fits(state: &State, edit: &Edit) -> bool
+    ensures { IsTrue result → FitsEdit state.now.conf.shape (edit_of edit.now) }
+{
+    let shape = state.conf().shape();
+    if edit.leaf() >= cells(shape.top) {
+        return false;
+    }
+    match edit.tile() {
+        Some(tile) => tile.depth() == shape.depth && tile.n() == shape.n,
+        None => true,
+    }
 }
 
 // Serves a connection over the board, and answers how it ends: `OutOfMemory` also where a reply told want of memory.

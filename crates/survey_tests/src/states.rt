@@ -1,0 +1,128 @@
+//! A survey as it goes from state to state.
+ghost use Rattle.std.specs.Prelude.{◌≤◌, IsTrue, Contains, length};
+ghost use Rattle.edit_journal.specs.Batches.{ends};
+ghost use Rattle.survey_core.specs.State.{state_edits};
+
+use crate::bodies::body;
+use crate::surveys::{SURVEY, first_state, fits};
+use edit_journal::{BatchRefusal, EditRefusal};
+use parent_rule::Steps;
+use std::alloc::Global;
+use std::sync::Arc;
+use std::test::Fail;
+use std::thread::Threads;
+use survey_core::{InstallRefusal, State, read_batch};
+use survey_link::OpenGate;
+
+// The state with the one edit of a body, or the number of its fault.
+fn with_edit(alloc: Global, state: &State, text: &str) -> Result<Result<State, u8>, Fail> {
+    let body = body(alloc, text)?;
+    let mut edits = read_batch(alloc, &body, state.conf(), &mut Steps::new())?;
+    let edit = edits.pop().ok_or("no edit")?;
+    if !fits(state, &edit) {
+        return Ok(Err(255));
+    }
+    match state.accept(edit) {
+        Ok(next) => Ok(Ok(next)),
+        Err(EditRefusal::Fault(fault)) => Ok(Err(fault.number())),
+        Err(EditRefusal::OutOfMemory) => Ok(Err(0)),
+    }
+}
+
+// The state with the batch of a body, or the place and the number of its fault, as one number.
+fn with_batch(alloc: Global, state: &State, text: &str) -> Result<Result<State, u8>, Fail> {
+    let body = body(alloc, text)?;
+    let edits = read_batch(alloc, &body, state.conf(), &mut Steps::new())?;
+    match state.accept_all(edits) {
+        Ok(next) => Ok(Ok(next)),
+        Err(BatchRefusal::Fault(fault)) => {
+            Ok(Err((fault.at.min(9) * 10) as u8 + fault.fault.number()))
+        }
+        Err(BatchRefusal::OutOfMemory) => Ok(Err(0)),
+    }
+}
+
+// Whether the first `k` edits can be published: they are whole batches, and not fewer than the tip.
+fn can_publish(state: &State, k: u32) -> bool
+    ensures whole { IsTrue result → Contains (ends state.now.batches) k }
+    ensures known { IsTrue result → k ≤ length (state_edits state.now) }
+    ensures forward { IsTrue result → state.now.tip ≤ k }
+{
+    state.journal().is_end(k) && k <= state.edits() && state.tip() <= k
+}
+
+// The state with the first `k` edits published, or the tip, at which they are already.
+fn published<R: Threads + Sync>(
+    rt: &R,
+    alloc: Global,
+    state: &State,
+    k: u32,
+) -> Result<Result<State, u8>, Fail> {
+    if !can_publish(state, k) {
+        return Ok(Err(255));
+    }
+    let gate = OpenGate::new();
+    let mut steps = Steps::new();
+    let next = state
+        .generation()
+        .next(rt, state.journal(), k, &gate, &mut steps)?;
+    match state.install(Arc::new(alloc, next)?) {
+        Ok(next) => Ok(Ok(next)),
+        Err(InstallRefusal::Already { tip }) => Ok(Err(tip.min(9) as u8)),
+        Err(InstallRefusal::OutOfMemory) => Ok(Err(0)),
+    }
+}
+
+// One step by its word: `edit` or `batch` and a body, or `publish` and a number.
+fn after<R: Threads + Sync>(
+    rt: &R,
+    alloc: Global,
+    state: &State,
+    word: &str,
+    rest: &str,
+) -> Result<Result<State, u8>, Fail> {
+    match word {
+        "edit" => with_edit(alloc, state, rest),
+        "batch" => with_batch(alloc, state, rest),
+        _ => published(rt, alloc, state, rest.parse::<u32>()?),
+    }
+}
+
+// A step, what is said against it, and then how many edits there are, how many are published, and how many leaves.
+static STEPS: &str = "publish|0|0 0 0 0
+edit|add 0 2888;@|- 1 0 1
+edit|add 0 2888;@|1 1 0 1
+edit|remove 5;|2 1 0 1
+batch|add 1 2888;@add 1 2888;@|11 1 0 1
+batch|add 1 2888;@remove 0;put 3071 2888;@|- 4 0 2
+publish|2|255 4 0 2
+publish|5|255 4 0 2
+publish|1|- 4 1 2
+publish|1|1 4 1 2
+publish|0|255 4 1 2
+edit|remove 1;|- 5 1 1
+publish|5|- 5 5 1
+publish|5|5 5 5 1
+batch|remove 3071;|- 6 5 0";
+
+#[test]
+fn a_survey_goes_from_state_to_state(rt: HostRuntime) -> Result<(), Fail> {
+    let alloc = rt.alloc();
+    let mut state = first_state(&rt, alloc, SURVEY)?;
+    for line in STEPS.lines() {
+        let (word, rest) = line.split_once('|').ok_or("no word")?;
+        let (rest, expected) = rest.split_once('|').ok_or("no answer")?;
+        let said = match after(&rt, alloc, &state, word, rest)? {
+            Ok(next) => {
+                state = next;
+                format!(in alloc; "-")?
+            }
+            Err(number) => format!(in alloc; "{number}")?,
+        };
+        let leaves = state.journal().leaves().len();
+        let found = format!(in alloc; "{said} {} {} {leaves}", state.edits(), state.tip())?;
+        assert!(rt; found.as_str() == expected, "{line}: {found}");
+        assert_eq!(rt; state.generation().prefix(), state.tip());
+    }
+    Ok(())
+}
