@@ -12,13 +12,9 @@ pub mod laws;
 mod mark;
 mod next;
 mod shared;
-#[cfg(test)]
-mod shared_tests;
 mod sight;
 mod solo;
 mod survey;
-#[cfg(test)]
-mod tests;
 
 pub use answer::{Accepted, BoardBatch, BoardRefusal, Published};
 pub use board::Board;

@@ -1,4 +1,4 @@
-use Rattle.reader_pin.proofs.shared_tests.one_leaf_passes_the_gate_once.Given as goal
+use Rattle.board_tests.proofs.shared.edits_go_on_while_a_publication_is_built.Given as goal
 
 abbrev pub ghosts-played : goal.ghosts-played
 ghosts-played g a = record { book = a.book }

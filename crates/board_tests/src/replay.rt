@@ -1,7 +1,7 @@
 //! One history, and whether it explains what boards told.
-use crate::Published;
-use crate::shared_tests::storm::{Answer, Asked, Call, Seen, Told};
+use crate::calling::{Answer, Asked, Call, Seen, Told};
 use edit_journal::Edit;
+use reader_pin::Published;
 use std::alloc::Global;
 use std::process::Abort;
 use std::test::Fail;

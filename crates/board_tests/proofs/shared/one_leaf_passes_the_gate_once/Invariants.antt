@@ -1,4 +1,4 @@
-use Rattle.reader_pin.proofs.shared_tests.boards_see_one_history.Given as goal
+use Rattle.board_tests.proofs.shared.one_leaf_passes_the_gate_once.Given as goal
 
 abbrev pub ghosts-played : goal.ghosts-played
 ghosts-played g a = record { book = a.book }

@@ -1,60 +1,15 @@
-//! A survey through the board of its only connection.
-ghost use Rattle.std.specs.Prelude.{◌≡◌, [], map, All, IfOk, IsTrue};
-ghost use Rattle.edit_journal.specs.Edit.{edit_of};
-ghost use Rattle.edit_journal.specs.Leaves.{FitsEdit};
-
-use crate::{Board, BoardBatch, BoardRefusal, Published, Solo};
+//! Calls of boards as lines of text, and what they are answered.
+use crate::survey::{all_fit, fits, tile};
 use edit_journal::Edit;
-use generation::Generation;
-use healpix_nested::cells;
-use leaf_store::Store;
 use parent_rule::{Depth, Steps};
+use reader_pin::{Board, BoardBatch, BoardRefusal, Published};
 use std::alloc::{AllocError, Global};
 use std::process::Abort;
-use std::sync::{Arc, Wait};
+use std::sync::Wait;
 use std::test::Fail;
 use std::thread::Threads;
-use survey_conf::Conf;
 use survey_core::State;
 use survey_link::OpenGate;
-use tile_pixels::Tile;
-
-// A survey of order 4 whose tiles have two columns and two lines of 16 bits.
-const SURVEY: &str = "creator_did = ivo://example/P/one
-obs_title = Survey one
-hips_release_date = 2024-05-01T00:00Z
-hips_status = public master clonable
-hips_order = 4
-hips_tile_width = 2
-survey_bitpix = 16
-survey_blank = -32768
-";
-
-// The first state of the survey, which has no leaf yet.
-pub(crate) fn first_state<R: Threads + Sync>(rt: &R, alloc: Global) -> Result<State, Fail>
-    ensures { IfOk result (λ state. state.batches ≡ []) }
-{
-    let conf = Arc::new(alloc, Conf::read(alloc, SURVEY.as_bytes())?)?;
-    let gate = OpenGate::new();
-    let generation = Generation::start(
-        rt,
-        alloc,
-        conf,
-        Store::new(alloc),
-        &gate,
-        &mut Steps::new(),
-    )?;
-    Ok(State::start(alloc, Arc::new(alloc, generation)?)?)
-}
-
-// A tile of two columns and two lines of 16 bits.
-pub(crate) fn tile(alloc: Global, depth: Depth) -> Result<Arc<Tile>, Fail> {
-    if depth.bytes() != 2 {
-        return Err("other tiles".into());
-    }
-    let tile = Tile::from_bytes(alloc, &[1; 8], depth, 1, &mut Steps::new())?;
-    Ok(Arc::new(alloc, tile)?)
-}
 
 // The edit that a letter and a number stand for: P to put, A to add, R to replace, D to remove.
 pub(crate) fn edit(alloc: Global, depth: Depth, text: &str) -> Result<Edit, Fail> {
@@ -76,31 +31,6 @@ fn edits(alloc: Global, depth: Depth, text: &str) -> Result<Vec<Edit>, Fail> {
         edits.push(edit(alloc, depth, part)?)?;
     }
     Ok(edits)
-}
-
-// Whether the edit fits the board's survey.
-pub(crate) fn fits<B: Board>(board: &B, edit: &Edit) -> bool
-    ensures { IsTrue result → FitsEdit (B.content board.now).conf.shape (edit_of edit.now) }
-{
-    let shape = board.last().conf().shape();
-    if edit.leaf() >= cells(shape.top) {
-        return false;
-    }
-    match edit.tile() {
-        Some(tile) => tile.depth() == shape.depth && tile.n() == shape.n,
-        None => true,
-    }
-}
-
-pub(crate) fn all_fit<B: Board>(board: &B, edits: &[Edit]) -> bool
-    ensures { IsTrue result → All (FitsEdit (B.content board.now).conf.shape) (map edit_of edits.now) }
-{
-    for edit in edits {
-        if !fits(board, edit) {
-            return false;
-        }
-    }
-    true
 }
 
 // What the board answers to an edit.
@@ -158,7 +88,7 @@ fn told_of_publication<B: Board, R: Threads + Wait + Sync>(
 }
 
 // What it answers to a call by its word.
-pub(crate) fn told<B: Board, R: Threads + Wait + Sync>(
+fn told<B: Board, R: Threads + Wait + Sync>(
     rt: &R,
     alloc: Global,
     board: &mut B,
@@ -184,7 +114,7 @@ pub(crate) fn told<B: Board, R: Threads + Wait + Sync>(
 }
 
 // How many edits a state has, how many of them are published, and how many leaves these leave.
-pub(crate) fn shown(alloc: Global, state: Option<&State>) -> Result<String, AllocError> {
+fn shown(alloc: Global, state: Option<&State>) -> Result<String, AllocError> {
     match state {
         Some(state) => {
             let leaves = state.generation().leaves().len();
@@ -193,30 +123,6 @@ pub(crate) fn shown(alloc: Global, state: Option<&State>) -> Result<String, Allo
         None => format!(in alloc; "none"),
     }
 }
-
-// A call, what is answered, the last state seen then, and the one that is held.
-const CALLS: &str = "pin|||0 0 0|none
-publish||already 0 by 0|0 0 0|none
-edit|P 0|1 true|1 0 0|none
-pin|||1 0 0|none
-publish||new 1 by 1|1 1 1|none
-publish||already 1 by 0|1 1 1|none
-hold|||1 1 1|1 1 1
-edit|P 0|2 false|2 1 1|1 1 1
-edit|A 0|fault 1 after 2|2 1 1|1 1 1
-edit|D 5|fault 2 after 2|2 1 1|1 1 1
-batch|A 1,A 1|fault 1 at 1 after 2|2 1 1|1 1 1
-batch|A 1,D 0,P 3071|5|5 1 1|1 1 1
-batch|R 1,R 0,D 1|fault 2 at 1 after 5|5 1 1|1 1 1
-edit|A 0|6 true|6 1 1|1 1 1
-publish||new 6 by 2|6 6 3|1 1 1
-pin|||6 6 3|1 1 1
-hold|||6 6 3|6 6 3
-edit|D 3071|7 false|7 6 3|6 6 3
-hold|||7 6 3|7 6 3
-publish||new 7 by 1|7 7 2|7 6 3
-release|||7 7 2|none
-publish||already 7 by 0|7 7 2|none";
 
 // Makes the call of a line, and compares what is answered, the last state seen then, and the one that is held.
 pub(crate) fn check<B: Board, R: Threads + Wait + Abort + Sync>(
@@ -232,15 +138,5 @@ pub(crate) fn check<B: Board, R: Threads + Wait + Abort + Sync>(
     let held = shown(alloc, board.held())?;
     let found = format!(in alloc; "{answer}|{last}|{held}")?;
     assert!(rt; found.as_str() == expected, "{line}: {found}");
-    Ok(())
-}
-
-#[test]
-fn a_survey_has_one_board(rt: HostRuntime) -> Result<(), Fail> {
-    let alloc = rt.alloc();
-    let mut board = Solo::new(alloc, first_state(&rt, alloc)?)?;
-    for line in CALLS.lines() {
-        check(&rt, alloc, &mut board, line)?;
-    }
     Ok(())
 }

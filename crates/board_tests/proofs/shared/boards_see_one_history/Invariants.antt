@@ -1,4 +1,4 @@
-use Rattle.reader_pin.proofs.shared_tests.one_history_explains_a_storm.Given as goal
+use Rattle.board_tests.proofs.shared.boards_see_one_history.Given as goal
 
 abbrev pub ghosts-played : goal.ghosts-played
 ghosts-played g a = record { book = a.book }

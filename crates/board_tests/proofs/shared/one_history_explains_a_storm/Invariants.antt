@@ -1,4 +1,4 @@
-use Rattle.reader_pin.proofs.shared_tests.connections_are_served_at_once.Given as goal
+use Rattle.board_tests.proofs.shared.one_history_explains_a_storm.Given as goal
 
 abbrev pub ghosts-played : goal.ghosts-played
 ghosts-played g a = record { book = a.book }

@@ -2,7 +2,7 @@ use Rattle.std.proofs.Common.{map, take}
 use Rattle.std.specs.Prelude.{All}
 use Rattle.edit_journal.specs.Edit.{edit_of}
 use Rattle.edit_journal.specs.Leaves.{FitsEdit}
-use Rattle.reader_pin.proofs.tests.all_fit.Given as goal
+use Rattle.board_tests.proofs.survey.all_fit.Given as goal
 
 abbrev pub invariant-loop-edit : goal.invariant-loop-edit
 invariant-loop-edit g l = All (FitsEdit (g.B.Board.content l.board).conf.shape) (map edit_of (take l.edit-index l.edits))

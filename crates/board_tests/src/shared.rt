@@ -1,15 +1,13 @@
 //! A survey through boards of several connections.
 ghost use Rattle.std.specs.Prelude.{◌≡◌, ◌<◌, ◌≤◌};
 
-mod gates;
-mod replay;
-mod storm;
-
-use crate::tests::{check, edit, first_state, fits};
-use crate::{Accepted, Board, Published, Shared, Survey, SurveyBook, SurveySeat, open_shared};
+use crate::calls::{check, edit};
+use crate::gates::{CountingGate, EditGate};
+use crate::storm::storm;
+use crate::survey::{first_state, fits};
 use edit_journal::Edit;
-use gates::{CountingGate, EditGate};
 use parent_rule::Steps;
+use reader_pin::{Accepted, Board, Published, Shared, Survey, SurveyBook, SurveySeat, open_shared};
 use shared_history::Naming;
 use std::alloc::Global;
 use std::marker::Brand;
@@ -17,7 +15,6 @@ use std::process::Abort;
 use std::sync::Wait;
 use std::test::Fail;
 use std::thread::{Threads, for_each_mut};
-use storm::storm;
 use survey_link::{Gate, OpenGate};
 
 // What is done at a survey with several boards.

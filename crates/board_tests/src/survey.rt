@@ -1,0 +1,81 @@
+//! The survey of the tests, and the edits that fit it.
+ghost use Rattle.std.specs.Prelude.{◌≡◌, [], map, All, IfOk, IsTrue};
+ghost use Rattle.edit_journal.specs.Edit.{edit_of};
+ghost use Rattle.edit_journal.specs.Leaves.{FitsEdit};
+
+use edit_journal::Edit;
+use generation::Generation;
+use healpix_nested::cells;
+use leaf_store::Store;
+use parent_rule::{Depth, Steps};
+use reader_pin::Board;
+use std::alloc::Global;
+use std::sync::Arc;
+use std::test::Fail;
+use std::thread::Threads;
+use survey_conf::Conf;
+use survey_core::State;
+use survey_link::OpenGate;
+use tile_pixels::Tile;
+
+// A survey of order 4 whose tiles have two columns and two lines of 16 bits.
+const SURVEY: &str = "creator_did = ivo://example/P/one
+obs_title = Survey one
+hips_release_date = 2024-05-01T00:00Z
+hips_status = public master clonable
+hips_order = 4
+hips_tile_width = 2
+survey_bitpix = 16
+survey_blank = -32768
+";
+
+// The first state of the survey, which has no leaf yet.
+pub(crate) fn first_state<R: Threads + Sync>(rt: &R, alloc: Global) -> Result<State, Fail>
+    ensures { IfOk result (λ state. state.batches ≡ []) }
+{
+    let conf = Arc::new(alloc, Conf::read(alloc, SURVEY.as_bytes())?)?;
+    let gate = OpenGate::new();
+    let generation = Generation::start(
+        rt,
+        alloc,
+        conf,
+        Store::new(alloc),
+        &gate,
+        &mut Steps::new(),
+    )?;
+    Ok(State::start(alloc, Arc::new(alloc, generation)?)?)
+}
+
+// A tile of two columns and two lines of 16 bits.
+pub(crate) fn tile(alloc: Global, depth: Depth) -> Result<Arc<Tile>, Fail> {
+    if depth.bytes() != 2 {
+        return Err("other tiles".into());
+    }
+    let tile = Tile::from_bytes(alloc, &[1; 8], depth, 1, &mut Steps::new())?;
+    Ok(Arc::new(alloc, tile)?)
+}
+
+// Whether the edit fits the board's survey.
+pub(crate) fn fits<B: Board>(board: &B, edit: &Edit) -> bool
+    ensures { IsTrue result → FitsEdit (B.content board.now).conf.shape (edit_of edit.now) }
+{
+    let shape = board.last().conf().shape();
+    if edit.leaf() >= cells(shape.top) {
+        return false;
+    }
+    match edit.tile() {
+        Some(tile) => tile.depth() == shape.depth && tile.n() == shape.n,
+        None => true,
+    }
+}
+
+pub(crate) fn all_fit<B: Board>(board: &B, edits: &[Edit]) -> bool
+    ensures { IsTrue result → All (FitsEdit (B.content board.now).conf.shape) (map edit_of edits.now) }
+{
+    for edit in edits {
+        if !fits(board, edit) {
+            return false;
+        }
+    }
+    true
+}
