@@ -2,7 +2,7 @@
 use crate::calling::{Answer, Asked, Call, Seen, Told};
 use edit_journal::Edit;
 use reader_pin::Published;
-use std::alloc::Global;
+use std::alloc::{AllocError, Global};
 use std::process::Abort;
 use std::test::Fail;
 use survey_core::State;
@@ -69,7 +69,7 @@ fn asked(edit: &Edit) -> Option<Asked> {
 
 impl Replay {
     /// The history that leads to a state.
-    pub(crate) fn of(alloc: Global, state: &State) -> Result<Replay, Fail> {
+    pub(crate) fn of(alloc: Global, state: &State) -> Result<Replay, AllocError> {
         let journal = state.journal();
         let mut places = Vec::new(alloc);
         let mut leaves = 0;
