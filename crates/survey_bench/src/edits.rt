@@ -1,5 +1,5 @@
 //! Edits of one survey, one after another.
-ghost use Rattle.std.specs.Prelude.{◌≡◌, ◌<◌, IfOk};
+ghost use Rattle.std.specs.Prelude.{◌≡◌, ◌<◌, [], IfOk};
 ghost use Rattle.std.specs.Arc.{arc_value};
 ghost use Rattle.healpix_nested.specs.Cells.{cell_count};
 ghost use Rattle.edit_journal.specs.Leaves.{FitsTile};
@@ -51,10 +51,15 @@ pub fn time_edits<R: CpuClock>(
     Ok(least / u128::from(EDITS))
 }
 
-// The first state of the survey.
-fn opened(alloc: Global, generation: &Arc<Generation>) -> io::Result<State>
+/// The first state of the survey.
+///
+/// # Errors
+///
+/// Where there is no memory, or the leaves are too many.
+pub fn opened(alloc: Global, generation: &Arc<Generation>) -> io::Result<State>
     requires { (arc_value generation.now).prefix ≡ 0 }
-    ensures { IfOk result (λ state. state.conf ≡ (arc_value generation.now).conf) }
+    ensures conf { IfOk result (λ state. state.conf ≡ (arc_value generation.now).conf) }
+    ensures first { IfOk result (λ state. state.batches ≡ []) }
 {
     let generation = generation.clone()?;
     match State::start(alloc, generation) {

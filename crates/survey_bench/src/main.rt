@@ -16,10 +16,16 @@
 //!   of a tile, of the mosaic and of the properties; and how many bytes these handed out.
 //! - `generation deep` is 65,536 leaves of order 11, of 32 by 32: the times of `start`, and of `next` after one leaf was replaced;
 //!   and the processor time of one `State::accept` of an edit.
+//! - `boards pins THREADS` is so many threads that pin boards of one survey at once, of 65,536 leaves of order 11: the time by the
+//!   clock on the wall of one pin, of the slowest thread, while nobody edits and while another thread does; and how many edits that
+//!   one made meanwhile. `boards edits BOARDS` is so many boards that edit at once: the time of one edit of one board.
+//! - `boards publication` is a publication of one leaf of a full sky: its time, alone and while another board calls `edit`; the
+//!   time of the longest of these calls, and of as many with no publication; and how many calls there were.
 //! - `journal COUNT` is so many edits of one leaf, where each journal on the way is kept: the processor time for each edit, and
 //!   the most kilobytes that the process held.
 #![tactic(auto)]
 
+mod boards;
 mod cover;
 mod edits;
 mod hundredths;
@@ -30,7 +36,9 @@ mod mosaic;
 mod publication;
 mod survey;
 mod tiles;
+mod waiting;
 
+use boards::{EDITS, PINS, time_board_edits, time_pins};
 use cover::time_cover;
 use hundredths::Hundredths;
 use journal::time_journal;
@@ -39,12 +47,20 @@ use merge::{time_halve, time_merge};
 use mosaic::{MosaicTimes, NUMBERS, time_mosaic};
 use parent_rule::Depth;
 use publication::{CALLS, FullTimes, time_deep, time_full};
+use std::alloc::Global;
+use std::io::Print;
+use std::sync::Wait;
+use std::thread::Threads;
+use std::time::Clock;
 use std::{env, io};
 use tiles::{PIXELS, depth, sixteenths};
+use waiting::{WaitTimes, time_waits};
 
 const USAGE: &str = "survey_bench merge|halve|level|mosaic 8|16|32|64 mean|median none|some|half
 survey_bench cover COUNT APART
 survey_bench generation full|deep
+survey_bench boards pins|edits COUNT
+survey_bench boards publication
 survey_bench journal COUNT";
 
 fn main(rt: HostRuntime) -> io::Result<()> {
@@ -69,6 +85,11 @@ fn main(rt: HostRuntime) -> io::Result<()> {
                 return of_tiles(&rt, what.as_str(), depth, blanks);
             }
         }
+        [what, of, count] if what.as_str() == "boards" => {
+            if let Ok(count) = count.parse::<usize>() {
+                return of_boards(&rt, rt.alloc(), of.as_str(), count);
+            }
+        }
         [what, count, apart] => {
             if let ("cover", Ok(count), Ok(apart)) = (
                 what.as_str(),
@@ -87,6 +108,10 @@ fn main(rt: HostRuntime) -> io::Result<()> {
                 let times = time_deep(&rt, rt.alloc())?;
                 println!(rt; "{} {} {}", times.start, times.one, times.edit)?;
                 return Ok(());
+            }
+            ("boards", "publication") => {
+                let times = time_waits(&rt, rt.alloc())?;
+                return print_waits(&rt, times);
             }
             ("journal", count) => {
                 if let Ok(count) = count.parse::<u32>() {
@@ -131,6 +156,37 @@ fn of_leaves(rt: &HostRuntime, count: u64, apart: u64) -> io::Result<()> {
     let times = time_cover(rt, count, apart)?;
     let of = Hundredths::of(times.of, u128::from(count.max(1)));
     println!(rt; "{of} {} {}", times.add, times.rows)?;
+    Ok(())
+}
+
+// What boards do at once.
+fn of_boards<R: Clock + Threads + Wait + Print + Sync>(
+    rt: &R,
+    alloc: Global,
+    of: &str,
+    count: usize,
+) -> io::Result<()> {
+    match of {
+        "pins" => {
+            let times = time_pins(rt, alloc, count)?;
+            let quiet = Hundredths::of(times.quiet, u128::from(PINS));
+            let busy = Hundredths::of(times.busy, u128::from(PINS));
+            println!(rt; "{quiet} {busy} {}", times.edits)?;
+        }
+        "edits" => {
+            let took = time_board_edits(rt, alloc, count)?;
+            println!(rt; "{}", Hundredths::of(took, u128::from(EDITS)))?;
+        }
+        _ => println!(rt; "{USAGE}")?,
+    }
+    Ok(())
+}
+
+fn print_waits(rt: &HostRuntime, times: WaitTimes) -> io::Result<()> {
+    println!(rt;
+        "{} {} {} {} {}",
+        times.alone, times.beside, times.wait, times.call, times.calls
+    )?;
     Ok(())
 }
 

@@ -22,9 +22,11 @@ use tile_pixels::Tile;
 
 const ROUNDS: u32 = 5;
 
-const FULL_LEAVES: u64 = 768;
+/// How many leaves a full sky of order 3 has.
+pub const FULL_LEAVES: u64 = 768;
 
-const DEEP_LEAVES: u64 = 65536;
+/// How many leaves the deep field has.
+pub const DEEP_LEAVES: u64 = 65536;
 
 /// How many times a file is asked for.
 pub const CALLS: usize = 65536;
@@ -120,8 +122,12 @@ fn time_start<R: Clock + Threads + Sync>(
     Ok(least)
 }
 
-// The generation of these leaves.
-fn started<R: Threads + Sync>(
+/// The generation of these leaves.
+///
+/// # Errors
+///
+/// Where there is no memory.
+pub fn started<R: Threads + Sync>(
     rt: &R,
     alloc: Global,
     conf: &Arc<Conf>,
