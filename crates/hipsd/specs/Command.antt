@@ -1,22 +1,14 @@
 -- What the words of a command line ask for. Numbers are plain decimals, without a sign and without leading zeros.
 use Rattle.std.specs.Prelude.{◌≡◌, ℕ, ◌^◌, ◌<◌, ◌≤◌, Bool, true, false, List, [], ◌∷◌, map, codes, decimal, String, string_bytes, ⊤}
 use Rattle.std.specs.declared.alloc.Global.{Global}
-use Rattle.hipsd.specs.declared.command.Probe.{Probe}
+use Rattle.leaf_probe.specs.Probe.{IsProbe}
+use Rattle.leaf_probe.specs.declared.asked.Probe.{Probe}
 use Rattle.hipsd.specs.declared.command.Command.{Command}
 use Rattle.hipsd.specs.declared.command.Command.TheVariants.{Probe as ProbeCommand, Session, Export, Verify, Make, Serve}
 
 -- the bytes of each word
 abbrev pub texts : List (String Global) → List (List ℕ)
 texts words = map string_bytes words
-
--- the tile of a probe: leaves of order 3 to 11, tiles of 2 to 512 columns, an order up to that of the leaves, any number
-pub record IsProbe (asked : Probe) : Type 0 where
-  pub least_top : 3 ≤ asked.top
-  pub greatest_top : asked.top ≤ 11
-  pub least_n : 1 ≤ asked.n
-  pub greatest_n : asked.n ≤ 9
-  pub order : asked.order ≤ asked.top
-  pub npix : asked.npix < 2 ^ 64
 
 -- a made survey: any number, 1 to 4,096 edits
 pub record IsMake (number edits : ℕ) : Type 0 where

@@ -1,20 +1,11 @@
 //! What the words of a command line ask for.
 ghost use Rattle.std.specs.Prelude.{◌≡◌, ◌≢◌, ℕ, ◌≤◌, List, [], ◌∷◌, IfSome, IfNone, MatchOption, codes, decimal};
 ghost use Rattle.hipsd.specs.Command.{texts, Asks, IsCommand, IsCommandFor, doors_of};
-ghost use Rattle.hipsd.specs.declared.command.Probe.{Probe as AskedProbe};
+ghost use Rattle.leaf_probe.specs.declared.asked.Probe.{Probe as AskedProbe};
 ghost use Rattle.hipsd.specs.declared.command.Command.TheVariants.{Probe as ProbeCommand, Make, Serve};
 
 use decimal_scale::plain_decimal;
-
-/// What `probe K N k p` asks for: tile `npix` of order `order`, over leaves of order `top` and tiles of `2^n` columns and
-/// lines.
-#[derive(Clone, Copy, Debug, PartialEq, Eq)]
-pub struct Probe {
-    pub top: u8,
-    pub n: u8,
-    pub order: u8,
-    pub npix: u64,
-}
+use leaf_probe::Probe;
 
 /// What the words of a command line ask for.
 #[derive(Clone, Copy, Debug, PartialEq, Eq)]

@@ -7,23 +7,16 @@
 ghost use Rattle.std.specs.Prelude.{◌≡◌, ◌⊎◌, ◌≤◌, IfOk, MatchResult};
 ghost use Rattle.std.specs.Process.{exit_status};
 ghost use Rattle.healpix_nested.specs.Cells.{cell_count};
-ghost use Rattle.hipsd.specs.declared.command.Probe.{Probe as AskedProbe};
+ghost use Rattle.leaf_probe.specs.declared.asked.Probe.{Probe as AskedProbe};
 ghost use Rattle.hipsd.specs.declared.command.Command.TheVariants.{Probe as ProbeCommand};
 ghost use Rattle.hipsd.specs.Command.{texts, Asks, IsCommand};
 
 mod command;
 mod exporting;
-mod fault;
-mod leaves;
 #[cfg(test)]
 mod make_tests;
 mod making;
-mod merging;
-#[cfg(test)]
-mod merging_tests;
 mod output;
-mod probe;
-mod records;
 mod refusing;
 mod run;
 #[cfg(test)]

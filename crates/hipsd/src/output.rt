@@ -1,28 +1,12 @@
-//! What is written by the commands.
-ghost use Rattle.std.specs.Prelude.{◌≡◌, ◌≢◌, ◌⊎◌, ℕ, ◌≤◌, List, Some, OnOk, OnErr};
-ghost use Rattle.std.specs.Io.KnownBytes.{Appends};
-ghost use Rattle.survey_link.specs.Link.{Rises, AppendsPrefix};
+//! A line that a command writes.
+ghost use Rattle.std.specs.Prelude.{◌≡◌, ◌≢◌, ◌⊎◌, ℕ, List, Some};
+ghost use Rattle.survey_link.specs.Link.{Rises};
 ghost use Rattle.hipsd.specs.Survey.{Says, line_of};
 
+use leaf_probe::write_out;
 use std::alloc::Global;
 use std::fmt::Display;
-use survey_link::{Failed, Sink, write_whole};
-
-/// Writes all the bytes, and hands them on.
-///
-/// # Errors
-///
-/// `Failed` only where the sink's count of faults rose; some first bytes may have been written.
-pub fn write_out<K: Sink>(sink: &mut K, bytes: &[u8]) -> Result<(), Failed>
-    ensures whole { OnOk result (Appends (K.held sink.old) (K.held sink.new) bytes.now) }
-    ensures part { OnErr result (AppendsPrefix (K.held sink.old) (K.held sink.new) bytes.now) }
-    ensures handed_on { OnOk result (K.handed_on sink.new ≡ K.held sink.new) }
-    ensures failed { OnErr result (Rises (K.faults sink.old) (K.faults sink.new)) }
-    ensures never_falls { K.faults sink.old ≤ K.faults sink.new }
-{
-    write_whole(sink, bytes)?;
-    sink.flush()
-}
+use survey_link::{Failed, Sink};
 
 /// Writes what is shown as a line and hands it on, and answers the status: `own`, or 6 where the sink failed, or 11 where
 /// there was no memory for the line, of which nothing is then written.

@@ -1,0 +1,5 @@
+pub mod CountLemmas
+pub mod LeavesLemmas
+pub mod MergingLemmas
+pub mod PieceLemmas
+pub mod ReadLemmas

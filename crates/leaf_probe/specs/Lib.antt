@@ -1,0 +1,5 @@
+pub mod Records
+pub mod Merging
+pub mod Probe
+pub mod Status
+pub mod Reading

@@ -1,0 +1,23 @@
+//! One tile of leaf records.
+//!
+//! `probe` reads records of leaf tiles from a source to its end, merges those at or under an asked tile order by order upward,
+//! and writes that tile's stored bytes, or says by a fault why it can't. It keeps no more than the leaves under the asked tile,
+//! and knows no survey.
+#![tactic(auto)]
+
+mod asked;
+mod fault;
+mod leaves;
+mod merging;
+#[cfg(test)]
+mod merging_tests;
+mod output;
+mod probing;
+mod records;
+#[cfg(test)]
+mod tests;
+
+pub use asked::Probe;
+pub use fault::ProbeFault;
+pub use output::write_out;
+pub use probing::probe;
