@@ -20,6 +20,8 @@ mod output;
 mod refusing;
 mod run;
 #[cfg(test)]
+mod runs;
+#[cfg(test)]
 mod serve_tests;
 mod serving;
 #[cfg(test)]

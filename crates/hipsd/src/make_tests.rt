@@ -1,12 +1,11 @@
 //! Made surveys: what `make` writes.
-use crate::run::run;
+use crate::runs::{field, no_files, no_input, numbers, run_line};
 use log::Log;
-use parent_rule::Steps;
 use std::sync::Wait;
 use std::test::Fail;
 use std::thread::Threads;
 use std::time::Clock;
-use survey_link::{MemDoor, MemShelf, MemSink, OpenGate, SureSource};
+use survey_link::MemSink;
 
 // NUMBER, EDITS and the line, as `scripts/made-summary.py` computes it cell by cell.
 static MADE: &str = "\
@@ -15,45 +14,29 @@ static MADE: &str = "\
 26741 8|edits 7 of 8 leaves 7 files 20 prefix 7 sum 106878878
 ";
 
-// Whether `make` of the words, with these calls of the sink failing, ends by the status, and writes the text or else nothing.
+// Whether `make` of the words, with that call of the sink failing, ends by the status, and writes the text or else nothing.
 fn makes<R: AllocGlobal + Threads + Wait + Sync + Clock + Log>(
     rt: &R,
     words: &str,
-    failing: &[u64],
+    fails: &str,
     status: u8,
     text: &str,
 ) -> Result<bool, Fail> {
     let alloc = rt.alloc();
-    let mut list = Vec::new(alloc);
-    list.push(String::from_str(alloc, "make")?)?;
-    for word in words.split_whitespace() {
-        list.push(String::from_str(alloc, word)?)?;
-    }
-    let mut source = SureSource::new(Vec::new(alloc));
-    let mut sink = MemSink::new(alloc, 1_000, Vec::from_slice(alloc, failing)?)?;
-    let mut shelf = MemShelf::new(alloc, Vec::new(alloc));
-    let mut doors: Vec<MemDoor> = Vec::new(alloc);
-    let ended = run(
-        rt,
-        &list,
-        &mut source,
-        &mut sink,
-        &mut shelf,
-        &mut doors,
-        &OpenGate::new(),
-        &mut Steps::new(),
-    );
+    let line = format!(in alloc; "make {words}")?;
+    let mut source = no_input(alloc);
+    let mut sink = MemSink::new(alloc, 1_000, numbers(alloc, fails)?)?;
+    let mut shelf = no_files(alloc);
+    let ended = run_line(rt, line.as_str(), &mut source, &mut sink, &mut shelf)?;
     Ok(ended == status && sink.bytes() == text.as_bytes())
 }
 
 #[test]
 fn sums_made_surveys_up(rt: HostRuntime) -> Result<(), Fail> {
     for row in MADE.lines() {
-        let mut fields = row.split('|');
-        let words = fields.next().unwrap_or("");
-        let line = format!(in rt.alloc(); "{}\n", fields.next().unwrap_or(""))?;
-        assert!(rt; makes(&rt, words, &[], 0, line.as_str())?, "{row}");
+        let line = format!(in rt.alloc(); "{}\n", field(row, 1))?;
+        assert!(rt; makes(&rt, field(row, 0), "", 0, line.as_str())?, "{row}");
     }
-    assert!(rt; makes(&rt, "0 1", &[0], 6, "")?);
+    assert!(rt; makes(&rt, "0 1", "0", 6, "")?);
     Ok(())
 }

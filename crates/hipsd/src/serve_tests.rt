@@ -1,15 +1,14 @@
 //! Runs of `serve` over doors in memory.
-use crate::run::run;
+use crate::runs::{no_files, no_input, run_with_doors};
 use crate::session_tests::bytes_of;
 use crate::survey_tests::{SMALL, describe};
 use log::Log;
-use parent_rule::Steps;
 use std::alloc::Global;
 use std::sync::Wait;
 use std::test::Fail;
 use std::thread::Threads;
 use std::time::Clock;
-use survey_link::{Door, MemDoor, MemShelf, MemSink, MemSource, OpenGate, Shelf};
+use survey_link::{Door, MemDoor, MemSink, MemSource, Shelf};
 
 // Runs `serve` on the small survey without leaves over all these doors, up to so many connections of each, and answers the
 // status; 255 where the shelf changed, or something was written though the words are a command's.
@@ -26,23 +25,18 @@ where
     D::Out: Send,
 {
     let alloc = rt.alloc();
-    let mut words = Vec::new(alloc);
-    for word in ["serve", "x", connections, places] {
-        words.push(String::from_str(alloc, word)?)?;
-    }
-    let mut shelf = MemShelf::new(alloc, Vec::new(alloc));
+    let line = format!(in alloc; "serve x {connections} {places}")?;
+    let mut shelf = no_files(alloc);
     describe(alloc, &mut shelf, SMALL)?;
     let mut sink = MemSink::new(alloc, 1_024, Vec::new(alloc))?;
-    let ended = run(
+    let ended = run_with_doors(
         rt,
-        &words,
-        &mut MemSource::new(Vec::new(alloc), 1, Vec::new(alloc)),
+        line.as_str(),
+        &mut no_input(alloc),
         &mut sink,
         &mut shelf,
         doors,
-        &OpenGate::new(),
-        &mut Steps::new(),
-    );
+    )?;
     let silent = ended == 1 || sink.bytes().is_empty();
     let stays = shelf.list(alloc)?.len() == 1;
     Ok(if silent && stays { ended } else { 255 })
@@ -62,23 +56,24 @@ fn door_of(alloc: Global, fails: u64) -> Result<MemDoor, Fail> {
     Ok(MemDoor::new(alloc, clients, Vec::from_slice(alloc, &[fails])?)?)
 }
 
-// The words CONNECTIONS and PLACES, the accept of the first door that fails, the status, and how many of two doors' clients
-// were served.
-static RUNS: [(&str, &str, u64, u8, usize); 4] = [
-    ("1", "2", 9, 0, 2),
-    ("65536", "1", 9, 0, 1),
-    ("1", "2", 0, 8, 1),
-    ("1", "3", 9, 1, 0),
+// The words CONNECTIONS and PLACES, the accept of each of two doors that fails, the status, and how many of the doors' clients
+// were served: one whose own door works is served whichever other door fails.
+static RUNS: [(&str, &str, u64, u64, u8, usize); 5] = [
+    ("1", "2", 9, 9, 0, 2),
+    ("65536", "1", 9, 9, 0, 1),
+    ("1", "2", 0, 9, 8, 1),
+    ("1", "2", 9, 0, 8, 1),
+    ("1", "3", 9, 9, 1, 0),
 ];
 
 #[test]
 fn serves_the_doors_of_its_places(rt: HostRuntime) -> Result<(), Fail> {
     let alloc = rt.alloc();
     let reply = bytes_of(alloc, REPLY)?;
-    for (connections, places, fails, status, served) in &RUNS {
+    for (connections, places, first, second, status, served) in &RUNS {
         let mut doors = Vec::new(alloc);
-        doors.push(door_of(alloc, *fails)?)?;
-        doors.push(door_of(alloc, 9)?)?;
+        doors.push(door_of(alloc, *first)?)?;
+        doors.push(door_of(alloc, *second)?)?;
         let ended = serve(&rt, connections, places, &mut doors)?;
         let count = doors
             .iter()
@@ -89,7 +84,7 @@ fn serves_the_doors_of_its_places(rt: HostRuntime) -> Result<(), Fail> {
             .count();
         assert!(rt;
             (ended, count) == (*status, *served),
-            "{connections} {places} {fails}"
+            "{connections} {places} {first} {second}"
         );
     }
     Ok(())

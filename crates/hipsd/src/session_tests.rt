@@ -1,14 +1,13 @@
 //! Runs of `session`: requests and replies, byte for byte.
-use crate::run::run;
+use crate::runs::{field, no_files, run_line};
 use crate::survey_tests::{SMALL, describe};
 use log::Log;
-use parent_rule::Steps;
 use std::alloc::Global;
 use std::sync::Wait;
 use std::test::Fail;
 use std::thread::Threads;
 use std::time::Clock;
-use survey_link::{MemDoor, MemShelf, MemSink, MemSource, OpenGate, Shelf};
+use survey_link::{MemSink, MemSource, Shelf};
 
 // In the tables `~` stands for CR LF, `^` for LF, and `%` before and behind a name for some bytes.
 
@@ -19,8 +18,8 @@ hips_release_date = 2024-05-01T00:00Z^hips_status = public master clonable^hips_
 hips_order_min = 3^hips_tile_width = 2^hips_tile_format = fits^survey_bitpix = 16^survey_bscale = 1.0E0^survey_bzero = 0.0E0^\
 survey_blank = -32768^survey_leaves = ";
 
-// The cards of a tile file: of leaf 0, and of tile 0 of order 3.
-static LEAF_CARDS: &str = "\
+// The cards of a tile file, but for those of its cell.
+static CARDS: &str = "\
 SIMPLE  =                    T
 BITPIX  =                   16
 NAXIS   =                    2
@@ -29,52 +28,49 @@ NAXIS2  =                    2
 BSCALE  =                1.0E0
 BZERO   =                0.0E0
 BLANK   =               -32768
-ORDER   =                    4
-NPIX    =                    0
-END
-";
-
-static PARENT_CARDS: &str = "\
-SIMPLE  =                    T
-BITPIX  =                   16
-NAXIS   =                    2
-NAXIS1  =                    2
-NAXIS2  =                    2
-BSCALE  =                1.0E0
-BZERO   =                0.0E0
-BLANK   =               -32768
-ORDER   =                    3
-NPIX    =                    0
-END
 ";
 
 // The requests of a connection, the status, and all that is written.
 static SESSIONS: &str = "\
-||0|
-|GET /properties HTTP/1.1~Host: a~~|0|HTTP/1.1 200 OK~Content-Type: text/plain~Content-Length: 380~Survey-Prefix: 0~~%properties%0^
-|HEAD /properties HTTP/1.1~Host: a~~|0|HTTP/1.1 200 OK~Content-Type: text/plain~Content-Length: 380~Survey-Prefix: 0~~
-|PUT /Norder4/Dir0/Npix0.fits HTTP/1.1~Host: a~Content-Length: 2888~~%leaf%GET /Norder3/Dir0/Npix0.fits HTTP/1.1~Host: a~~POST /publish HTTP/1.1~Host: a~~GET /Norder3/Dir0/Npix0.fits HTTP/1.1~Host: a~~|0|HTTP/1.1 201 Created~Content-Length: 0~Survey-Edits: 1~~HTTP/1.1 404 Not Found~Content-Type: text/plain~Content-Length: 10~Survey-Prefix: 0~~not found^HTTP/1.1 200 OK~Content-Type: text/plain~Content-Length: 12~Survey-Prefix: 1~~published 1^HTTP/1.1 200 OK~Content-Type: application/fits~Content-Length: 5760~Survey-Prefix: 1~~%parent%
-|PUT /Norder4/Dir0/Npix0.fits HTTP/1.1~Host: a~~|14|HTTP/1.1 411 Length Required~Content-Length: 0~Connection: close~~
-|GET / HTTP/2.0~Host: a~~|14|HTTP/1.1 505 HTTP Version Not Supported~Content-Length: 0~Connection: close~~
-|GET /Moc.fits HTTP/1.1~~|14|HTTP/1.1 400 Bad Request~Content-Length: 0~Connection: close~~
-|GET /prop|4|
-|PUT /Norder4/Dir0/Npix0.fits HTTP/1.1~Host: a~Content-Length: 2888~~SIMPLE|4|
-|POST /unpin HTTP/1.1~Host: a~Connection: close~~GET /prop|0|HTTP/1.1 200 OK~Content-Type: text/plain~Content-Length: 9~Connection: close~~released^
+|0|
+GET /properties HTTP/1.1~Host: a~~|0|HTTP/1.1 200 OK~Content-Type: text/plain~Content-Length: 380~Survey-Prefix: 0~~%properties%0^
+HEAD /properties HTTP/1.1~Host: a~~|0|HTTP/1.1 200 OK~Content-Type: text/plain~Content-Length: 380~Survey-Prefix: 0~~
+PUT /Norder4/Dir0/Npix0.fits HTTP/1.1~Host: a~Content-Length: 2888~~%tile 4 0 1 2 3 5%GET /Norder3/Dir0/Npix0.fits HTTP/1.1~Host: a~~POST /publish HTTP/1.1~Host: a~~GET /Norder3/Dir0/Npix0.fits HTTP/1.1~Host: a~~|0|HTTP/1.1 201 Created~Content-Length: 0~Survey-Edits: 1~~HTTP/1.1 404 Not Found~Content-Type: text/plain~Content-Length: 10~Survey-Prefix: 0~~not found^HTTP/1.1 200 OK~Content-Type: text/plain~Content-Length: 12~Survey-Prefix: 1~~published 1^HTTP/1.1 200 OK~Content-Type: application/fits~Content-Length: 5760~Survey-Prefix: 1~~%file 3 0 -32768 -32768 3 -32768%
+PUT /Norder4/Dir0/Npix0.fits HTTP/1.1~Host: a~~|14|HTTP/1.1 411 Length Required~Content-Length: 0~Connection: close~~
+GET / HTTP/2.0~Host: a~~|14|HTTP/1.1 505 HTTP Version Not Supported~Content-Length: 0~Connection: close~~
+GET /Moc.fits HTTP/1.1~~|14|HTTP/1.1 400 Bad Request~Content-Length: 0~Connection: close~~
+GET /prop|4|
+PUT /Norder4/Dir0/Npix0.fits HTTP/1.1~Host: a~Content-Length: 2888~~SIMPLE|4|
+POST /unpin HTTP/1.1~Host: a~Connection: close~~GET /prop|0|HTTP/1.1 200 OK~Content-Type: text/plain~Content-Length: 9~Connection: close~~released^
+POST /batch HTTP/1.1~Host: a~Content-Length: 11609~~put 0 2888^%tile 4 0 1 2 3 5%add 1 2888^%tile 4 1 7 7 7 7%replace 0 2888^%tile 4 0 9 9 9 9%add 4 2888^%tile 4 4 5 5 5 5%remove 4^GET /Norder4/Dir0/Npix0.fits HTTP/1.1~Host: a~~POST /publish HTTP/1.1~Host: a~~GET /Norder3/Dir0/Npix0.fits HTTP/1.1~Host: a~~GET /Norder4/Dir0/Npix0.fits HTTP/1.1~Host: a~~GET /Norder4/Dir0/Npix4.fits HTTP/1.1~Host: a~~GET /properties HTTP/1.1~Host: a~~|0|HTTP/1.1 200 OK~Content-Type: text/plain~Content-Length: 11~Survey-Edits: 5~~accepted 5^HTTP/1.1 404 Not Found~Content-Type: text/plain~Content-Length: 10~Survey-Prefix: 0~~not found^HTTP/1.1 200 OK~Content-Type: text/plain~Content-Length: 12~Survey-Prefix: 5~~published 5^HTTP/1.1 200 OK~Content-Type: application/fits~Content-Length: 5760~Survey-Prefix: 5~~%file 3 0 7 -32768 9 -32768%HTTP/1.1 200 OK~Content-Type: application/fits~Content-Length: 5760~Survey-Prefix: 5~~%file 4 0 9 9 9 9%HTTP/1.1 404 Not Found~Content-Type: text/plain~Content-Length: 10~Survey-Prefix: 5~~not found^HTTP/1.1 200 OK~Content-Type: text/plain~Content-Length: 380~Survey-Prefix: 5~~%properties%2^
+POST /batch HTTP/1.1~Host: a~Content-Length: 5798~~put 0 2888^%tile 4 0 1 2 3 5%add 0 2888^%tile 4 0 9 9 9 9%POST /publish HTTP/1.1~Host: a~~GET /Norder4/Dir0/Npix0.fits HTTP/1.1~Host: a~~|0|HTTP/1.1 412 Precondition Failed~Content-Type: text/plain~Content-Length: 28~Survey-Edits: 0~~batch 1 precondition failed^HTTP/1.1 200 OK~Content-Type: text/plain~Content-Length: 10~Survey-Prefix: 0~~already 0^HTTP/1.1 404 Not Found~Content-Type: text/plain~Content-Length: 10~Survey-Prefix: 0~~not found^
+POST /batch HTTP/1.1~Host: a~Content-Length: 2911~~put 0 2888^%tile 4 0 1 2 3 5%remove 3072^POST /publish HTTP/1.1~Host: a~~GET /Norder4/Dir0/Npix0.fits HTTP/1.1~Host: a~~|0|HTTP/1.1 422 Unprocessable Content~Content-Type: text/plain~Content-Length: 21~~batch refused 1 line^HTTP/1.1 200 OK~Content-Type: text/plain~Content-Length: 10~Survey-Prefix: 0~~already 0^HTTP/1.1 404 Not Found~Content-Type: text/plain~Content-Length: 10~Survey-Prefix: 0~~not found^
 ";
 
-// The file of a tile: its cards, its stored numbers, and zero bytes up to the end of so many bytes.
-fn push_tile(bytes: &mut Vec<u8>, cards: &str, numbers: &[u16], until: usize) -> Result<(), Fail> {
+// The cards of a tile in a block: `cell` is its order and its number.
+fn push_cards(alloc: Global, bytes: &mut Vec<u8>, cell: (&str, &str)) -> Result<(), Fail> {
+    let (order, npix) = cell;
     let start = bytes.len();
-    for card in cards.lines() {
+    let cards = format!(in alloc; "{CARDS}ORDER   = {order:>20}\nNPIX    = {npix:>20}\nEND")?;
+    for card in cards.as_str().lines() {
         bytes.extend_from_slice(card.as_bytes())?;
         let spaces = (80 - card.len() % 80) % 80;
         bytes.resize(bytes.len() + spaces, b' ')?;
     }
-    bytes.resize(start + 2_880, b' ')?;
-    for number in numbers {
-        bytes.extend_from_slice(&number.to_be_bytes())?;
+    bytes.resize(start.saturating_add(2_880), b' ')?;
+    Ok(())
+}
+
+// The file of a tile: `words` are its order, its number and its stored numbers; then zero bytes until it has so many bytes.
+fn push_tile(alloc: Global, bytes: &mut Vec<u8>, words: &str, size: usize) -> Result<(), Fail> {
+    let start = bytes.len();
+    let (order, rest) = words.split_once(' ').ok_or("no order")?;
+    let (npix, numbers) = rest.split_once(' ').ok_or("no number")?;
+    push_cards(alloc, bytes, (order, npix))?;
+    for number in numbers.split(' ') {
+        bytes.extend_from_slice(&number.parse::<i16>()?.to_be_bytes())?;
     }
-    bytes.resize(start.saturating_add(until), 0)?;
+    bytes.resize(start.saturating_add(size), 0)?;
     Ok(())
 }
 
@@ -94,17 +90,10 @@ fn push_text(bytes: &mut Vec<u8>, text: &str) -> Result<(), Fail> {
 pub(crate) fn bytes_of(alloc: Global, text: &str) -> Result<Vec<u8>, Fail> {
     let mut bytes = Vec::new(alloc);
     for part in text.split('%') {
-        match part {
-            "properties" => push_text(&mut bytes, PROPERTIES)?,
-            "leaf" => push_tile(&mut bytes, LEAF_CARDS, &[1, 2, 3, 5], 2_888)?,
-            "parent" => {
-                push_tile(
-                    &mut bytes,
-                    PARENT_CARDS,
-                    &[0x8000, 0x8000, 3, 0x8000],
-                    5_760,
-                )?;
-            }
+        match part.split_once(' ') {
+            Some(("tile", words)) => push_tile(alloc, &mut bytes, words, 2_888)?,
+            Some(("file", words)) => push_tile(alloc, &mut bytes, words, 5_760)?,
+            _ if part == "properties" => push_text(&mut bytes, PROPERTIES)?,
             _ => push_text(&mut bytes, part)?,
         }
     }
@@ -118,21 +107,9 @@ fn serve<R: AllocGlobal + Threads + Wait + Sync + Clock + Log>(
     sink: &mut MemSink,
 ) -> Result<u8, Fail> {
     let alloc = rt.alloc();
-    let mut words = Vec::new(alloc);
-    words.push(String::from_str(alloc, "session")?)?;
-    let mut shelf = MemShelf::new(alloc, Vec::new(alloc));
+    let mut shelf = no_files(alloc);
     describe(alloc, &mut shelf, SMALL)?;
-    let mut doors: Vec<MemDoor> = Vec::new(alloc);
-    let ended = run(
-        rt,
-        &words,
-        source,
-        sink,
-        &mut shelf,
-        &mut doors,
-        &OpenGate::new(),
-        &mut Steps::new(),
-    );
+    let ended = run_line(rt, "session", source, sink, &mut shelf)?;
     let stays = shelf.list(alloc)?.len() == 1;
     Ok(if stays { ended } else { 255 })
 }
@@ -144,14 +121,12 @@ fn answers<R: AllocGlobal + Threads + Wait + Sync + Clock + Log>(
     piece: usize,
 ) -> Result<bool, Fail> {
     let alloc = rt.alloc();
-    let mut fields = row.split('|').skip(1);
-    let input = bytes_of(alloc, fields.next().unwrap_or(""))?;
-    let status = fields.next().unwrap_or("");
-    let output = bytes_of(alloc, fields.next().unwrap_or(""))?;
+    let input = bytes_of(alloc, field(row, 0))?;
+    let output = bytes_of(alloc, field(row, 2))?;
     let mut source = MemSource::new(input, piece.max(1), Vec::new(alloc));
     let mut sink = MemSink::new(alloc, 65_536, Vec::new(alloc))?;
     let ended = serve(rt, &mut source, &mut sink)?;
-    Ok(status.parse::<u8>() == Ok(ended) && sink.bytes() == output.as_slice())
+    Ok(field(row, 1).parse::<u8>() == Ok(ended) && sink.bytes() == output.as_slice())
 }
 
 #[test]
@@ -172,8 +147,8 @@ fn with_failing<R: AllocGlobal + Threads + Wait + Sync + Clock + Log>(
 ) -> Result<(u8, bool), Fail> {
     let alloc = rt.alloc();
     let row = SESSIONS.lines().nth(3).unwrap_or("");
-    let input = bytes_of(alloc, row.split('|').nth(1).unwrap_or(""))?;
-    let output = bytes_of(alloc, row.split('|').nth(3).unwrap_or(""))?;
+    let input = bytes_of(alloc, field(row, 0))?;
+    let output = bytes_of(alloc, field(row, 2))?;
     let mut source = MemSource::new(input, 1_000, Vec::from_slice(alloc, reads)?);
     let mut sink = MemSink::new(alloc, 65_536, Vec::from_slice(alloc, writes)?)?;
     let ended = serve(rt, &mut source, &mut sink)?;

@@ -1,13 +1,12 @@
 //! Runs of the commands that open the shelf as a survey, over ends in memory.
-use crate::run::run;
+use crate::runs::{field, no_files, no_input, numbers, run_line};
 use log::Log;
-use parent_rule::Steps;
-use std::alloc::{AllocError, Global};
+use std::alloc::Global;
 use std::sync::Wait;
 use std::test::Fail;
 use std::thread::Threads;
 use std::time::Clock;
-use survey_link::{MemDoor, MemShelf, MemSink, MemSource, OpenGate, Shelf};
+use survey_link::{MemShelf, MemSink, Shelf};
 
 // The first lines of each description.
 static HEAD: &str = "creator_did = ivo://example/P/one
@@ -51,41 +50,6 @@ fn put_leaves(alloc: Global, shelf: &mut MemShelf, order: &str, count: u64) -> R
     Ok(())
 }
 
-// A shelf that fails at no call, or at one.
-fn shelf_of(alloc: Global, fails: &str) -> Result<MemShelf, AllocError> {
-    let mut list = Vec::new(alloc);
-    if let Ok(call) = fails.parse::<u64>() {
-        list.push(call)?;
-    }
-    Ok(MemShelf::new(alloc, list))
-}
-
-// Runs a command of one word over a shelf, and answers its status.
-fn run_over<R: AllocGlobal + Threads + Wait + Sync + Clock + Log>(
-    rt: &R,
-    word: &str,
-    shelf: &mut MemShelf,
-    sink: &mut MemSink,
-) -> Result<u8, AllocError> {
-    let alloc = rt.alloc();
-    let mut words = Vec::new(alloc);
-    words.push(String::from_str(alloc, word)?)?;
-    let mut source = MemSource::new(Vec::new(alloc), 1, Vec::new(alloc));
-    let mut doors: Vec<MemDoor> = Vec::new(alloc);
-    let gate = OpenGate::new();
-    let mut steps = Steps::new();
-    Ok(run(
-        rt,
-        &words,
-        &mut source,
-        sink,
-        shelf,
-        &mut doors,
-        &gate,
-        &mut steps,
-    ))
-}
-
 // Whether a command ends so over the shelf: by the status, with the line written, or nothing where it is empty.
 fn ends<R: AllocGlobal + Threads + Wait + Sync + Clock + Log>(
     rt: &R,
@@ -96,7 +60,7 @@ fn ends<R: AllocGlobal + Threads + Wait + Sync + Clock + Log>(
 ) -> Result<bool, Fail> {
     let alloc = rt.alloc();
     let mut sink = MemSink::new(alloc, 1_000, Vec::new(alloc))?;
-    let ended = run_over(rt, word, shelf, &mut sink)?;
+    let ended = run_line(rt, word, &mut no_input(alloc), &mut sink, shelf)?;
     let wanted = format!(in alloc; "{line}\n")?;
     Ok(status.parse::<u8>() == Ok(ended) && sink.bytes() == wanted.as_bytes())
 }
@@ -108,19 +72,19 @@ fn refuses<R: AllocGlobal + Threads + Wait + Sync + Clock + Log>(
     row: &str,
 ) -> Result<bool, Fail> {
     let alloc = rt.alloc();
-    let mut fields = row.split('|');
-    let count = fields.next().unwrap_or("");
-    let order = fields.next().unwrap_or("");
-    let last = fields.next().unwrap_or("");
-    let status = fields.next().unwrap_or("");
-    let line = fields.next().unwrap_or("");
-    let mut shelf = shelf_of(alloc, "")?;
-    put_leaves(alloc, &mut shelf, order, count.parse::<u64>()?)?;
+    let last = field(row, 2);
+    let mut shelf = no_files(alloc);
+    put_leaves(
+        alloc,
+        &mut shelf,
+        field(row, 1),
+        field(row, 0).parse::<u64>()?,
+    )?;
     if last != "absent" {
         describe(alloc, &mut shelf, last)?;
     }
     let before = shelf.list(alloc)?.len();
-    let ended = ends(rt, word, &mut shelf, status, line)?;
+    let ended = ends(rt, word, &mut shelf, field(row, 3), field(row, 4))?;
     Ok(ended && shelf.list(alloc)?.len() == before)
 }
 
@@ -151,20 +115,17 @@ fn goes<R: AllocGlobal + Threads + Wait + Sync + Clock + Log>(
     shelf: &mut MemShelf,
     row: &str,
 ) -> Result<bool, Fail> {
-    let mut fields = row.split('|');
-    let word = fields.next().unwrap_or("");
-    let second = fields.next().unwrap_or("");
-    if word == "put" {
-        shelf.put(second, b"x")?;
+    if field(row, 0) == "put" {
+        shelf.put(field(row, 1), b"x")?;
         return Ok(true);
     }
-    ends(rt, word, shelf, second, fields.next().unwrap_or(""))
+    ends(rt, field(row, 0), shelf, field(row, 1), field(row, 2))
 }
 
 #[test]
 fn exports_and_verifies_a_survey_without_leaves(rt: HostRuntime) -> Result<(), Fail> {
     let alloc = rt.alloc();
-    let mut shelf = shelf_of(alloc, "")?;
+    let mut shelf = no_files(alloc);
     describe(alloc, &mut shelf, SMALL)?;
     for row in EMPTY_SURVEY.lines() {
         assert!(rt; goes(&rt, &mut shelf, row)?, "at {row}");
@@ -186,11 +147,11 @@ fn status_where<R: AllocGlobal + Threads + Wait + Sync + Clock + Log>(
     fails: &str,
 ) -> Result<u8, Fail> {
     let alloc = rt.alloc();
-    let mut shelf = shelf_of(alloc, fails)?;
+    let mut shelf = MemShelf::new(alloc, numbers(alloc, fails)?);
     describe(alloc, &mut shelf, SMALL)?;
     shelf.put("note.txt", b"x")?;
     let mut sink = MemSink::new(alloc, 1_000, Vec::new(alloc))?;
-    let ended = run_over(rt, word, &mut shelf, &mut sink)?;
+    let ended = run_line(rt, word, &mut no_input(alloc), &mut sink, &mut shelf)?;
     if ended == 7 {
         let stays = shelf.get(alloc, "note.txt")?.is_some();
         if !stays || shelf.get(alloc, "survey.conf")?.is_none() || !sink.bytes().is_empty() {
@@ -229,9 +190,9 @@ fn fails_where_the_sink_does_at_a_line(rt: HostRuntime) -> Result<(), Fail> {
     for (call, status) in [(0, 6), (1, 6), (2, 2)] {
         let mut fails = Vec::new(alloc);
         fails.push(call)?;
-        let mut shelf = shelf_of(alloc, "")?;
+        let mut shelf = no_files(alloc);
         let mut sink = MemSink::new(alloc, 1_000, fails)?;
-        let ended = run_over(&rt, "export", &mut shelf, &mut sink)?;
+        let ended = run_line(&rt, "export", &mut no_input(alloc), &mut sink, &mut shelf)?;
         assert_eq!(rt; ended, status, "where call {call} fails");
     }
     Ok(())

@@ -1,8 +1,7 @@
-//! Runs of the whole program over ends in memory.
-use crate::run::run;
+//! Runs of `probe`, and of words that are no command's.
+use crate::runs::{field, no_files, numbers, run_line};
 use crate::words;
 use log::Log;
-use parent_rule::Steps;
 use std::alloc::{AllocError, Global};
 use std::env;
 use std::io::{self, ErrorKind};
@@ -10,13 +9,9 @@ use std::sync::Wait;
 use std::test::Fail;
 use std::thread::Threads;
 use std::time::Clock;
-use survey_link::{MemDoor, MemShelf, MemSink, MemSource, OpenGate};
+use survey_link::{MemSink, MemSource};
 
 const USAGE: &[u8] = b"usage: hipsd COMMAND\n";
-
-const LEAF_0: &str = "0000000000000000 0001 0002 0003 0005";
-
-const TILE_0: &str = "8000 8000 0003 8000";
 
 // The bytes that some words of hexadecimal digits stand for.
 fn unhex(alloc: Global, text: &str) -> Result<Vec<u8>, Fail> {
@@ -29,60 +24,20 @@ fn unhex(alloc: Global, text: &str) -> Result<Vec<u8>, Fail> {
     Ok(bytes)
 }
 
-// The words of a command line.
-fn split(alloc: Global, line: &str) -> Result<Vec<String>, AllocError> {
-    let mut words = Vec::new(alloc);
-    for word in line.split_whitespace() {
-        words.push(String::from_str(alloc, word)?)?;
-    }
-    Ok(words)
-}
-
-// Runs a command line over a source and a sink, and answers its status.
-fn run_over<R: AllocGlobal + Threads + Wait + Sync + Clock + Log>(
-    rt: &R,
-    line: &str,
-    source: &mut MemSource,
-    sink: &mut MemSink,
-) -> Result<u8, AllocError> {
-    let alloc = rt.alloc();
-    let words = split(alloc, line)?;
-    let mut shelf = MemShelf::new(alloc, Vec::new(alloc));
-    let mut doors: Vec<MemDoor> = Vec::new(alloc);
-    let gate = OpenGate::new();
-    let mut steps = Steps::new();
-    Ok(run(
-        rt, &words, source, sink, &mut shelf, &mut doors, &gate, &mut steps,
-    ))
-}
-
 // A row is a run: the command line, the input, in pieces of how many bytes, and the read that fails; the room for the output,
 // and the write that fails; the status, and the output in hexadecimal digits or `usage`. A `|` stands between them.
-fn field(row: &str, at: usize) -> &str {
-    row.split('|').nth(at).unwrap_or("")
-}
-
 fn number(text: &str) -> usize {
     text.parse::<usize>().unwrap_or(0)
 }
 
-// The number of the call that fails, where one does.
-fn fails(alloc: Global, text: &str) -> Result<Vec<u64>, AllocError> {
-    let mut list = Vec::new(alloc);
-    if let Ok(call) = text.parse::<u64>() {
-        list.push(call)?;
-    }
-    Ok(list)
-}
-
 fn source_of(alloc: Global, row: &str) -> Result<MemSource, Fail> {
     let input = unhex(alloc, field(row, 1))?;
-    let fails = fails(alloc, field(row, 3))?;
+    let fails = numbers(alloc, field(row, 3))?;
     Ok(MemSource::new(input, number(field(row, 2)).max(1), fails))
 }
 
 fn sink_of(alloc: Global, row: &str) -> Result<MemSink, AllocError> {
-    MemSink::new(alloc, number(field(row, 4)), fails(alloc, field(row, 5))?)
+    MemSink::new(alloc, number(field(row, 4)), numbers(alloc, field(row, 5))?)
 }
 
 // Whether the sink holds that output.
@@ -101,122 +56,31 @@ fn goes<R: AllocGlobal + Threads + Wait + Sync + Clock + Log>(
     let alloc = rt.alloc();
     let mut source = source_of(alloc, row)?;
     let mut sink = sink_of(alloc, row)?;
-    let status = run_over(rt, field(row, 0), &mut source, &mut sink)?;
+    let mut shelf = no_files(alloc);
+    let status = run_line(rt, field(row, 0), &mut source, &mut sink, &mut shelf)?;
     Ok(usize::from(status) == number(field(row, 6)) && holds(alloc, &sink, field(row, 7))?)
 }
 
-static PROBES: &str = "\
+// Runs of `probe`; where the source fails at its first read, the rest of them read nothing.
+static RUNS: &str = "\
 probe 4 1 3 0|0000000000000000 0001 0002 0003 0005|100|-|100|-|0|8000 8000 0003 8000
-probe 4 1 4 0|0000000000000000 0001 0002 0003 0005|100|-|100|-|0|0001 0002 0003 0005
-probe 4 1 3 0||100|-|100|-|10|
+probe 4 1 3 0|0000000000000004 0007 0007 0007 0007|100|-|100|-|10|
 probe 4 1 3 0|0000000000000000 0001 0002 0003 00|100|-|100|-|4|
 probe 4 1 3 0|0000000000000C00 00|100|-|100|-|13|
-probe 4 1 3 768||100|-|100|-|13|
-probe 4 1 3 768|0000000000000000 0001 0002 0003 0005|100|-|100|-|13|
-probe 5 1 3 0|0000000000000000 0001 0001 0002 0002 0000000000000001 0001 0001 0002 0002 0000000000000002 0001 0001 0001 0002 0000000000000003 0001 0001 0001 0002|100|-|100|-|0|8000 8000 0002 8000
-probe 4 1 3 0|0000000000000001 0007 0007 0007 0007|100|-|100|-|0|0007 8000 8000 8000
-probe 4 1 3 0|0000000000000000 0001 0002 0003 0005 0000000000000000 0009 0009 0009 0009|100|-|100|-|0|8000 8000 0009 8000
-probe 4 1 3 0|0000000000000004 0007 0007 0007 0007 0000000000000000 0001 0002 0003 0005|100|-|100|-|0|8000 8000 0003 8000
-probe 4 1 3 0|0000000000000004 0007 0007 0007 0007|100|-|100|-|10|
-probe 4 1 3 0|0000000000000004 0007 0007 0007 00|100|-|100|-|4|
-probe 4 1 3 0|0000000000000000 FFFF FFFE 8000 8000|100|-|100|-|0|8000 8000 FFFF 8000
-";
-
-// In pieces of some bytes.
-static PIECES: &str = "\
-probe 4 1 3 0|0000000000000000 0001 0002 0003 0005|1|-|100|-|0|8000 8000 0003 8000
-probe 4 1 3 0|0000000000000000 0001 0002 0003 0005|2|-|100|-|0|8000 8000 0003 8000
-probe 4 1 3 0|0000000000000000 0001 0002 0003 0005|3|-|100|-|0|8000 8000 0003 8000
-probe 4 1 3 0|0000000000000000 0001 0002 0003 0005|7|-|100|-|0|8000 8000 0003 8000
-";
-
-// With little room, and where a write or the flush after it fails.
-static FULL: &str = "\
-probe 4 1 3 0|0000000000000000 0001 0002 0003 0005|100|-|100|0|6|
-probe 4 1 3 0|0000000000000000 0001 0002 0003 0005|100|-|100|1|6|8000 8000 0003 8000
+probe 4 1 3 0|0000000000000000 0001 0002 0003 0005|3|1|100|-|5|
 probe 4 1 3 0|0000000000000000 0001 0002 0003 0005|100|-|3|100|6|8000 80
-probe 4 1 3 0|0000000000000000 0001 0002 0003 0005|100|-|0|100|6|
-";
-
-// The source fails at its first read, so these read nothing.
-static UNREAD: &str = "\
+probe 4 1 3 768|0000000000000000 0001 0002 0003 0005|100|0|100|-|13|
 |0000000000000000 0001 0002 0003 0005|100|0|100|-|1|usage
 probe|0000000000000000 0001 0002 0003 0005|100|0|100|-|1|usage
 sessions|0000000000000000 0001 0002 0003 0005|100|0|100|-|1|usage
 probe 4 1 5 0|0000000000000000 0001 0002 0003 0005|100|0|100|-|1|usage
-probe 4 1 3 768|0000000000000000 0001 0002 0003 0005|100|0|100|-|13|
 ";
 
 #[test]
 fn answers_probe(rt: HostRuntime) -> Result<(), Fail> {
-    for table in [PROBES, PIECES, FULL, UNREAD] {
-        for row in table.lines() {
-            assert!(rt; goes(&rt, row)?, "{row}");
-        }
+    for row in RUNS.lines() {
+        assert!(rt; goes(&rt, row)?, "{row}");
     }
-    Ok(())
-}
-
-// The status where that read fails of one of a leaf in pieces of three bytes, and whether the output is that of the status.
-fn with_failing_read<R: AllocGlobal + Threads + Wait + Sync + Clock + Log>(
-    rt: &R,
-    call: u64,
-) -> Result<(u8, bool), Fail> {
-    let alloc = rt.alloc();
-    let failing = Vec::from_slice(alloc, &[call])?;
-    let mut source = MemSource::new(unhex(alloc, LEAF_0)?, 3, failing);
-    let mut sink = MemSink::new(alloc, 100, Vec::new(alloc))?;
-    let status = run_over(rt, "probe 4 1 3 0", &mut source, &mut sink)?;
-    let output = if status == 0 { TILE_0 } else { "" };
-    Ok((status, holds(alloc, &sink, output)?))
-}
-
-#[test]
-fn fails_where_the_source_does(rt: HostRuntime) -> Result<(), Fail> {
-    let mut reads = 0;
-    for call in 0..20 {
-        let (status, is_output) = with_failing_read(&rt, call)?;
-        assert!(rt; is_output, "where read {call} fails");
-        if status == 0 {
-            reads = call;
-            break;
-        }
-        assert!(rt; status == 5, "where read {call} fails");
-    }
-    assert!(rt; reads > 3);
-    Ok(())
-}
-
-// So many records of a leaf, and more behind them.
-fn records(alloc: Global, count: u32, more: &[u8]) -> Result<Vec<u8>, Fail> {
-    let record = unhex(alloc, LEAF_0)?;
-    let mut input = Vec::new(alloc);
-    for _record in 0..count {
-        input.extend_from_slice(&record)?;
-    }
-    input.extend_from_slice(more)?;
-    Ok(input)
-}
-
-// Whether probe over that input ends so.
-fn probes<R: AllocGlobal + Threads + Wait + Sync + Clock + Log>(
-    rt: &R,
-    input: Vec<u8>,
-    status: u8,
-    output: &str,
-) -> Result<bool, Fail> {
-    let alloc = rt.alloc();
-    let mut source = MemSource::new(input, 100, Vec::new(alloc));
-    let mut sink = MemSink::new(alloc, 100, Vec::new(alloc))?;
-    let ended = run_over(rt, "probe 4 1 3 0", &mut source, &mut sink)?;
-    Ok(ended == status && holds(alloc, &sink, output)?)
-}
-
-#[test]
-fn reads_65_536_records_at_most(rt: HostRuntime) -> Result<(), Fail> {
-    let alloc = rt.alloc();
-    assert!(rt; probes(&rt, records(alloc, 65_536, b"")?, 0, TILE_0)?);
-    assert!(rt; probes(&rt, records(alloc, 65_536, b"\0")?, 12, "")?);
     Ok(())
 }
 

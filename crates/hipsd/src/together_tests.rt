@@ -145,7 +145,8 @@ fn door_of(
     })
 }
 
-static PUT: &str = "PUT /Norder4/Dir0/Npix0.fits HTTP/1.1~Host: a~Content-Length: 2888~~%leaf%";
+static PUT: &str =
+    "PUT /Norder4/Dir0/Npix0.fits HTTP/1.1~Host: a~Content-Length: 2888~~%tile 4 0 1 2 3 5%";
 
 static GET: &str = "GET /properties HTTP/1.1~Host: a~~";
 
