@@ -101,7 +101,7 @@ fn rounds<J: Naming + Send + Sync, R: Clock + Threads + Wait + Sync>(
 ) -> io::Result<WaitTimes> {
     let mut callers = Vec::new(alloc);
     for seat in seats {
-        callers.push(caller(alloc, survey, seat)?)?;
+        callers.push(caller_at(alloc, survey, seat)?)?;
     }
     let mut times = WaitTimes {
         alone: u128::MAX,
@@ -118,7 +118,7 @@ fn rounds<J: Naming + Send + Sync, R: Clock + Threads + Wait + Sync>(
     Ok(times)
 }
 
-fn caller<'a, J: Naming>(
+fn caller_at<'a, J: Naming>(
     alloc: Global,
     survey: &'a Survey<J>,
     seat: SurveySeat<J>,
