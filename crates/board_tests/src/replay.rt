@@ -3,7 +3,6 @@ use crate::calling::{Answer, Asked, Call, Seen, Told};
 use edit_journal::Edit;
 use reader_pin::Published;
 use std::alloc::{AllocError, Global};
-use std::process::Abort;
 use std::test::Fail;
 use survey_core::State;
 
@@ -215,7 +214,11 @@ impl Replay {
     }
 
     /// The history explains all that a board told.
-    pub(crate) fn explain_all<R: Abort>(&mut self, rt: &R, all: &[Told]) -> Result<(), Fail> {
+    ///
+    /// # Errors
+    ///
+    /// Where it doesn't.
+    pub(crate) fn explain_all(&mut self, all: &[Told]) -> Result<(), Fail> {
         let mut before = Seen { edits: 0, tip: 0 };
         let mut held = None;
         for told in all {
@@ -229,39 +232,38 @@ impl Replay {
             let rises = before.edits <= last.edits
                 && before.tip <= last.tip
                 && last.tip <= last.edits;
-            assert!(rt;
-                rises && held == told.held && self.explains(before, *told),
-                "{told:?} after {before:?}"
-            );
+            if !rises || held != told.held || !self.explains(before, *told) {
+                return Err("the history doesn't explain an answer".into());
+            }
             before = last;
         }
         Ok(())
     }
 
     /// Each edit was made once, each tip was published once, and all states that were seen follow one another.
-    pub(crate) fn end<R: Abort>(&self, rt: &R) -> Result<(), Fail> {
+    ///
+    /// # Errors
+    ///
+    /// Where it isn't so.
+    pub(crate) fn end(&self) -> Result<(), Fail> {
         let mut most = 0;
         let mut k = 0;
         for place in &self.places {
-            assert!(rt;
-                place.made == u32::from(k < self.last.edits),
-                "edit {k} was made {} times",
-                place.made
-            );
-            assert!(rt;
-                place.published == u32::from(place.is_tip && k > 0),
-                "{k} was published {} times",
-                place.published
-            );
-            assert!(rt;
-                place.least >= most,
-                "with {k} edits only {} were published",
-                place.least
-            );
+            if place.made != u32::from(k < self.last.edits) {
+                return Err("an edit was lost, or made twice".into());
+            }
+            if place.published != u32::from(place.is_tip && k > 0) {
+                return Err("a publication was lost, or made twice".into());
+            }
+            if place.least < most {
+                return Err("fewer edits were published after more".into());
+            }
             most = most.max(place.most);
             k = k.saturating_add(1);
         }
-        assert_eq!(rt; most, self.last.tip);
+        if most != self.last.tip {
+            return Err("the last publication was seen by no board".into());
+        }
         Ok(())
     }
 }

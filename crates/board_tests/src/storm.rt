@@ -111,13 +111,13 @@ pub(crate) fn storm<J: Naming + Send + Sync, R: Threads + Wait + Abort + Sync>(
     }
     assert!(rt; first.is_complete);
     let mut replay = Replay::of(alloc, first.board.last())?;
-    replay.explain_all(rt, &first.told)?;
+    replay.explain_all(&first.told)?;
     for other in others.iter_mut() {
         first.board.meet(&mut other.board)?;
         assert!(rt;
             other.is_complete && Seen::of(other.board.last()) == Seen::of(first.board.last())
         );
-        replay.explain_all(rt, &other.told)?;
+        replay.explain_all(&other.told)?;
     }
-    replay.end(rt)
+    replay.end()
 }

@@ -9,7 +9,6 @@ use shared_history::Naming;
 use std::alloc::Global;
 use std::io::Print;
 use std::marker::Brand;
-use std::process::Abort;
 use std::sync::{Arc, Wait};
 use std::test::Fail;
 use std::thread::Threads;
@@ -72,7 +71,7 @@ struct Teller<'a, J: Naming> {
 /// # Errors
 ///
 /// Where there is no memory to begin it, or a call is refused again and again.
-pub(crate) fn play<R: Threads + Wait + Abort + Print + Sync>(
+pub(crate) fn play<R: Threads + Wait + Print + Sync>(
     rt: &R,
     alloc: Global,
 ) -> Result<Ending, Fail> {
@@ -81,7 +80,7 @@ pub(crate) fn play<R: Threads + Wait + Abort + Print + Sync>(
 }
 
 // Opens the survey with three places, and ends it.
-fn open<J: Naming, R: Threads + Wait + Abort + Print + Sync>(
+fn open<J: Naming, R: Threads + Wait + Print + Sync>(
     rt: &R,
     alloc: Global,
     book: SurveyBook,
@@ -97,7 +96,7 @@ fn open<J: Naming, R: Threads + Wait + Abort + Print + Sync>(
 }
 
 // The story from its begin to its end: one history explains what each board was answered.
-fn tell_all<J: Naming, R: Threads + Wait + Abort + Print + Sync>(
+fn tell_all<J: Naming, R: Threads + Wait + Print + Sync>(
     rt: &R,
     alloc: Global,
     survey: &Survey<J>,
@@ -109,7 +108,7 @@ fn tell_all<J: Naming, R: Threads + Wait + Abort + Print + Sync>(
     meet(&mut tellers)?;
     tell(rt, alloc, &mut tellers, &END)?;
     meet(&mut tellers)?;
-    let last = explained(rt, alloc, &tellers)?;
+    let last = explained(alloc, &tellers)?;
     let mut refused = 0u32;
     for teller in &tellers {
         refused = refused.saturating_add(teller.refused);
@@ -196,11 +195,7 @@ fn meet<'a, J: Naming>(tellers: &mut [Teller<'a, J>]) -> Result<(), Fail> {
 }
 
 // The last state, if the history that all boards have seen explains what each was answered.
-fn explained<'a, J: Naming, R: Abort>(
-    rt: &R,
-    alloc: Global,
-    tellers: &[Teller<'a, J>],
-) -> Result<Seen, Fail> {
+fn explained<'a, J: Naming>(alloc: Global, tellers: &[Teller<'a, J>]) -> Result<Seen, Fail> {
     let first = tellers.first().ok_or("no board")?.board.last();
     let mut replay = match Replay::of(alloc, first) {
         Ok(replay) => replay,
@@ -208,9 +203,11 @@ fn explained<'a, J: Naming, R: Abort>(
     };
     let last = Seen::of(first);
     for teller in tellers {
-        assert!(rt; Seen::of(teller.board.last()) == last);
-        replay.explain_all(rt, &teller.told)?;
+        if Seen::of(teller.board.last()) != last {
+            return Err("boards that met have seen different states".into());
+        }
+        replay.explain_all(&teller.told)?;
     }
-    replay.end(rt)?;
+    replay.end()?;
     Ok(last)
 }

@@ -1,5 +1,5 @@
 //! Surveys without leaves, and connections to them.
-ghost use Rattle.std.specs.Prelude.{IsTrue};
+ghost use Rattle.std.specs.Prelude.{◌≡◌, [], IfOk, IsTrue};
 ghost use Rattle.edit_journal.specs.Edit.{edit_of};
 ghost use Rattle.edit_journal.specs.Leaves.{FitsEdit};
 
@@ -36,7 +36,9 @@ pub(crate) fn first_state<R: Threads + Sync>(
     rt: &R,
     alloc: Global,
     conf: &str,
-) -> Result<State, Fail> {
+) -> Result<State, Fail>
+    ensures { IfOk result (λ state. state.batches ≡ []) }
+{
     let conf = Arc::new(alloc, Conf::read(alloc, conf.as_bytes())?)?;
     let generation = Generation::start(
         rt,
