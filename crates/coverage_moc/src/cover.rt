@@ -1,3 +1,4 @@
+//! The cover itself, which is made of all leaves and changed by one at a time.
 ghost use Rattle.std.specs.Prelude.{◌≡◌, ◌≢◌, ◌<◌, ◌≤◌, ◌∷◌, ℕ, List, length, slice_get, All, IfOk, Err};
 ghost use Rattle.std.specs.Map.{keys_of};
 ghost use Rattle.healpix_nested.specs.Cells.{cell_count};

@@ -1,3 +1,4 @@
+//! The tile of one cell, named by the cell.
 use std::sync::Arc;
 use tile_pixels::Tile;
 

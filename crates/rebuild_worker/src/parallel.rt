@@ -1,3 +1,4 @@
+//! The merges of one order, by as many workers as there are processors.
 ghost use Rattle.std.specs.Prelude.{◌≡◌, ◌+◌, ◌*◌, ◌<◌, ◌≤◌, ◌^◌, ◌++◌, IfOk, All};
 ghost use Rattle.std.specs.Thread.{IsSync};
 ghost use Rattle.rebuild_worker.specs.Level.{merges_of, IsAboveLeaves, HaveShape, ShowsItsCell};

@@ -1,3 +1,4 @@
+//! Permits that are spent in order.
 ghost use Rattle.std.specs.Prelude.{◌≡◌, ◌+◌, ◌≤◌, ◌<◌, ◌∷◌, [], length, take, drop, OnOk, IfOk, MatchOption};
 
 use parent_rule::Permit;

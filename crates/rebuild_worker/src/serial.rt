@@ -1,3 +1,4 @@
+//! The merges of one order, one after the other.
 ghost use Rattle.std.specs.Prelude.{◌≡◌, ◌++◌, [], ◌∷◌, IfOk, All};
 ghost use Rattle.rebuild_worker.specs.Level.{merge_of, merges_of, IsAboveLeaves, HaveShape, ShowsItsCell};
 ghost use Rattle.rebuild_worker.specs.Shown.{shown, all_shown};
