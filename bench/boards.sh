@@ -4,7 +4,8 @@
 # - Pins: how long one `pin` takes in 1, 2 and 4 threads at once, each with a board of its own: while nobody changes the survey,
 #   and while another thread edits all the time. Each thread makes 2^18 pins; the time is that of the slowest thread, on the wall.
 #   `edits` is how many edits were accepted meanwhile: where it is 65,536, the most that a survey takes, the writer had ended
-#   before the others.
+#   before the others. Beside both stands the first again, while a shell that has nothing to do with the survey counts on another
+#   processor: what a pin takes longer there is the machine's, and not the writer's.
 # - Edits: how many a second one board makes, and two at once, of 2^15 edits each, on the wall. Each puts a tile of 32 by 32 on
 #   one of 65,536 leaves of order 11; pins are of the same survey.
 # - A publication of one leaf in a full sky of order 3, 768 leaves of 512 by 512 numbers of 16 bits: on the wall, alone; and how
@@ -19,21 +20,29 @@
 # The program is a proved build. Pins in 4 threads beside a writer want 5 processors, and the publication 2; with fewer the times
 # say something else, so the script says how many there are. They mean something only where nothing else runs.
 #
-#   bench/boards.sh [RUNS]
+#   bench/boards.sh [RUNS]         (SURVEY_BENCH=PROGRAM: a proved build that is there, instead of one that is made now)
 set -u
 here=$(cd "$(dirname "$0")" && pwd)
 runs=${1:-3}
 work=$(mktemp -d) || exit 1
 trap 'rm -rf "$work"' EXIT
-# Builds the proved program at crates/survey_bench/out/survey_bench.
-(cd "$here/../crates/survey_bench" && rt run >/dev/null 2>&1) || { echo "boards.sh: survey_bench isn't built"; exit 1; }
-bench="$here/../crates/survey_bench/out/survey_bench"
+bench=${SURVEY_BENCH:-"$here/../crates/survey_bench/out/survey_bench"}
+# Builds the proved program there.
+if [ -z "${SURVEY_BENCH:-}" ]; then
+    (cd "$here/../crates/survey_bench" && rt run >/dev/null 2>&1) || { echo "boards.sh: survey_bench isn't built"; exit 1; }
+fi
 
 run=0
 while [ "$run" -lt "$runs" ]; do
     for threads in 1 2 4; do
         got=$("$bench" boards pins "$threads") || exit 1
         echo "$threads $got" >>"$work/pins"
+        # It has nothing to do with the survey.
+        (while :; do :; done) &
+        counting=$!
+        got=$("$bench" boards pins "$threads")
+        kill "$counting"
+        echo "$threads $got" >>"$work/beside"
     done
     for boards in 1 2; do
         got=$("$bench" boards edits "$boards") || exit 1
@@ -44,17 +53,18 @@ while [ "$run" -lt "$runs" ]; do
 done
 
 echo "boards of one survey, $(nproc) processors:"
-# THREADS QUIET BUSY EDITS, in nanoseconds for each pin
+# THREADS QUIET BUSY EDITS, in nanoseconds for each pin; then the same beside a stranger, of which only QUIET counts
 awk '
+    FILENAME ~ /beside$/ { if (!($1 in stranger) || $2 < stranger[$1]) stranger[$1] = $2; next }
     !($1 in quiet) || $2 < quiet[$1] { quiet[$1] = $2 }
     !($1 in busy) || $3 < busy[$1] { busy[$1] = $3; edits[$1] = $4 }
     END {
         split("1 2 4", order)
         for (i = 1; i <= 3; i++) {
             t = order[i]
-            printf "  pins in %d thread(s): %.1f ns, %.1f million a second; beside a writer %.1f ns, %.1f million a second, ratio %.2f, %d edits meanwhile (goal: under 200 ns, no slower beside a writer)\n", t, quiet[t], t * 1000 / quiet[t], busy[t], t * 1000 / busy[t], busy[t] / quiet[t], edits[t]
+            printf "  pins in %d thread(s): %.1f ns, %.1f million a second; beside a writer %.1f ns, %.1f million a second, ratio %.2f, %d edits meanwhile; beside a stranger %.1f ns (goal: under 200 ns, no slower beside a writer)\n", t, quiet[t], t * 1000 / quiet[t], busy[t], t * 1000 / busy[t], busy[t] / quiet[t], edits[t], stranger[t]
         }
-    }' "$work/pins"
+    }' "$work/pins" "$work/beside"
 # BOARDS EACH, in nanoseconds for each edit of one board
 awk '
     !($1 in each) || $2 < each[$1] { each[$1] = $2 }

@@ -43,6 +43,8 @@ pub fn session<
     ensures wants { result.wants ≤ most_requests }
     ensures read_fault { result.end ≡ ReadFault → Rises (S.faults src.old) (S.faults src.new) }
     ensures write_fault { result.end ≡ WriteFault → Rises (K.faults sink.old) (K.faults sink.new) }
+    // What was handed on is all that is held, unless a write or the handing on failed.
+    ensures handed_on { K.handed_on sink.old ≡ K.held sink.old → ¬ (result.end ≡ WriteFault) → K.handed_on sink.new ≡ K.held sink.new }
     ensures source_never_falls { S.faults src.old ≤ S.faults src.new }
     ensures sink_never_falls { K.faults sink.old ≤ K.faults sink.new }
     ensures steps_never_fall { steps.old ≤ steps.new }
@@ -88,6 +90,8 @@ pub fn session_in<
     ensures wants { result.wants ≤ most_requests }
     ensures read_fault { result.end ≡ ReadFault → Rises (S.faults src.old) (S.faults src.new) }
     ensures write_fault { result.end ≡ WriteFault → Rises (K.faults sink.old) (K.faults sink.new) }
+    // What was handed on is all that is held, unless a write or the handing on failed.
+    ensures handed_on { K.handed_on sink.old ≡ K.held sink.old → ¬ (result.end ≡ WriteFault) → K.handed_on sink.new ≡ K.held sink.new }
     ensures source_never_falls { S.faults src.old ≤ S.faults src.new }
     ensures sink_never_falls { K.faults sink.old ≤ K.faults sink.new }
     ensures steps_never_fall { steps.old ≤ steps.new }

@@ -22,6 +22,7 @@ pub(crate) fn send_text<K: Sink>(
 ) -> Result<(), Failed>
     ensures whole { OnOk result (Appends (K.held sink.old) (K.held sink.new) (reply_bytes (head_of close reply.now) (sent_body method reply.now.body))) }
     ensures part { OnErr result (AppendsPrefix (K.held sink.old) (K.held sink.new) (reply_bytes (head_of close reply.now) (sent_body method reply.now.body))) }
+    ensures handed_on { OnOk result (K.handed_on sink.new ≡ K.held sink.new) }
     ensures failed { OnErr result (Rises (K.faults sink.old) (K.faults sink.new)) }
     ensures never_falls { K.faults sink.old ≤ K.faults sink.new }
 {
@@ -59,6 +60,7 @@ pub(crate) fn send_file<'a, K: Sink>(
     requires short { length front.now + length kept.now + length zeros.now < 2 ^ 64 }
     ensures whole { OnOk result (Appends (K.held sink.old) (K.held sink.new) (reply_bytes (head_of close (found_answer tip path.now (front.now ++ kept.now ++ zeros.now))) (sent_body method (front.now ++ kept.now ++ zeros.now)))) }
     ensures part { OnErr result (AppendsPrefix (K.held sink.old) (K.held sink.new) (reply_bytes (head_of close (found_answer tip path.now (front.now ++ kept.now ++ zeros.now))) (sent_body method (front.now ++ kept.now ++ zeros.now)))) }
+    ensures handed_on { OnOk result (K.handed_on sink.new ≡ K.held sink.new) }
     ensures failed { OnErr result (Rises (K.faults sink.old) (K.faults sink.new)) }
     ensures never_falls { K.faults sink.old ≤ K.faults sink.new }
 {
@@ -97,6 +99,7 @@ pub(crate) fn send_refusal<K: Sink>(sink: &mut K, code: u16) -> Result<(), Faile
     requires known { is_reply_code code ≡ true }
     ensures whole { OnOk result (Appends (K.held sink.old) (K.held sink.new) (refusal_bytes code)) }
     ensures part { OnErr result (AppendsPrefix (K.held sink.old) (K.held sink.new) (refusal_bytes code)) }
+    ensures handed_on { OnOk result (K.handed_on sink.new ≡ K.held sink.new) }
     ensures failed { OnErr result (Rises (K.faults sink.old) (K.faults sink.new)) }
     ensures never_falls { K.faults sink.old ≤ K.faults sink.new }
 {

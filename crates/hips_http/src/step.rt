@@ -61,6 +61,7 @@ pub(crate) fn next_call<S: Source>(
 pub(crate) fn end_at<K: Sink>(sink: &mut K, stop: Stop) -> SessionEnd
     ensures ends { EndsAt stop (K.held sink.old) (K.held sink.new) result }
     ensures read_fault { result ≡ ReadFault → stop ≡ Stopped.ReadFault }
+    ensures handed_on { K.handed_on sink.old ≡ K.held sink.old → ¬ (result ≡ WriteFault) → K.handed_on sink.new ≡ K.held sink.new }
     ensures failed { result ≡ WriteFault → Rises (K.faults sink.old) (K.faults sink.new) }
     ensures never_falls { K.faults sink.old ≤ K.faults sink.new }
 {
@@ -95,6 +96,7 @@ fn reply_code(code: u16) -> u16
 pub(crate) fn grant<K: Sink>(sink: &mut K, request: &Request) -> Result<(), Failed>
     ensures whole { OnOk result (Appends (K.held sink.old) (K.held sink.new) (leave_bytes request.now)) }
     ensures part { OnErr result (AppendsPrefix (K.held sink.old) (K.held sink.new) continue_bytes) }
+    ensures handed_on { K.handed_on sink.old ≡ K.held sink.old → OnOk result (K.handed_on sink.new ≡ K.held sink.new) }
     ensures waits { OnErr result (request.now.expects ≡ true) }
     ensures failed { OnErr result (Rises (K.faults sink.old) (K.faults sink.new)) }
     ensures never_falls { K.faults sink.old ≤ K.faults sink.new }
@@ -136,6 +138,8 @@ pub(crate) fn serve_file<R: Log, B: Board, S: Source, K: Sink>(
         × AppendsPrefix (K.held sink.old) (K.held sink.new) (reply_of close request.now answer) }
     ensures halted { (steps wants : ℕ) → IfErr result (λ end. ¬ (end ≡ WriteFault) → Halts request.now frame.old frame.new (S.left src.old) (S.left src.new) (S.faults src.old) (S.faults src.new)
         (B.content board.old) (B.content board.new) steps steps wants wants (K.held sink.old) (K.held sink.new) end) }
+    ensures handed_on { OnOk result (K.handed_on sink.new ≡ K.held sink.new) }
+    ensures unwritten { IfErr result (λ end. ¬ (end ≡ WriteFault) → (K.held sink.new ≡ K.held sink.old) × (K.handed_on sink.new ≡ K.handed_on sink.old)) }
     ensures write_fault { result ≡ Err WriteFault → Rises (K.faults sink.old) (K.faults sink.new) }
     ensures source_never_falls { S.faults src.old ≤ S.faults src.new }
     ensures sink_never_falls { K.faults sink.old ≤ K.faults sink.new }
@@ -186,6 +190,8 @@ pub(crate) fn serve_text<
         × AppendsPrefix (K.held sink.old) (K.held sink.new) (reply_of close request.now answer) }
     ensures halted { IfErr result (λ end. ¬ (end ≡ WriteFault) → Halts request.now frame.old frame.new (S.left src.old) (S.left src.new) (S.faults src.old) (S.faults src.new)
         (B.content board.old) (B.content board.new) steps.old steps.new wants.old wants.new (K.held sink.old) (K.held sink.new) end) }
+    ensures handed_on { OnOk result (K.handed_on sink.new ≡ K.held sink.new) }
+    ensures unwritten { IfErr result (λ end. ¬ (end ≡ WriteFault) → (K.held sink.new ≡ K.held sink.old) × (K.handed_on sink.new ≡ K.handed_on sink.old)) }
     ensures write_fault { result ≡ Err WriteFault → Rises (K.faults sink.old) (K.faults sink.new) }
     ensures source_never_falls { S.faults src.old ≤ S.faults src.new }
     ensures sink_never_falls { K.faults sink.old ≤ K.faults sink.new }
@@ -233,6 +239,8 @@ fn serve_call<R: Threads + Wait + Sync + Clock + Log, B: Board, S: Source, K: Si
         × AppendsPrefix (K.held sink.old) (K.held sink.new) (reply_of close request.now answer) }
     ensures halted { IfErr result (λ end. ¬ (end ≡ WriteFault) → Halts request.now frame.old frame.new (S.left src.old) (S.left src.new) (S.faults src.old) (S.faults src.new)
         (B.content board.old) (B.content board.new) steps.old steps.new wants.old wants.new (K.held sink.old) (K.held sink.new) end) }
+    ensures handed_on { OnOk result (K.handed_on sink.new ≡ K.held sink.new) }
+    ensures unwritten { IfErr result (λ end. ¬ (end ≡ WriteFault) → (K.held sink.new ≡ K.held sink.old) × (K.handed_on sink.new ≡ K.handed_on sink.old)) }
     ensures write_fault { result ≡ Err WriteFault → Rises (K.faults sink.old) (K.faults sink.new) }
     ensures source_never_falls { S.faults src.old ≤ S.faults src.new }
     ensures sink_never_falls { K.faults sink.old ≤ K.faults sink.new }
@@ -286,6 +294,8 @@ pub(crate) fn serve_one<
     ensures stops { IfErr result (StopsOne count (room_of (B.content board.old).conf) (B.content board.old) (B.content board.new) steps.old steps.new wants.old wants.new
         (unread frame.old (S.left src.old)) (unread frame.new (S.left src.new)) (S.left src.new) (K.held sink.old) (K.held sink.new)) }
     ensures left { IfSome (unread frame.old (S.left src.old)) (λ all. LeavesPart all (S.left src.new)) }
+    ensures handed_on { OnOk result (K.handed_on sink.new ≡ K.held sink.new) }
+    ensures stays_handed_on { K.handed_on sink.old ≡ K.held sink.old → ¬ (result ≡ Err WriteFault) → K.handed_on sink.new ≡ K.held sink.new }
     ensures turn { OnOk result (frame.new.turn ≡ AtHead) }
     ensures read_fault { result ≡ Err ReadFault → Rises (S.faults src.old) (S.faults src.new) }
     ensures write_fault { result ≡ Err WriteFault → Rises (K.faults sink.old) (K.faults sink.new) }
