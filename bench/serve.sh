@@ -5,16 +5,23 @@
 # nginx (Debian's nginx-light, four workers, sendfile, no log) serves the folder that `hipsd export` wrote; hipsd serves the same
 # survey with 64 places. Asked for are a tile of 529,920 bytes, /properties (some 400 bytes) and the all-sky mosaic (6.4 MB), by
 # 1, 4, 16 and 64 connections that are kept open; /properties by connections that are closed after each reply; and then the tile
-# and /properties by 16 connections while a leaf is put and published each second.
+# and /properties by 1, 4 and 16 connections while a leaf is put and published each second. There the quicker server is the busier
+# one too, so times are compared once more at one rate, below what either can do: each connection pauses after a reply. With
+# --equal that is all that is done; it takes two and a half minutes.
 #
 # wrk takes processors too: on a machine with few of them all three share. PROGRAM is the proved build; one of `rt try` has checks
-# in it, and its times say nothing. Best of RUNS, each of SECONDS.
+# in it, and its times say nothing. Best of RUNS, each of SECONDS, 3 of 3 if not said; at one rate the middle of RUNS, 5 of 7.
 #
 #   bench/serve.sh [RUNS [SECONDS]]         (HIPSD=PROGRAM: another program than crates/hipsd/out/hipsd)
+#   bench/serve.sh --equal [RUNS [SECONDS]]
 set -u
 here=$(cd "$(dirname "$0")" && pwd)
+only_equal=
+[ "${1:-}" = --equal ] && only_equal=yes && shift
 runs=${1:-3}
 seconds=${2:-3}
+equal_runs=${1:-5}
+equal_seconds=${2:-7}
 for tool in wrk nginx curl gcc; do
     command -v "$tool" >/dev/null 2>&1 || { echo "serve.sh: there is no $tool here, so there is nothing to time with"; exit 0; }
 done
@@ -22,10 +29,11 @@ hipsd=$(realpath -e "${HIPSD:-$here/../crates/hipsd/out/hipsd}") || { echo "serv
 work=$(mktemp -d) || exit 1
 chmod 755 "$work"
 server=
+web_server=
 # shellcheck disable=SC2317 # it is called by the trap
 end() {
     [ -n "$server" ] && kill "$server" 2>/dev/null
-    [ -f "$work/nginx.pid" ] && kill "$(cat "$work/nginx.pid")" 2>/dev/null
+    [ -n "$web_server" ] && kill "$web_server" 2>/dev/null
     rm -rf "$work"
 }
 trap end EXIT
@@ -67,10 +75,15 @@ http {
     server { listen 127.0.0.1:$web; root $work/survey; }
 }
 CONF
-nginx -c "$work/nginx.conf" -p "$work" || exit 1
+# In the foreground: as a daemon it is a session of its own, and where the kernel schedules sessions as groups that costs it some
+# 15 in 100 of its rate, beside a hipsd that is in one group with wrk.
+nginx -c "$work/nginx.conf" -p "$work" -g 'daemon off;' &
+web_server=$!
 "$hipsd" serve "127.0.0.1:$port" 65536 64 2>"$work/log" &
 server=$!
-for _ in $(seq 200); do curl -s "http://127.0.0.1:$port/properties" >/dev/null && break; sleep 0.05; done
+for from in $web $port; do
+    for _ in $(seq 200); do curl -s "http://127.0.0.1:$from/properties" >/dev/null && break; sleep 0.05; done
+done
 for path in properties Norder3/Dir0/Npix7.fits Norder3/Allsky.fits; do
     for from in $web $port; do curl -s "http://127.0.0.1:$from/$path" >"$work/$from"; done
     cmp -s "$work/$web" "$work/$port" || { echo "serve.sh: $path differs"; exit 1; }
@@ -97,8 +110,64 @@ compare() {
     printf '%-28s %3d  nginx %9.0f (p99 %8s)  hipsd %9.0f (p99 %8s)  %5.2f\n' \
         "$1" "$3" "$best_web" "$late_web" "$best_port" "$late_port" "$(echo "scale=4; $best_port / $best_web" | bc)"
 }
-command -v bc >/dev/null 2>&1 || { echo "serve.sh: there is no bc here"; exit 0; }
+
+# ---- by turns, at one rate
+
+# Lua for wrk: a connection pauses for a random time after each reply, PAUSE milliseconds in the mean, from the same random numbers
+# for both servers. Written at the end: requests a second, and the middle and the 99th percentile of the milliseconds.
+cat >"$work/pause.lua" <<'LUA'
+local threads = 0
+function setup(thread)
+    threads = threads + 1
+    thread:set("number", threads)
+end
+function init(words)
+    pause = tonumber(words[1])
+    math.randomseed(number)
+end
+function delay()
+    return math.random(0, 2 * pause)
+end
+function done(summary, latency)
+    local errors = summary.errors
+    if errors.connect + errors.read + errors.write + errors.status + errors.timeout > 0 then io.stderr:write("serve.sh: a request failed\n") end
+    io.write(string.format("at %.0f %.3f %.3f\n", summary.requests * 1e6 / summary.duration, latency:percentile(50) / 1000, latency:percentile(99) / 1000))
+end
+LUA
+# paced PORT PATH CONNECTIONS PAUSE
+paced() {
+    wrk -t 4 -c "$3" -d "${equal_seconds}s" -s "$work/pause.lua" "http://127.0.0.1:$1/$2" -- "$4" | sed -n 's/^at //p'
+}
+# middle COLUMN FILE
+middle() {
+    cut -d ' ' -f "$1" "$2" | sort -n | sed -n "$(((equal_runs + 1) / 2))p"
+}
+# times FILE: of its runs the middle rate and times, and the least and greatest 99th percentile.
+times() {
+    printf '%6.0f a second, p50 %7.3f ms, p99 %7.3f ms (%.3f to %.3f)' "$(middle 1 "$1")" "$(middle 2 "$1")" "$(middle 3 "$1")" \
+        "$(cut -d ' ' -f 3 "$1" | sort -n | head -n 1)" "$(cut -d ' ' -f 3 "$1" | sort -n | tail -n 1)"
+}
+# equal NAME PATH CONNECTIONS PAUSE
+equal() {
+    : >"$work/$web.times"
+    : >"$work/$port.times"
+    for _ in $(seq "$equal_runs"); do
+        for from in $web $port; do paced "$from" "$2" "$3" "$4" >>"$work/$from.times"; done
+    done
+    printf '%-23s %2d  nginx %s\n' "$1" "$3" "$(times "$work/$web.times")"
+    printf '%-23s %2d  hipsd %s\n' "" "$3" "$(times "$work/$port.times")"
+}
 tile=Norder3/Dir0/Npix7.fits
+equal_rates() {
+    echo "at one rate, connections kept open:"
+    equal "tile, 529,920 bytes" "$tile" 4 3
+    equal "all-sky mosaic, 6.4 MB" Norder3/Allsky.fits 16 120
+}
+
+# ---- what is timed
+
+[ "$only_equal" = yes ] && equal_rates && exit
+command -v bc >/dev/null 2>&1 || { echo "serve.sh: there is no bc here"; exit 0; }
 echo "requests a second, connections kept open:"
 for connections in 1 4 16 64; do compare "tile, 529,920 bytes" "$tile" "$connections"; done
 for connections in 1 4 16 64; do compare "properties" properties "$connections"; done
@@ -118,3 +187,4 @@ for connections in 1 4 16; do compare "properties" properties "$connections"; do
 kill "$editor" 2>/dev/null
 wait "$editor" 2>/dev/null
 echo "the last publication: $(cat "$work/published")"
+equal_rates

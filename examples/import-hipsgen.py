@@ -2,8 +2,10 @@
 """Makes a survey folder for hipsd of a HiPS that HipsGen (Aladin) wrote: import-hipsgen.py HIPS FOLDER.
 
 FOLDER gets `survey.conf`, from HIPS/properties and the first leaf tile, and the leaf tiles, those of order hips_order. Coarser
-tiles, the all-sky image and the coverage are left out: hipsd makes them itself, by the mean of four pixels, or by their lower
-median where HIPS says hips_hierarchy = median. So they may differ from HipsGen's.
+tiles, the all-sky image and the coverage are left out: hipsd makes them itself, each pixel as the mean of four. HipsGen's FITS
+tiles are means too, rounded towards zero where hipsd rounds half up, so a pixel may differ by 1 for each order above the leaves.
+What HIPS says as hips_hierarchy isn't asked: HipsGen 12.001 writes `median`, which is so of its PNG and JPEG tiles alone. For the
+lower median add the lines `survey_version = 2` and `survey_rule = median` to survey.conf.
 
 HipsGen writes BLANK as a real number, 'BLANK = -32768.0', which FITS 4.0 (section 4.4.2.5) doesn't allow and hipsd refuses; here
 it becomes a whole number, and a tile without one gets BLANK from the others. Nothing else of a tile is changed; a tile that is
@@ -100,9 +102,6 @@ def description(found, cards, blank):
         if number is not None:
             yield key, number
     yield "survey_blank", blank
-    if found.get("hips_hierarchy") == "median":
-        yield "survey_version", 2
-        yield "survey_rule", "median"
     written = {"creator_did", "obs_title", "hips_release_date", "hips_status"} | OWN | DROPPED
     for key, value in found.items():
         if key not in written and not key.startswith("survey_") and re.fullmatch(r"[a-z][a-z0-9_]{0,63}", key):
