@@ -8,9 +8,11 @@ use Rattle.std.specs.Result.{result_ok}
 use Rattle.std.specs.Str.Parse.{AllDigits, digits_value, ParsesUnsigned}
 use Rattle.std.proofs.lemmas.Str.Parse.{IsNumeralModel, numerals_by_value, tells_digits, parse_plain, digit_at}
 use Rattle.std.proofs.lemmas.Fmt.{decimal_digit, decimal_nonempty, first_decimal, digits_decimal, decimal-digits_value, decimal_injective, parse-decimal}
-use Rattle.hipsd.specs.Command.{texts, Asks, IsMake, IsServe, IsCommand, IsCommandFor, doors_of, words_of}
+use Rattle.hipsd.specs.Command.{texts, Asks, IsCommand, IsCommandFor, doors_of, words_of}
 use Rattle.leaf_probe.specs.Probe.{IsProbe}
 use Rattle.leaf_probe.specs.declared.asked.Probe.{Probe}
+use Rattle.survey_commands.specs.Make.{IsMake}
+use Rattle.survey_commands.specs.Serve.{IsServe}
 use Rattle.hipsd.specs.declared.command.Command.{Command}
 use Rattle.hipsd.specs.declared.command.Command.TheVariants.{Probe as ProbeCommand, Session, Export, Verify, Make, Serve}
 

@@ -1,4 +1,2 @@
 pub mod CommandLemmas
-pub mod MakeLemmas
-pub mod ShelfLemmas
-pub mod ServeLemmas
+pub mod DoorsLemmas

@@ -1,27 +1,15 @@
 -- What the words of a command line ask for. Numbers are plain decimals, without a sign and without leading zeros.
-use Rattle.std.specs.Prelude.{◌≡◌, ℕ, ◌^◌, ◌<◌, ◌≤◌, Bool, true, false, List, [], ◌∷◌, map, codes, decimal, String, string_bytes, ⊤}
+use Rattle.std.specs.Prelude.{◌≡◌, ℕ, ◌≤◌, Bool, true, false, List, [], ◌∷◌, map, codes, decimal, String, string_bytes, ⊤}
 use Rattle.std.specs.declared.alloc.Global.{Global}
 use Rattle.leaf_probe.specs.Probe.{IsProbe}
-use Rattle.leaf_probe.specs.declared.asked.Probe.{Probe}
+use Rattle.survey_commands.specs.Make.{IsMake}
+use Rattle.survey_commands.specs.Serve.{IsServe}
 use Rattle.hipsd.specs.declared.command.Command.{Command}
 use Rattle.hipsd.specs.declared.command.Command.TheVariants.{Probe as ProbeCommand, Session, Export, Verify, Make, Serve}
 
 -- the bytes of each word
 abbrev pub texts : List (String Global) → List (List ℕ)
 texts words = map string_bytes words
-
--- a made survey: any number, 1 to 4,096 edits
-pub record IsMake (number edits : ℕ) : Type 0 where
-  pub small : number < 2 ^ 64
-  pub least_edits : 1 ≤ edits
-  pub most_edits : edits ≤ 4096
-
--- connections of many doors: 1 to 65,536 of each, 1 to 64 doors
-pub record IsServe (connections places : ℕ) : Type 0 where
-  pub least_connections : 1 ≤ connections
-  pub most_connections : connections ≤ 65536
-  pub least_places : 1 ≤ places
-  pub most_places : places ≤ 64
 
 -- the words that ask for a command, where this is the address at which connections come in
 abbrev pub words_of : List ℕ → Command → List (List ℕ)

@@ -1,6 +1,2 @@
 pub mod Command
 pub mod Run
-pub mod Survey
-pub mod Session
-pub mod Make
-pub mod Serve

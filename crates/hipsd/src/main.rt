@@ -12,29 +12,21 @@ ghost use Rattle.hipsd.specs.declared.command.Command.TheVariants.{Probe as Prob
 ghost use Rattle.hipsd.specs.Command.{texts, Asks, IsCommand};
 
 mod command;
-mod exporting;
 #[cfg(test)]
 mod make_tests;
-mod making;
-mod output;
-mod refusing;
 mod run;
 #[cfg(test)]
 mod runs;
 #[cfg(test)]
 mod serve_tests;
-mod serving;
 #[cfg(test)]
 mod session_tests;
-mod sharing;
-mod summary;
 #[cfg(test)]
 mod survey_tests;
 #[cfg(test)]
 mod tests;
 #[cfg(test)]
 mod together_tests;
-mod verifying;
 
 use log::sink::Console;
 use log::{LevelFilter, Log, Logged};

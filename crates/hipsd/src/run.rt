@@ -11,18 +11,13 @@ ghost use Rattle.leaf_probe.specs.Probe.{IsProbe, probe_answer, probe_steps};
 ghost use Rattle.leaf_probe.specs.Merging.{steps_after};
 ghost use Rattle.leaf_probe.specs.Reading.{ReadsToTheEnd};
 ghost use Rattle.hipsd.specs.Run.{usage_text, EndsBy};
-ghost use Rattle.hipsd.specs.Survey.{RunsExport, RunsVerify};
-ghost use Rattle.hipsd.specs.Session.{RunsSession, ends_of};
-ghost use Rattle.hipsd.specs.Make.{RunsMake};
+ghost use Rattle.survey_commands.specs.Survey.{RunsExport, RunsVerify};
+ghost use Rattle.survey_commands.specs.Session.{RunsSession, ends_of};
+ghost use Rattle.survey_commands.specs.Make.{RunsMake};
 ghost use Rattle.hips_place.specs.Place.{SomeRises};
-ghost use Rattle.hipsd.specs.Serve.{RunsServe};
+ghost use Rattle.survey_commands.specs.Serve.{RunsServe};
 
 use crate::command::{Command, command_for};
-use crate::exporting::run_export;
-use crate::making::run_make;
-use crate::serving::run_session;
-use crate::sharing::run_serve;
-use crate::verifying::run_verify;
 use leaf_probe::{Probe, probe, write_out};
 use log::Log;
 use parent_rule::Steps;
@@ -30,6 +25,7 @@ use std::alloc::Global;
 use std::sync::Wait;
 use std::thread::Threads;
 use std::time::Clock;
+use survey_commands::{run_export, run_make, run_serve, run_session, run_verify};
 use survey_link::{Door, Gate, Shelf, Sink, Source};
 
 /// Runs the command that the words ask for, over these ends, and answers its status.

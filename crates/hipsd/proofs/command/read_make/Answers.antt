@@ -1,6 +1,6 @@
 use Rattle.std.proofs.Common.{arith, ◌≡◌, sym, ◌∙◌, decimal}
 use Rattle.std.proofs.lemmas.Fmt.{decimal_injective}
-use Rattle.hipsd.specs.Command.{IsMake}
+use Rattle.survey_commands.specs.Make.{IsMake}
 use Rattle.hipsd.proofs.command.read_make.Goals as goal
 use Rattle.hipsd.proofs.command.read_make.Goals.{else-edits-ge1-via-then-edits-ge1+else-edits-le4096, else-edits-ge1-via-else-edits-ge1}
 

@@ -1,6 +1,6 @@
 use Rattle.std.proofs.Common.{arith, ◌≡◌, sym, ◌∙◌, decimal}
 use Rattle.std.proofs.lemmas.Fmt.{decimal_injective}
-use Rattle.hipsd.specs.Command.{IsServe}
+use Rattle.survey_commands.specs.Serve.{IsServe}
 use Rattle.hipsd.proofs.command.read_serve.Goals as goal
 use Rattle.hipsd.proofs.command.read_serve.Goals.{else-connections-ge1-via-then-connections-ge1+else-connections-le65536, else-connections-ge1-via-else-connections-ge1}
 

@@ -1,7 +1,7 @@
 use Rattle.std.proofs.Common.{◌≡◌, ◌++◌, length, map, take, drop, sym, ap, ◌∙◌, subst}
-use Rattle.hipsd.specs.Serve.{RunsServe}
+use Rattle.survey_commands.specs.Serve.{RunsServe}
 use Rattle.hipsd.proofs.CommandLemmas.{same_probe, same_make, same_serve}
-use Rattle.hipsd.proofs.ServeLemmas.{written_back}
+use Rattle.hipsd.proofs.DoorsLemmas.{written_back}
 use Rattle.hipsd.proofs.run.run.Goals as goal
 
 pub returns-in-Probe-clause-probe : goal.returns-in-Probe-clause-probe

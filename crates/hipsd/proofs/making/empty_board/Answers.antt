@@ -1,6 +1,0 @@
-use Rattle.hipsd.proofs.MakeLemmas.{no_charge}
-use Rattle.hipsd.proofs.making.empty_board.Goals as goal
-
-pub first_board-requires-clause-charge : goal.first_board-requires-clause-charge
-first_board-requires-clause-charge g c =
-    no_charge c.in_ok-generation.generation.leaves (cc (c.in_ok-generation.ensures.made, c.new-2.ensures))

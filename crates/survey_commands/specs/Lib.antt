@@ -1,0 +1,4 @@
+pub mod Survey
+pub mod Session
+pub mod Make
+pub mod Serve

@@ -1,0 +1,55 @@
+-- What `serve` does: it opens the shelf, and serves the connections of many doors at once, over boards of that survey.
+use Rattle.std.specs.Prelude.{◌≡◌, ◌⊎◌, ℕ, ◌≤◌, List, [], Option, Result, Ok, Err}
+use Rattle.survey_link.specs.Door.{Connections}
+use Rattle.survey_link.specs.Shelf.{ShelfFiles}
+use Rattle.shelf_io.specs.Opening.{OpenedSurvey}
+use Rattle.shelf_io.specs.declared.refusal.LoadRefusal.{LoadRefusal}
+use Rattle.survey_core.specs.State.{StateContent}
+use Rattle.hips_place.specs.declared.place.PlaceEnd.{PlaceEnd}
+use Rattle.hips_place.specs.declared.place.PlaceEnd.TheVariants.{Done, Failed, OutOfMemory}
+use Rattle.hips_place.specs.Place.{ServesDoors}
+use Rattle.survey_commands.specs.Survey.{SaysWhy, IsSilent}
+use Rattle.survey_commands.specs.Session.{OpensAs, OpensNot}
+
+-- ---- what is asked
+
+-- connections of many doors: 1 to 65,536 of each, 1 to 64 doors
+pub record IsServe (connections places : ℕ) : Type 0 where
+  pub least_connections : 1 ≤ connections
+  pub most_connections : connections ≤ 65536
+  pub least_places : 1 ≤ places
+  pub most_places : places ≤ 64
+
+-- ---- the survey
+
+-- the first state of a survey
+abbrev pub state_of : OpenedSurvey → StateContent
+state_of survey = record { conf = survey.conf; opening = survey.leaves; batches = []; tip = 0 }
+
+-- ---- the status
+
+abbrev pub place_status : PlaceEnd → ℕ
+place_status Done = 0
+place_status Failed = 8
+place_status OutOfMemory = 11
+
+-- ---- the run
+
+-- the doors of the survey were served, up to so many connections of each, and the status is that of how their places ended; or
+-- there was no memory to open the survey, or for its boards to meet
+abbrev pub Serves : OpenedSurvey → ℕ → List (Option Connections) → List (Option Connections) → ℕ → Type 0
+Serves survey most doors doors' status =
+    ((end : PlaceEnd) × ServesDoors survey.conf survey.leaves most doors doors' end × (status ≡ place_status end)) ⊎ (status ≡ 11)
+
+-- `serve`, over the files and these doors: the survey that the files open as is served, and nothing is written; or they open as
+-- none, which is said, and the doors stay
+abbrev pub ServeOf : Option ShelfFiles → ℕ → List (Option Connections) → List (Option Connections) → ℕ → Option (List ℕ) → Option (List ℕ) → Option (List ℕ) → Option (List ℕ)
+    → Result OpenedSurvey LoadRefusal → Type 0
+ServeOf found most doors doors' status held held' handed handed' (Ok survey) =
+    OpensAs found survey × Serves survey most doors doors' status × IsSilent held held' handed handed'
+ServeOf found most doors doors' status held held' handed handed' (Err refusal) =
+    OpensNot found refusal × (doors' ≡ doors) × SaysWhy refusal status held held' handed handed'
+
+abbrev pub RunsServe : Option ShelfFiles → ℕ → List (Option Connections) → List (Option Connections) → ℕ → Option (List ℕ) → Option (List ℕ) → Option (List ℕ) → Option (List ℕ) → Type 0
+RunsServe found most doors doors' status held held' handed handed' =
+    (opened : Result OpenedSurvey LoadRefusal) × ServeOf found most doors doors' status held held' handed handed' opened

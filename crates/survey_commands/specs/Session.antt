@@ -1,0 +1,96 @@
+-- What `session` does: it opens the shelf, and serves one connection, over the source and the sink, by a board of that survey
+-- that nobody else has.
+use Rattle.std.specs.Prelude.{◌≡◌, ◌⊎◌, ℕ, ◌-◌, ◌≤◌, List, [], ◌∷◌, length, Option, Some, None, Result, Ok, Err, IfSome}
+use Rattle.std.specs.List.{range_with_len}
+use Rattle.std.specs.Result.{result_err}
+use Rattle.std.specs.Io.KnownBytes.{Appends}
+use Rattle.survey_link.specs.Link.{Rises}
+use Rattle.survey_link.specs.Shelf.{ShelfFiles}
+use Rattle.shelf_io.specs.Opening.{OpenedSurvey, opening, IsRefusedBy}
+use Rattle.shelf_io.specs.declared.refusal.LoadRefusal.{LoadRefusal}
+use Rattle.survey_core.specs.History.{SurveyState, opening_state}
+use Rattle.reader_pin.specs.Board.{BoardContent}
+use Rattle.hips_http.specs.declared.served.SessionEnd.{SessionEnd}
+use Rattle.hips_http.specs.declared.served.SessionEnd.TheVariants.{Closed, Asked, Refused, Cut, Spent, ReadFault, WriteFault, OutOfMemory}
+use Rattle.hips_http.specs.SessionRun.{Exchange, SessionRun, input_of}
+use Rattle.survey_commands.specs.Survey.{SaysWhy}
+
+-- ---- the connection
+
+-- the board of a survey with no edit
+abbrev pub board_of : OpenedSurvey → BoardContent
+board_of survey = record { conf = survey.conf; opening = survey.leaves; history = opening_state ∷ []; own = []; held = None }
+
+-- a connection from the first state of the survey on, of which these are all states: each step from one to the next is an
+-- event of its own. So it is answered at the newest state each time
+abbrev pub RunsAlone : OpenedSurvey → Exchange → List SurveyState → SessionEnd → ℕ → Type 0
+RunsAlone survey exchange states end wants =
+    SessionRun survey.conf survey.leaves (opening_state ∷ []) exchange (range_with_len 1 (length states - 1)) states end wants
+
+-- ---- the status
+
+abbrev pub end_status : SessionEnd → ℕ
+end_status Closed = 0
+end_status Asked = 0
+end_status Cut = 4
+end_status ReadFault = 5
+end_status WriteFault = 6
+end_status OutOfMemory = 11
+end_status Spent = 12
+end_status (Refused code) = 14
+
+-- ---- the run
+
+-- the source and the sink: the bytes left and those held and handed on, where they are told, and the counts of faults
+pub record Ends : Type 0 where
+  pub left : Option (List ℕ)
+  pub held : Option (List ℕ)
+  pub handed_on : Option (List ℕ)
+  pub source_faults : ℕ
+  pub sink_faults : ℕ
+
+abbrev pub ends_of : Option (List ℕ) → Option (List ℕ) → Option (List ℕ) → ℕ → ℕ → Ends
+ends_of left held handed source_faults sink_faults =
+    record { left = left; held = held; handed_on = handed; source_faults = source_faults; sink_faults = sink_faults }
+
+-- a connection as the ends tell it, whose source had this input; handing on what was written comes after it, at which the sink
+-- may fail too
+pub record IsTold (input : List ℕ) (old new : Ends) (exchange : Exchange) : Type 0 where
+  pub input_is : input ≡ input_of exchange
+  pub left : new.left ≡ Some exchange.left
+  pub written : Appends old.held new.held exchange.written
+  pub source_faults : exchange.source_faults ≡ old.source_faults
+  pub source_faults_then : exchange.source_faults_then ≡ new.source_faults
+  pub sink_faults : exchange.sink_faults ≡ old.sink_faults
+  pub sink_faults_then : exchange.sink_faults_then ≤ new.sink_faults
+
+-- the status is that of the end, and all that was written is handed on; or the sink failed at that
+abbrev pub EndsWith : SessionEnd → ℕ → Ends → Ends → Type 0
+EndsWith end status old new =
+    ((status ≡ end_status end) × (new.handed_on ≡ new.held)) ⊎ ((status ≡ 6) × Rises old.sink_faults new.sink_faults)
+
+-- one connection of the survey was served, whose source had this input
+pub record Serves (survey : OpenedSurvey) (input : List ℕ) (old new : Ends) (status : ℕ) : Type 0 where
+  pub exchange : Exchange
+  pub told : IsTold input old new exchange
+  pub states : List SurveyState
+  pub end : SessionEnd
+  pub wants : ℕ
+  pub run : RunsAlone survey exchange states end wants
+  pub ended : EndsWith end status old new
+
+-- the files open as this survey, or as none by this refusal, where they are told
+abbrev pub OpensAs : Option ShelfFiles → OpenedSurvey → Type 0
+OpensAs found survey = IfSome found (λ files. opening files ≡ Ok survey)
+
+abbrev pub OpensNot : Option ShelfFiles → LoadRefusal → Type 0
+OpensNot found refusal = IfSome found (λ files. IsRefusedBy (result_err (opening files)) refusal)
+
+-- `session`, over the files and an input: the survey that the files open as is served; or they open as none, which is said
+abbrev pub SessionOf : Option ShelfFiles → List ℕ → Ends → Ends → ℕ → Result OpenedSurvey LoadRefusal → Type 0
+SessionOf found input old new status (Ok survey) = OpensAs found survey × Serves survey input old new status
+SessionOf found input old new status (Err refusal) = OpensNot found refusal × (new.left ≡ old.left)
+    × SaysWhy refusal status old.held new.held old.handed_on new.handed_on
+
+abbrev pub RunsSession : Option ShelfFiles → List ℕ → Ends → Ends → ℕ → Type 0
+RunsSession found input old new status = (opened : Result OpenedSurvey LoadRefusal) × SessionOf found input old new status opened

@@ -1,0 +1,83 @@
+//! The command `export`: the survey that the shelf describes is put on the shelf.
+ghost use Rattle.std.specs.Prelude.{◌≡◌, ◌≢◌, ◌≤◌, IsErrOf, Some};
+ghost use Rattle.survey_link.specs.Link.{Rises};
+ghost use Rattle.survey_commands.specs.Survey.{IsExport, SaysExport, RunsExport, export_text};
+
+use crate::output::say;
+use crate::refusing::say_why;
+use log::Log;
+use parent_rule::Steps;
+use shelf_io::{LoadRefusal, export, load};
+use std::fmt;
+use std::thread::Threads;
+use std::time::Clock;
+use survey_link::{Gate, Shelf, Sink};
+
+// How many files were put on the shelf.
+#[derive(Drop)]
+struct Exported(u64);
+
+impl fmt::Display for Exported {
+    ghost output = { λ exported. Some (export_text exported.0) };
+
+    fn fmt<W: fmt::Write>(&self, f: &mut fmt::Formatter<W>) -> fmt::Result {
+        write!(f, "exported {}", self.0)
+    }
+}
+
+/// Opens the shelf, puts the survey's files on it, writes `exported N` and LF, N how many they are, and answers the status.
+///
+/// | Status | Where |
+/// |---|---|
+/// | 0 | the files are on the shelf, and the line is written |
+/// | 2, 3 | the shelf isn't opened, for its description or for its leaves; a line says why |
+/// | 6, 7 | the sink's, the shelf's count of faults rose |
+/// | 11 | there was no memory |
+pub fn run_export<R, K, H, G>(
+    rt: &R,
+    sink: &mut K,
+    shelf: &mut H,
+    gate: &G,
+    steps: &mut Steps,
+) -> u8
+where
+    R: AllocGlobal + Threads + Sync + Clock + Log,
+    K: Sink,
+    H: Shelf,
+    G: Gate + Sync,
+    ensures run { RunsExport (H.files shelf.old) (H.files shelf.new) result
+        (K.held sink.old) (K.held sink.new) (K.handed_on sink.old) (K.handed_on sink.new) }
+    ensures not_usage { result ≢ 1 }
+    ensures not_door { result ≢ 8 }
+    ensures not_read { result ≢ 5 }
+    ensures write_fault { result ≡ 6 → Rises (K.faults sink.old) (K.faults sink.new) }
+    ensures shelf_fault { result ≡ 7 → Rises (H.faults shelf.old) (H.faults shelf.new) }
+    ensures steps_never_fall { steps.old ≤ steps.new }
+{
+    match export_survey(rt, shelf, gate, steps) {
+        Ok(count) => say(rt.alloc(), sink, 0, &Exported(count)),
+        Err(refusal) => say_why(rt.alloc(), sink, &refusal),
+    }
+}
+
+// Puts the files of the survey that the shelf describes on it, and answers how many they are.
+fn export_survey<R, H, G>(
+    rt: &R,
+    shelf: &mut H,
+    gate: &G,
+    steps: &mut Steps,
+) -> Result<u64, LoadRefusal>
+where
+    R: AllocGlobal + Threads + Sync + Clock + Log,
+    H: Shelf,
+    G: Gate + Sync,
+    ensures outcome { IsExport (H.files shelf.old) (H.files shelf.new) result }
+    ensures failed { IsErrOf result LoadRefusal.ShelfFault → Rises (H.faults shelf.old) (H.faults shelf.new) }
+    ensures steps_never_fall { steps.old ≤ steps.new }
+{
+    let generation = load(rt, rt.alloc(), shelf, gate, steps)?;
+    match export(rt, rt.alloc(), shelf, &generation) {
+        Ok(count) => Ok(count),
+        Err(fault) => Err(LoadRefusal::from(fault)),
+    }
+}

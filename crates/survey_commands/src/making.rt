@@ -1,0 +1,118 @@
+//! The command `make`: a survey is made by its script, and summed up.
+ghost use Rattle.std.specs.Prelude.{◌≡◌, ◌≢◌, ℕ, ◌≤◌, [], IfOk, OnOk};
+ghost use Rattle.survey_link.specs.Link.{Rises};
+ghost use Rattle.shelf_io.specs.Opening.{OpenedSurvey};
+ghost use Rattle.survey_commands.specs.Session.{board_of};
+ghost use Rattle.survey_commands.specs.Make.{IsMake, made_survey, RunsScript, IsMade, RunsMake};
+
+use crate::output::say;
+use crate::serving::first_board;
+use crate::summary::{Summary, summary_of};
+use generation::Generation;
+use hips_http::{SessionEnd, session};
+use leaf_store::Store;
+use log::Log;
+use parent_rule::Steps;
+use reader_pin::{Board, Solo};
+use std::alloc::AllocError;
+use std::sync::{Arc, Wait};
+use std::thread::Threads;
+use std::time::Clock;
+use survey_link::{Gate, NullSink, Sink, SureSource};
+use survey_make::{read_conf, script};
+
+/// Makes the survey of a number by so many edits, writes its summary and LF, and answers the status.
+///
+/// | Status | Where |
+/// |---|---|
+/// | 0 | the survey is made, and its summary is written |
+/// | 6 | the sink's count of faults rose |
+/// | 11 | there was no memory, at any time; nothing is written |
+pub fn run_make<R, K, G>(
+    rt: &R,
+    number: u64,
+    edits: u32,
+    sink: &mut K,
+    gate: &G,
+    steps: &mut Steps,
+) -> u8
+where
+    R: AllocGlobal + Threads + Wait + Sync + Clock + Log,
+    K: Sink,
+    G: Gate + Sync,
+    requires { IsMake number edits }
+    ensures run { RunsMake number edits result (K.held sink.old) (K.held sink.new) (K.handed_on sink.old) (K.handed_on sink.new) }
+    ensures not_usage { result ≢ 1 }
+    ensures not_door { result ≢ 8 }
+    ensures not_read { result ≢ 5 }
+    ensures write_fault { result ≡ 6 → Rises (K.faults sink.old) (K.faults sink.new) }
+    ensures not_shelf { result ≢ 7 }
+    ensures steps_never_fall { steps.old ≤ steps.new }
+{
+    match make_survey(rt, number, edits, gate, steps) {
+        Ok(summary) => say(rt.alloc(), sink, 0, &summary),
+        Err(_) => 11,
+    }
+}
+
+// Makes the survey, and sums it up.
+fn make_survey<R, G>(
+    rt: &R,
+    number: u64,
+    edits: u32,
+    gate: &G,
+    steps: &mut Steps,
+) -> Result<Summary, AllocError>
+where
+    R: AllocGlobal + Threads + Wait + Sync + Clock + Log,
+    G: Gate + Sync,
+    requires { IsMake number edits }
+    ensures made { IfOk result (IsMade number edits) }
+    ensures steps_never_fall { steps.old ≤ steps.new }
+{
+    let script = script(rt.alloc(), number, edits)?;
+    let mut board = empty_board(rt, gate, steps)?;
+    serve_script(rt, &mut board, script, gate, steps)?;
+    Ok(summary_of(board.last(), edits))
+}
+
+// The board of the made survey, without leaves.
+fn empty_board<R, G>(rt: &R, gate: &G, steps: &mut Steps) -> Result<Solo, AllocError>
+where
+    R: AllocGlobal + Threads + Sync + Clock + Log,
+    G: Gate + Sync,
+    ensures board { IfOk result (λ board. board ≡ board_of made_survey) }
+    ensures steps_never_fall { steps.old ≤ steps.new }
+{
+    let alloc = rt.alloc();
+    let conf = Arc::new(alloc, read_conf(alloc)?)?;
+    let generation = Generation::start(rt, alloc, conf, Store::new(alloc), gate, steps)?;
+    first_board(alloc, generation)
+}
+
+// Serves the script by a board that nobody else has. `AllocError` where there was no memory for the connection or for what a
+// request of it asked for.
+fn serve_script<R, G>(
+    rt: &R,
+    board: &mut Solo,
+    script: Vec<u8>,
+    gate: &G,
+    steps: &mut Steps,
+) -> Result<(), AllocError>
+where
+    R: AllocGlobal + Threads + Wait + Sync + Clock + Log,
+    G: Gate + Sync,
+    ensures conf { board.new.conf ≡ board.old.conf }
+    ensures opening { board.new.opening ≡ board.old.opening }
+    ensures runs { (survey : OpenedSurvey) → board.old ≡ board_of survey → OnOk result (RunsScript survey script.items board.new.history) }
+    ensures steps_never_fall { steps.old ≤ steps.new }
+{
+    let mut source = SureSource::new(script);
+    let mut sink = NullSink::new();
+    let served = session(rt, rt.alloc(), board, &mut source, &mut sink, gate, steps);
+    let _alone = board.last();
+    match served.end {
+        SessionEnd::Closed if served.wants == 0 => Ok(()),
+        _ => Err(AllocError),
+    }
+}

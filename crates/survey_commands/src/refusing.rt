@@ -1,0 +1,28 @@
+//! What is said where the shelf isn't opened.
+ghost use Rattle.std.specs.Prelude.{◌≡◌, ◌≢◌};
+ghost use Rattle.survey_link.specs.Link.{Rises};
+ghost use Rattle.shelf_io.specs.declared.refusal.LoadRefusal.TheVariants.{ShelfFault};
+ghost use Rattle.survey_commands.specs.Survey.{SaysWhy};
+
+use crate::output::say;
+use shelf_io::LoadRefusal;
+use std::alloc::Global;
+use survey_link::Sink;
+
+/// Says why the shelf isn't opened, and answers the status: 2 for its description, 3 for its leaves; 7 where the shelf failed
+/// and 11 where there was no memory, of which nothing is written.
+pub fn say_why<K: Sink>(alloc: Global, sink: &mut K, refusal: &LoadRefusal) -> u8
+    ensures said { SaysWhy refusal.now result (K.held sink.old) (K.held sink.new) (K.handed_on sink.old) (K.handed_on sink.new) }
+    ensures not_usage { result ≢ 1 }
+    ensures not_door { result ≢ 8 }
+    ensures not_read { result ≢ 5 }
+    ensures write_fault { result ≡ 6 → Rises (K.faults sink.old) (K.faults sink.new) }
+    ensures shelf_fault { result ≡ 7 → refusal.now ≡ ShelfFault }
+{
+    match refusal {
+        LoadRefusal::NoConf | LoadRefusal::Conf(_) => say(alloc, sink, 2, refusal),
+        LoadRefusal::Tile { .. } | LoadRefusal::TooMany { .. } => say(alloc, sink, 3, refusal),
+        LoadRefusal::ShelfFault => 7,
+        LoadRefusal::OutOfMemory => 11,
+    }
+}

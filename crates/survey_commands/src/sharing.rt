@@ -1,0 +1,142 @@
+//! The command `serve`: the connections of many doors at once, over one survey.
+ghost use Rattle.std.specs.Prelude.{◌≡◌, ◌≢◌, ◌⊎◌, ◌<◌, ◌≤◌, [], map, length, take, drop, IfOk, IfErr, IsErrOf};
+ghost use Rattle.survey_link.specs.Link.{Rises};
+ghost use Rattle.hips_place.specs.Place.{SomeRises};
+ghost use Rattle.shelf_io.specs.Opening.{OpenedSurvey};
+ghost use Rattle.survey_commands.specs.Session.{OpensAs, OpensNot};
+ghost use Rattle.survey_commands.specs.Serve.{IsServe, state_of, Serves, RunsServe, place_status};
+
+use crate::refusing::say_why;
+use crate::serving::first_state;
+use generation::Generation;
+use hips_place::{PlaceEnd, serve_doors};
+use log::{Log, error, info};
+use parent_rule::Steps;
+use shelf_io::{LoadRefusal, load};
+use std::alloc::AllocError;
+use std::sync::Wait;
+use std::thread::Threads;
+use std::time::{Clock, Instant};
+use survey_core::State;
+use survey_link::{Door, Gate, Shelf, Sink};
+
+/// Opens the shelf, serves the first of the doors, so many as there are places, at once over its survey, up to `connections`
+/// connections of each, and answers the status.
+///
+/// | Status | Where |
+/// |---|---|
+/// | 0 | each place took its connections |
+/// | 2, 3 | the shelf isn't opened, for its description or for its leaves; a line says why, and no connection is taken |
+/// | 6, 7 | the sink's, the shelf's count of faults rose |
+/// | 8 | a door's count of faults rose; the other places went on to their ends |
+/// | 11 | there was no memory |
+pub fn run_serve<R, K, H, D, G>(
+    rt: &R,
+    connections: u32,
+    places: usize,
+    sink: &mut K,
+    shelf: &mut H,
+    gate: &G,
+    steps: &mut Steps,
+    doors: &mut [D],
+) -> u8
+where
+    R: AllocGlobal + Threads + Wait + Sync + Clock + Log,
+    K: Sink,
+    H: Shelf,
+    D: Door + Send,
+    D::In: Send,
+    D::Out: Send,
+    G: Gate + Sync,
+    requires asked { IsServe connections places }
+    requires there { places ≤ length doors.old }
+    ensures run { RunsServe (H.files shelf.old) connections (map D.connections (take places doors.old)) (map D.connections (take places doors.new)) result
+        (K.held sink.old) (K.held sink.new) (K.handed_on sink.old) (K.handed_on sink.new) }
+    ensures beyond { drop places doors.new ≡ drop places doors.old }
+    ensures closed { (result ≡ 2) ⊎ ((result ≡ 3) ⊎ (result ≡ 7)) → doors.new ≡ doors.old }
+    ensures kept { H.files shelf.new ≡ H.files shelf.old }
+    ensures not_usage { result ≢ 1 }
+    ensures not_read { result ≢ 5 }
+    ensures write_fault { result ≡ 6 → Rises (K.faults sink.old) (K.faults sink.new) }
+    ensures shelf_fault { result ≡ 7 → Rises (H.faults shelf.old) (H.faults shelf.new) }
+    ensures door_fault { result ≡ 8 → SomeRises (map D.faults doors.old) (map D.faults doors.new) }
+    ensures steps_never_fall { steps.old ≤ steps.new }
+{
+    let (served, _) = doors.split_at_mut(places);
+    match open_state(rt, shelf, gate, steps) {
+        Ok(state) => serve_state(rt, state, connections, gate, served),
+        Err(refusal) => say_why(rt.alloc(), sink, &refusal),
+    }
+}
+
+// The first state of the survey that the shelf describes.
+fn open_state<R, H, G>(
+    rt: &R,
+    shelf: &mut H,
+    gate: &G,
+    steps: &mut Steps,
+) -> Result<State, LoadRefusal>
+where
+    R: AllocGlobal + Threads + Sync + Clock + Log,
+    H: Shelf,
+    G: Gate + Sync,
+    ensures opened { IfOk result (λ state. (survey : OpenedSurvey) × OpensAs (H.files shelf.old) survey × (state ≡ state_of survey)) }
+    ensures refused { IfErr result (OpensNot (H.files shelf.old)) }
+    ensures kept { H.files shelf.new ≡ H.files shelf.old }
+    ensures failed { IsErrOf result LoadRefusal.ShelfFault → Rises (H.faults shelf.old) (H.faults shelf.new) }
+    ensures steps_never_fall { steps.old ≤ steps.new }
+{
+    let begun = Instant::now(rt).ok();
+    let generation = load(rt, rt.alloc(), shelf, gate, steps)?;
+    say_loaded(rt, &generation, begun);
+    Ok(first_state(rt.alloc(), generation)?)
+}
+
+// Says what was loaded since then.
+fn say_loaded<R: Clock + Log>(rt: &R, generation: &Generation, begun: Option<Instant>) {
+    let leaves = generation.leaves().len();
+    let files = generation.file_count();
+    let took = begun.and_then(|begun| begun.elapsed(rt).ok());
+    let millis = took.map_or(0, |took| took.as_millis());
+    info!(rt; "loaded {leaves} leaves in {millis} ms: {files} files are served");
+}
+
+// Serves the doors over the survey of which this is the first state, and answers the status.
+fn serve_state<R, D, G>(rt: &R, state: State, connections: u32, gate: &G, doors: &mut [D]) -> u8
+where
+    R: AllocGlobal + Threads + Wait + Sync + Clock + Log,
+    D: Door + Send,
+    D::In: Send,
+    D::Out: Send,
+    G: Gate + Sync,
+    requires first { (state.batches ≡ []) × (state.tip ≡ 0) }
+    requires some { 0 < length doors.old }
+    requires most { length doors.old ≤ 64 }
+    ensures served { (survey : OpenedSurvey) → state ≡ state_of survey
+        → Serves survey connections (map D.connections doors.old) (map D.connections doors.new) result }
+    ensures status { (result ≡ 0) ⊎ ((result ≡ 8) ⊎ (result ≡ 11)) }
+    ensures door_fault { result ≡ 8 → SomeRises (map D.faults doors.old) (map D.faults doors.new) }
+{
+    info!(rt; "{} places, up to {connections} connections at each", doors.len());
+    match serve_doors(rt, rt.alloc(), state, connections, gate, doors) {
+        Ok(end) => {
+            info!(rt; "all places have ended: {end:?}");
+            place_status(end)
+        }
+        Err(AllocError) => {
+            error!(rt; "there was no memory to serve the survey");
+            11
+        }
+    }
+}
+
+// The status of places that ended so.
+fn place_status(end: PlaceEnd) -> u8
+    ensures { result ≡ place_status end }
+{
+    match end {
+        PlaceEnd::Done => 0,
+        PlaceEnd::Failed => 8,
+        PlaceEnd::OutOfMemory => 11,
+    }
+}

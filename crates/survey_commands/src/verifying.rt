@@ -1,0 +1,83 @@
+//! The command `verify`: the shelf is compared with the survey that it describes.
+ghost use Rattle.std.specs.Prelude.{◌≡◌, ◌≢◌, ◌≤◌, IsErrOf};
+ghost use Rattle.survey_link.specs.Link.{Rises};
+ghost use Rattle.survey_commands.specs.Survey.{IsComparison, RunsVerify, verdict_status};
+
+use crate::output::say;
+use crate::refusing::say_why;
+use log::Log;
+use parent_rule::Steps;
+use shelf_io::{LoadRefusal, Verdict, load, verify};
+use std::thread::Threads;
+use std::time::Clock;
+use survey_link::{Gate, Shelf, Sink};
+
+/// Opens the shelf, says whether it has the survey's files and no others, and answers the status.
+///
+/// | Status | Where |
+/// |---|---|
+/// | 0 | it has, and `verified N` and LF are written, N how many they are |
+/// | 2, 3 | the shelf isn't opened, for its description or for its leaves; a line says why |
+/// | 6, 7 | the sink's, the shelf's count of faults rose |
+/// | 9 | it hasn't, and `differs PATH` and LF are written, of the first path by its spelling |
+/// | 11 | there was no memory |
+pub fn run_verify<R, K, H, G>(
+    rt: &R,
+    sink: &mut K,
+    shelf: &mut H,
+    gate: &G,
+    steps: &mut Steps,
+) -> u8
+where
+    R: AllocGlobal + Threads + Sync + Clock + Log,
+    K: Sink,
+    H: Shelf,
+    G: Gate + Sync,
+    ensures run { RunsVerify (H.files shelf.old) result
+        (K.held sink.old) (K.held sink.new) (K.handed_on sink.old) (K.handed_on sink.new) }
+    ensures kept { H.files shelf.new ≡ H.files shelf.old }
+    ensures not_usage { result ≢ 1 }
+    ensures not_door { result ≢ 8 }
+    ensures not_read { result ≢ 5 }
+    ensures write_fault { result ≡ 6 → Rises (K.faults sink.old) (K.faults sink.new) }
+    ensures shelf_fault { result ≡ 7 → Rises (H.faults shelf.old) (H.faults shelf.new) }
+    ensures steps_never_fall { steps.old ≤ steps.new }
+{
+    match verify_survey(rt, shelf, gate, steps) {
+        Ok(verdict) => say(rt.alloc(), sink, verdict_status(&verdict), &verdict),
+        Err(refusal) => say_why(rt.alloc(), sink, &refusal),
+    }
+}
+
+// The status of a verdict.
+fn verdict_status(verdict: &Verdict) -> u8
+    ensures { result ≡ verdict_status verdict.now }
+{
+    match verdict {
+        Verdict::Same(_) => 0,
+        Verdict::Differs(_) => 9,
+    }
+}
+
+// Compares the shelf with the survey that it describes.
+fn verify_survey<R, H, G>(
+    rt: &R,
+    shelf: &mut H,
+    gate: &G,
+    steps: &mut Steps,
+) -> Result<Verdict, LoadRefusal>
+where
+    R: AllocGlobal + Threads + Sync + Clock + Log,
+    H: Shelf,
+    G: Gate + Sync,
+    ensures outcome { IsComparison (H.files shelf.old) result }
+    ensures kept { H.files shelf.new ≡ H.files shelf.old }
+    ensures failed { IsErrOf result LoadRefusal.ShelfFault → Rises (H.faults shelf.old) (H.faults shelf.new) }
+    ensures steps_never_fall { steps.old ≤ steps.new }
+{
+    let generation = load(rt, rt.alloc(), shelf, gate, steps)?;
+    match verify(rt, rt.alloc(), shelf, &generation) {
+        Ok(verdict) => Ok(verdict),
+        Err(fault) => Err(LoadRefusal::from(fault)),
+    }
+}
