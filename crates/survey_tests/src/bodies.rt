@@ -1,17 +1,29 @@
 //! Worked batches.
-use crate::rows::push_body;
-use crate::surveys::SURVEY;
+use crate::surveys::{SURVEY, tile_file};
 use edit_journal::Edit;
 use parent_rule::Steps;
 use std::alloc::{AllocError, Global};
+use std::process::Abort;
 use std::test::Fail;
 use survey_conf::Conf;
 use survey_core::{batch_room, read_batch};
 
+// The header of a tile of the survey, one card a line.
+const CARDS: &str = "SIMPLE  =                    T
+BITPIX  =                   16
+NAXIS   =                    2
+NAXIS1  =                    2
+NAXIS2  =                    2
+BSCALE  =                1.0E0
+BZERO   =                0.0E0
+BLANK   =               -32768
+ORDER   =                    4
+NPIX    =                    0
+END";
+
 // A body: the text, where `;` stands for a line feed and `@` for the file of a tile, 2,888 bytes.
 pub(crate) fn body(alloc: Global, text: &str) -> Result<Vec<u8>, Fail> {
-    let mut file = Vec::new(alloc);
-    push_body(alloc, &mut file, "tile 4 0&short 1 2 3 5")?;
+    let file = tile_file(alloc, CARDS, [1, 2, 3, 5])?;
     let mut body = Vec::new(alloc);
     for byte in text.as_bytes() {
         match *byte {
@@ -86,16 +98,26 @@ put 0 2888;@add 1 2888;@put 2 1;x|2 2 1 header 1
 put 0 2888;@remove 5;put 2 2889;@|1 2 short
 put 0 2888;@@|1 1 line";
 
+// Whether that is read of the body of a row.
+fn is_read(alloc: Global, conf: &Conf, row: &str) -> Result<bool, Fail> {
+    let (text, expected) = row.split_once('|').ok_or("no answer")?;
+    let body = body(alloc, text)?;
+    let found = answer(alloc, &body, conf)?;
+    Ok(found.as_str() == expected)
+}
+
+fn all_are_read<R: Abort>(rt: &R, alloc: Global, conf: &Conf) -> Result<(), Fail> {
+    for row in BODIES.lines() {
+        assert!(rt; is_read(alloc, conf, row)?, "{row}");
+    }
+    Ok(())
+}
+
 #[test]
 fn bodies_are_read_entry_by_entry(rt: HostRuntime) -> Result<(), Fail> {
     let alloc = rt.alloc();
     let conf = Conf::read(alloc, SURVEY.as_bytes())?;
-    for line in BODIES.lines() {
-        let (text, expected) = line.split_once('|').ok_or("no answer")?;
-        let found = answer(alloc, &body(alloc, text)?, &conf)?;
-        assert!(rt; found.as_str() == expected, "{text}: {found}");
-    }
-    Ok(())
+    all_are_read(&rt, alloc, &conf)
 }
 
 // What is read of the first `len` bytes of a body of two entries.
@@ -109,17 +131,26 @@ fn expected_of_cut(len: usize) -> &'static str {
     }
 }
 
+// Whether that is read of these bytes.
+fn is_cut(alloc: Global, conf: &Conf, body: &[u8]) -> Result<bool, AllocError> {
+    let found = answer(alloc, body, conf)?;
+    Ok(found.as_str() == expected_of_cut(body.len()))
+}
+
+fn all_are_cut<R: Abort>(rt: &R, alloc: Global, conf: &Conf, body: &[u8]) -> Result<(), Fail> {
+    for len in 0..body.len() {
+        assert!(rt; is_cut(alloc, conf, &body[..len])?, "{len}");
+    }
+    Ok(())
+}
+
 #[test]
 fn a_body_is_cut_at_each_byte(rt: HostRuntime) -> Result<(), Fail> {
     let alloc = rt.alloc();
-    let conf = Conf::read(alloc, SURVEY.as_bytes())?;
     let body = body(alloc, "put 0 2888;@remove 0;")?;
     assert_eq!(rt; body.len(), 2_908);
-    for (len, _) in body.iter().enumerate() {
-        let found = answer(alloc, &body[..len], &conf)?;
-        assert!(rt; found.as_str() == expected_of_cut(len), "{len}: {found}");
-    }
-    Ok(())
+    let conf = Conf::read(alloc, SURVEY.as_bytes())?;
+    all_are_cut(&rt, alloc, &conf, &body)
 }
 
 // How many edits are read of so many removals; or the refusal.
@@ -135,14 +166,31 @@ fn removals(alloc: Global, count: usize, end: &str, conf: &Conf) -> Result<Strin
     }
 }
 
+// How many removals a body has, what stands behind them, and what is read.
+static COUNTS: &str = "1024||1024
+1025||1024 many
+1024|x|1024 many
+1023|x|1023 line";
+
+// Whether that is read of the removals of a row.
+fn is_counted(alloc: Global, conf: &Conf, row: &str) -> Result<bool, Fail> {
+    let (count, rest) = row.split_once('|').ok_or("no end")?;
+    let (end, expected) = rest.split_once('|').ok_or("no answer")?;
+    let found = removals(alloc, count.parse::<usize>()?, end, conf)?;
+    Ok(found.as_str() == expected)
+}
+
+fn all_are_counted<R: Abort>(rt: &R, alloc: Global, conf: &Conf) -> Result<(), Fail> {
+    for row in COUNTS.lines() {
+        assert!(rt; is_counted(alloc, conf, row)?, "{row}");
+    }
+    assert_eq!(rt; batch_room(conf), 437_760);
+    Ok(())
+}
+
 #[test]
 fn a_body_has_at_most_1024_entries(rt: HostRuntime) -> Result<(), Fail> {
     let alloc = rt.alloc();
     let conf = Conf::read(alloc, SURVEY.as_bytes())?;
-    assert!(rt; removals(alloc, 1_024, "", &conf)?.as_str() == "1024");
-    assert!(rt; removals(alloc, 1_025, "", &conf)?.as_str() == "1024 many");
-    assert!(rt; removals(alloc, 1_024, "x", &conf)?.as_str() == "1024 many");
-    assert!(rt; removals(alloc, 1_023, "x", &conf)?.as_str() == "1023 line");
-    assert_eq!(rt; batch_room(&conf), 437_760);
-    Ok(())
+    all_are_counted(&rt, alloc, &conf)
 }

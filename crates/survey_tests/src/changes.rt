@@ -1,42 +1,79 @@
 //! Generations that are made by changes, beside those that are made at once.
 ghost use Rattle.std.specs.Prelude.{◌<◌};
 
-use crate::rows::{push_requests, requests};
-use crate::surveys::{SURVEY, opened, serve};
+use crate::surveys::{SURVEY, first_state, fits};
+use edit_journal::Edit;
 use generation::{Body, Generation, Parts};
-use hips_http::SessionEnd;
-use log::Log;
-use parent_rule::Steps;
-use reader_pin::{Board, Solo};
+use parent_rule::{Depth, Steps};
+use reader_pin::{Board, BoardRefusal, Solo};
 use std::alloc::{AllocError, Global};
-use std::sync::Wait;
 use std::sync::atomic::{AtomicU64, Ordering};
+use std::sync::{Arc, Wait};
 use std::test::Fail;
 use std::thread::Threads;
-use std::time::Clock;
-use survey_link::{Gate, MemSink, MemSource, OpenGate};
+use survey_link::{Gate, OpenGate};
 use tile_path::Path;
+use tile_pixels::Tile;
 
-// Sends these requests to the board, as one connection, and says whether it was closed at their end.
-fn sends<R: Threads + Wait + Sync + Clock + Log, G: Gate + Sync>(
+// The board of the survey with that description, without leaves.
+fn opened<R: Threads + Sync>(rt: &R, alloc: Global, conf: &str) -> Result<Solo, Fail> {
+    Ok(Solo::new(alloc, first_state(rt, alloc, conf)?)?)
+}
+
+// Asks the board for the edit, and says whether it answered. It may refuse to remove a leaf that isn't there.
+fn edits<R: Wait>(rt: &R, board: &mut Solo, edit: Edit) -> bool {
+    if !fits(board.last(), &edit) {
+        return false;
+    }
+    match board.edit(rt, edit) {
+        Ok(_) => true,
+        Err(BoardRefusal::Fault { .. }) => true,
+        Err(BoardRefusal::OutOfMemory) => false,
+    }
+}
+
+// A tile of two columns and two lines of 16 bits, by its bytes.
+fn tile(alloc: Global, depth: Depth, bytes: &[u8; 8]) -> Result<Arc<Tile>, Fail> {
+    if depth.bytes() != 2 {
+        return Err("other tiles".into());
+    }
+    let tile = Tile::from_bytes(alloc, bytes, depth, 1, &mut Steps::new())?;
+    Ok(Arc::new(alloc, tile)?)
+}
+
+// Puts a leaf, by the bytes of its tile.
+fn puts<R: Wait>(
     rt: &R,
     alloc: Global,
     board: &mut Solo,
-    input: Vec<u8>,
-    gate: &G,
+    leaf: u32,
+    bytes: &[u8; 8],
 ) -> Result<bool, Fail> {
-    let mut source = MemSource::new(input, 65_536, Vec::new(alloc));
-    let mut sink = MemSink::new(alloc, 65_536, Vec::new(alloc))?;
-    let end = serve(
-        rt,
-        alloc,
-        board,
-        &mut source,
-        &mut sink,
-        gate,
-        &mut Steps::new(),
-    );
-    Ok(end == SessionEnd::Closed)
+    let tile = tile(alloc, board.last().conf().shape().depth, bytes)?;
+    let leaf = u64::from(leaf);
+    Ok(edits(rt, board, Edit::Put { leaf, tile }))
+}
+
+// Puts the leaf whose tile begins with that number, and goes on with -32768, 5 and 7.
+fn puts_number<R: Wait>(
+    rt: &R,
+    alloc: Global,
+    board: &mut Solo,
+    leaf: u32,
+    first: u32,
+) -> Result<bool, Fail> {
+    let [_, _, high, low] = first.to_be_bytes();
+    puts(rt, alloc, board, leaf, &[high, low, 0x80, 0, 0, 5, 0, 7])
+}
+
+fn removes<R: Wait>(rt: &R, board: &mut Solo, leaf: u32) -> bool {
+    let leaf = u64::from(leaf);
+    edits(rt, board, Edit::Remove { leaf })
+}
+
+// Publishes all edits, each tile of which passes the gate.
+fn publishes<R: Threads + Wait + Sync, G: Gate + Sync>(rt: &R, board: &mut Solo, gate: &G) -> bool {
+    board.publish(rt, gate, &mut Steps::new()).is_ok()
 }
 
 // A gate that counts who passes.
@@ -51,35 +88,64 @@ impl Gate for Counting {
     }
 }
 
-static THREE_CELLS: &str = "PUT /Norder4/Dir0/Npix0.fits;Content-Length: 2888|tile 4 0&short 1 1 1 1
-PUT /Norder4/Dir0/Npix4.fits;Content-Length: 2888|tile 4 4&short 2 2 2 2
-PUT /Norder4/Dir0/Npix8.fits;Content-Length: 2888|tile 4 8&short 3 3 3 3
-POST /publish";
-
-static ONE_LEAF: &str = "PUT /Norder4/Dir0/Npix0.fits;Content-Length: 2888|tile 4 0&short 4 4 4 4
-POST /publish";
-
-// How many pass the gate for the last edit.
-fn passes_of_the_last<R: Threads + Wait + Sync + Clock + Log>(
+// Puts the leaf whose tile has that number four times.
+fn puts_same<R: Wait>(
     rt: &R,
     alloc: Global,
-) -> Result<u64, Fail> {
-    let mut board = opened(rt, alloc, SURVEY)?;
-    let open = OpenGate::new();
+    board: &mut Solo,
+    leaf: u32,
+    number: u32,
+) -> Result<bool, Fail> {
+    let [_, _, high, low] = number.to_be_bytes();
+    let bytes = [high, low, high, low, high, low, high, low];
+    puts(rt, alloc, board, leaf, &bytes)
+}
+
+// Puts a leaf under each of three cells, and publishes them.
+fn puts_three<R: Threads + Wait + Sync>(
+    rt: &R,
+    alloc: Global,
+    board: &mut Solo,
+) -> Result<bool, Fail> {
+    for cell in 0..3 {
+        if !puts_same(rt, alloc, board, cell * 4, cell + 1)? {
+            return Ok(false);
+        }
+    }
+    Ok(publishes(rt, board, &OpenGate::new()))
+}
+
+// Puts one of these leaves again, and publishes it through the gate.
+fn puts_one<R: Threads + Wait + Sync>(
+    rt: &R,
+    alloc: Global,
+    board: &mut Solo,
+    gate: &Counting,
+) -> Result<bool, Fail> {
+    Ok(puts_same(rt, alloc, board, 0, 4)? && publishes(rt, board, gate))
+}
+
+// Whether one passes the gate for the last edit.
+fn passes_one<R: Threads + Wait + Sync>(
+    rt: &R,
+    alloc: Global,
+    board: &mut Solo,
+) -> Result<bool, Fail> {
     let gate = Counting {
         passed: AtomicU64::new(0),
     };
-    if !sends(rt, alloc, &mut board, requests(alloc, THREE_CELLS)?, &open)?
-        || !sends(rt, alloc, &mut board, requests(alloc, ONE_LEAF)?, &gate)?
-    {
-        return Err("a connection broke off".into());
-    }
-    Ok(gate.passed.load(Ordering::SeqCst))
+    let is_put = puts_three(rt, alloc, board)? && puts_one(rt, alloc, board, &gate)?;
+    Ok(is_put && gate.passed.load(Ordering::SeqCst) == 1)
+}
+
+fn merges_one<R: Threads + Wait + Sync>(rt: &R, alloc: Global) -> Result<bool, Fail> {
+    let mut board = opened(rt, alloc, SURVEY)?;
+    passes_one(rt, alloc, &mut board)
 }
 
 #[test]
 fn one_merge_for_one_leaf(rt: HostRuntime) -> Result<(), Fail> {
-    assert!(rt; passes_of_the_last(&rt, rt.alloc())? == 1);
+    assert!(rt; merges_one(&rt, rt.alloc())?);
     Ok(())
 }
 
@@ -102,42 +168,26 @@ fn leaf(i: u32, top: u8) -> u32 {
     }
 }
 
-// Appends the request that puts a leaf, whose tile begins with that number.
-fn push_put(
+// Makes the edit with that number, of those that look random: a third removes a leaf, which may not be there.
+fn edits_at<R: Wait>(
+    rt: &R,
     alloc: Global,
-    input: &mut Vec<u8>,
+    board: &mut Solo,
     top: u8,
-    leaf: u32,
-    first: u32,
-) -> Result<(), Fail> {
-    let dir = leaf / 10_000 * 10_000;
-    let row = format!(in alloc;
-        "PUT /Norder{top}/Dir{dir}/Npix{leaf}.fits;Content-Length: 2888|tile {top} {leaf}&short {first} -32768 5 7"
-    )?;
-    push_requests(alloc, input, &row)
-}
-
-// Appends the request that removes a leaf.
-fn push_removal(alloc: Global, input: &mut Vec<u8>, top: u8, leaf: u32) -> Result<(), Fail> {
-    let dir = leaf / 10_000 * 10_000;
-    let row = format!(in alloc; "DELETE /Norder{top}/Dir{dir}/Npix{leaf}.fits")?;
-    push_requests(alloc, input, &row)
-}
-
-// Appends the request of the edit with that number, of those that look random: a third removes a leaf, which may not be there.
-fn push_edit(alloc: Global, input: &mut Vec<u8>, top: u8, i: u32) -> Result<(), Fail> {
+    i: u32,
+) -> Result<bool, Fail> {
+    let leaf = leaf(i, top);
     if number(i, 3) == 0 {
-        push_removal(alloc, input, top, leaf(i, top))
-    } else {
-        push_put(alloc, input, top, leaf(i, top), number(i, 1_000))
+        return Ok(removes(rt, board, leaf));
     }
+    puts_number(rt, alloc, board, leaf, number(i, 1_000))
 }
 
-// Appends the request that a word names: to put a leaf, or behind a `-` to remove it.
-fn push_word(alloc: Global, input: &mut Vec<u8>, top: u8, word: &str) -> Result<(), Fail> {
+// Makes the edit that a word names: to put a leaf, or behind a `-` to remove it.
+fn edits_by<R: Wait>(rt: &R, alloc: Global, board: &mut Solo, word: &str) -> Result<bool, Fail> {
     match word.strip_prefix('-') {
-        Some(leaf) => push_removal(alloc, input, top, leaf.parse::<u32>()?),
-        None => push_put(alloc, input, top, word.parse::<u32>()?, 3),
+        Some(leaf) => Ok(removes(rt, board, leaf.parse::<u32>()?)),
+        None => puts_number(rt, alloc, board, word.parse::<u32>()?, 3),
     }
 }
 
@@ -152,17 +202,26 @@ static STEPS: [(u32, u32, &str); 6] = [
     (0, 0, "23"),
 ];
 
-// The requests of a step.
-fn step(alloc: Global, top: u8, first: u32, end: u32, words: &str) -> Result<Vec<u8>, Fail> {
-    let mut input = Vec::new(alloc);
+// Makes the edits of a step, and publishes them.
+fn goes_on<R: Threads + Wait + Sync>(
+    rt: &R,
+    alloc: Global,
+    board: &mut Solo,
+    top: u8,
+    step: &(u32, u32, &str),
+) -> Result<bool, Fail> {
+    let (first, end, words) = *step;
     for i in first..end {
-        push_edit(alloc, &mut input, top, i)?;
+        if !edits_at(rt, alloc, board, top, i)? {
+            return Ok(false);
+        }
     }
     for word in words.split_terminator(' ') {
-        push_word(alloc, &mut input, top, word)?;
+        if !edits_by(rt, alloc, board, word)? {
+            return Ok(false);
+        }
     }
-    push_requests(alloc, &mut input, "POST /publish")?;
-    Ok(input)
+    Ok(publishes(rt, board, &OpenGate::new()))
 }
 
 // The bytes at a path, by `file`; none where there is no file.
@@ -232,7 +291,7 @@ fn are_same(alloc: Global, one: &Generation, other: &Generation) -> Result<bool,
 }
 
 // The generation of the same leaves, made at once.
-fn at_once<R: Threads + Sync + Clock + Log>(
+fn at_once<R: Threads + Sync>(
     rt: &R,
     alloc: Global,
     generation: &Generation,
@@ -244,11 +303,7 @@ fn at_once<R: Threads + Sync + Clock + Log>(
 }
 
 // Whether the board's generation is that of all its edits, and has the files that its leaves make.
-fn is_made<R: Threads + Sync + Clock + Log>(
-    rt: &R,
-    alloc: Global,
-    board: &Solo,
-) -> Result<bool, Fail> {
+fn is_made<R: Threads + Sync>(rt: &R, alloc: Global, board: &Solo) -> Result<bool, Fail> {
     let state = board.last();
     let whole = at_once(rt, alloc, state.generation())?;
     Ok(state.tip() == state.edits() && are_same(alloc, &whole, state.generation())?)
@@ -264,8 +319,23 @@ survey_bitpix = 16
 survey_blank = -32768
 ";
 
-// Whether each step makes what the leaves make, over a survey whose description ends by these lines.
-fn goes<R: Threads + Wait + Sync + Clock + Log>(
+// Whether each step makes what the leaves make, of order `top`.
+fn all_go<R: Threads + Wait + Sync>(
+    rt: &R,
+    alloc: Global,
+    board: &mut Solo,
+    top: u8,
+) -> Result<bool, Fail> {
+    for step in &STEPS {
+        if !goes_on(rt, alloc, board, top, step)? || !is_made(rt, alloc, board)? {
+            return Ok(false);
+        }
+    }
+    Ok(true)
+}
+
+// The same over a survey whose description ends by these lines.
+fn goes<R: Threads + Wait + Sync>(
     rt: &R,
     alloc: Global,
     top: u8,
@@ -273,14 +343,7 @@ fn goes<R: Threads + Wait + Sync + Clock + Log>(
 ) -> Result<bool, Fail> {
     let conf = format!(in alloc; "{NAMES}hips_order = {top}\n{lines}")?;
     let mut board = opened(rt, alloc, &conf)?;
-    for (first, end, words) in &STEPS {
-        let input = step(alloc, top, *first, *end, words)?;
-        let is_closed = sends(rt, alloc, &mut board, input, &OpenGate::new())?;
-        if !is_closed || !is_made(rt, alloc, &board)? {
-            return Ok(false);
-        }
-    }
-    Ok(true)
+    all_go(rt, alloc, &mut board, top)
 }
 
 // Lowest orders and ways to combine.

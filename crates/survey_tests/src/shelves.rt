@@ -1,10 +1,11 @@
 //! Shelves in memory: what is refused, and what is written, compared and read again.
-use crate::surveys::SURVEY;
+use crate::surveys::{SURVEY, tile_file};
 use generation::Generation;
 use log::Log;
 use parent_rule::Steps;
 use shelf_io::{LoadRefusal, export, load, verify};
 use std::alloc::{AllocError, Global};
+use std::process::Abort;
 use std::test::Fail;
 use std::thread::Threads;
 use std::time::Clock;
@@ -50,24 +51,6 @@ NAXIS2  =                    2
 BLANK   =               -32768
 END";
 
-// The file of a tile of the first survey: a header of one block, and the stored numbers without what fills their block.
-fn tile_file(alloc: Global, numbers: [i16; 4]) -> Result<Vec<u8>, AllocError> {
-    let mut file = Vec::new(alloc);
-    for line in HEADER.lines() {
-        file.extend_from_slice(line.as_bytes())?;
-        for _ in line.len()..80 {
-            file.push(b' ')?;
-        }
-    }
-    for _ in file.len()..2_880 {
-        file.push(b' ')?;
-    }
-    for number in numbers {
-        file.extend_from_slice(&number.to_be_bytes())?;
-    }
-    Ok(file)
-}
-
 // A shelf with a description and a note.
 fn shelf_of(alloc: Global, conf: &str, fails: Vec<u64>) -> Result<MemShelf, LinkFault> {
     let mut shelf = MemShelf::new(alloc, fails);
@@ -78,8 +61,8 @@ fn shelf_of(alloc: Global, conf: &str, fails: Vec<u64>) -> Result<MemShelf, Link
 
 // A shelf of the first survey with leaf 0, and a file of a survey that has no such leaf. Four calls have made it.
 fn shelf_with_leaf(alloc: Global, fails: Vec<u64>) -> Result<MemShelf, Fail> {
+    let file = tile_file(alloc, HEADER, [1, 2, 3, 5])?;
     let mut shelf = shelf_of(alloc, SURVEY, fails)?;
-    let file = tile_file(alloc, [1, 2, 3, 5])?;
     shelf.put("Norder4/Dir0/Npix0.fits", &file)?;
     shelf.put("Norder5/Dir0/Npix7.fits", b"stray")?;
     Ok(shelf)
@@ -105,29 +88,35 @@ fn refusal<R: Threads + Sync + Clock + Log>(
     String::from_str(alloc, "loaded")
 }
 
-// How the shelf compares with the generation.
-fn compared<R: Clock + Log>(
+// Whether the shelf compares so with the generation.
+fn compares<R: Clock + Log>(
     rt: &R,
     alloc: Global,
     shelf: &mut MemShelf,
     generation: &Generation,
-) -> Result<String, Fail> {
-    match verify(rt, alloc, shelf, generation) {
-        Ok(verdict) => Ok(verdict.to_string(alloc)?),
-        Err(fault) => Err(Fail::from(fault)),
-    }
+    wanted: &str,
+) -> Result<bool, Fail> {
+    let verdict = verify(rt, alloc, shelf, generation)?;
+    let told = verdict.to_string(alloc)?;
+    Ok(told.as_str() == wanted)
 }
 
 // The paths of the shelf, in order, each with a space behind it.
 fn listed(alloc: Global, shelf: &mut MemShelf) -> Result<String, Fail> {
-    let mut text = String::new(alloc);
     let mut paths = shelf.list(alloc)?;
     paths.sort()?;
+    let mut text = String::new(alloc);
     for path in &paths {
         text.push_str(path)?;
         text.push(' ')?;
     }
     Ok(text)
+}
+
+// Whether these are the paths of the shelf.
+fn lists(alloc: Global, shelf: &mut MemShelf, wanted: &str) -> Result<bool, Fail> {
+    let found = listed(alloc, shelf)?;
+    Ok(found.as_str() == wanted)
 }
 
 // A description, the paths of files of ten bytes with a space between, and how loading is refused.
@@ -147,18 +136,60 @@ static REFUSED: [(&str, &str, &str); 5] = [
     ),
 ];
 
+// Puts files at these paths.
+fn put_files(shelf: &mut MemShelf, paths: &str) -> Result<(), LinkFault> {
+    for path in paths.split(' ') {
+        shelf.put(path, b"0123456789")?;
+    }
+    Ok(())
+}
+
+// Whether the shelf is refused so.
+fn refuses<R: Threads + Sync + Clock + Log>(
+    rt: &R,
+    alloc: Global,
+    shelf: &mut MemShelf,
+    wanted: &str,
+) -> Result<bool, Fail> {
+    let told = refusal(rt, alloc, shelf)?;
+    Ok(told.as_str() == wanted)
+}
+
+fn refuses_empty<R: Threads + Sync + Clock + Log>(rt: &R, alloc: Global) -> Result<bool, Fail> {
+    let mut shelf = MemShelf::new(alloc, Vec::new(alloc));
+    refuses(rt, alloc, &mut shelf, "conf absent")
+}
+
+// Whether a shelf with these files is refused so.
+fn refuses_files<R: Threads + Sync + Clock + Log>(
+    rt: &R,
+    alloc: Global,
+    conf: &str,
+    paths: &str,
+    wanted: &str,
+) -> Result<bool, Fail> {
+    let mut shelf = shelf_of(alloc, conf, Vec::new(alloc))?;
+    put_files(&mut shelf, paths)?;
+    refuses(rt, alloc, &mut shelf, wanted)
+}
+
 #[test]
 fn what_is_no_survey_is_refused(rt: HostRuntime) -> Result<(), Fail> {
-    let alloc = rt.alloc();
-    let mut empty = MemShelf::new(alloc, Vec::new(alloc));
-    assert!(rt; refusal(&rt, alloc, &mut empty)?.as_str() == "conf absent");
+    assert!(rt; refuses_empty(&rt, rt.alloc())?);
     for (conf, paths, wanted) in &REFUSED {
-        let mut shelf = shelf_of(alloc, conf, Vec::new(alloc))?;
-        for path in paths.split(' ') {
-            shelf.put(path, b"0123456789")?;
-        }
-        let told = refusal(&rt, alloc, &mut shelf)?;
-        assert!(rt; told.as_str() == *wanted, "{told}");
+        assert!(rt;
+            refuses_files(&rt, rt.alloc(), conf, paths, wanted)?,
+            "{paths}: not {wanted}"
+        );
+    }
+    Ok(())
+}
+
+// Puts so many empty files of leaves.
+fn put_leaves(alloc: Global, shelf: &mut MemShelf, count: u64) -> Result<(), Fail> {
+    for leaf in 0..count {
+        let path = format!(in alloc; "Norder3/Dir0/Npix{leaf}.fits")?;
+        shelf.put(&path, b"")?;
     }
     Ok(())
 }
@@ -171,12 +202,8 @@ fn refuses_wide<R: Threads + Sync + Clock + Log>(
     wanted: &str,
 ) -> Result<bool, Fail> {
     let mut shelf = shelf_of(alloc, WIDE, Vec::new(alloc))?;
-    for leaf in 0..count {
-        let path = format!(in alloc; "Norder3/Dir0/Npix{leaf}.fits")?;
-        shelf.put(&path, b"")?;
-    }
-    let told = refusal(rt, alloc, &mut shelf)?;
-    Ok(told.as_str() == wanted)
+    put_leaves(alloc, &mut shelf, count)?;
+    refuses(rt, alloc, &mut shelf, wanted)
 }
 
 #[test]
@@ -187,39 +214,111 @@ fn the_charge_of_the_leaves_is_limited(rt: HostRuntime) -> Result<(), Fail> {
     Ok(())
 }
 
+// Whether an export writes so many files.
+fn exports<R: Clock + Log>(
+    rt: &R,
+    alloc: Global,
+    shelf: &mut MemShelf,
+    generation: &Generation,
+    count: u64,
+) -> Result<bool, Fail> {
+    Ok(export(rt, alloc, shelf, generation)? == count)
+}
+
+fn is_empty_survey<R: Clock + Log + Abort>(
+    rt: &R,
+    alloc: Global,
+    shelf: &mut MemShelf,
+    generation: &Generation,
+) -> Result<(), Fail> {
+    assert!(rt; exports(rt, alloc, shelf, generation, 2)?);
+    assert!(rt; lists(alloc, shelf, "Moc.fits note.txt properties survey.conf ")?);
+    shelf.put("Norder3/Allsky.fits", b"stray")?;
+    assert!(rt; compares(rt, alloc, shelf, generation, "differs Norder3/Allsky.fits")?);
+    assert!(rt; exports(rt, alloc, shelf, generation, 2)?);
+    assert!(rt; compares(rt, alloc, shelf, generation, "verified 2")?);
+    Ok(())
+}
+
+fn is_opened_empty<R: Threads + Sync + Clock + Log + Abort>(
+    rt: &R,
+    alloc: Global,
+    shelf: &mut MemShelf,
+) -> Result<(), Fail> {
+    let generation = opened(rt, alloc, shelf)?;
+    is_empty_survey(rt, alloc, shelf, &generation)
+}
+
 #[test]
 fn an_empty_survey_has_two_files(rt: HostRuntime) -> Result<(), Fail> {
     let alloc = rt.alloc();
     let mut shelf = shelf_of(alloc, SURVEY, Vec::new(alloc))?;
-    let generation = opened(&rt, alloc, &mut shelf)?;
-    assert!(rt; export(&rt, alloc, &mut shelf, &generation)? == 2);
-    let paths = listed(alloc, &mut shelf)?;
-    assert!(rt; paths.as_str() == "Moc.fits note.txt properties survey.conf ");
-    shelf.put("Norder3/Allsky.fits", b"stray")?;
-    let verdict = compared(&rt, alloc, &mut shelf, &generation)?;
-    assert!(rt; verdict.as_str() == "differs Norder3/Allsky.fits");
-    assert!(rt; export(&rt, alloc, &mut shelf, &generation)? == 2);
-    let verdict = compared(&rt, alloc, &mut shelf, &generation)?;
-    assert!(rt; verdict.as_str() == "verified 2");
+    is_opened_empty(&rt, alloc, &mut shelf)
+}
+
+// Whether the file at the path has so many bytes, and these stand behind its header.
+fn holds(
+    alloc: Global,
+    shelf: &mut MemShelf,
+    path: &str,
+    len: usize,
+    numbers: &[u8],
+) -> Result<bool, Fail> {
+    let file = shelf.get(alloc, path)?.ok_or("no file")?;
+    Ok(file.len() == len && file.get(2_880..2_888) == Some(numbers))
+}
+
+fn is_survey<R: Clock + Log + Abort>(
+    rt: &R,
+    alloc: Global,
+    shelf: &mut MemShelf,
+    generation: &Generation,
+) -> Result<(), Fail> {
+    assert!(rt; compares(rt, alloc, shelf, generation, "differs Moc.fits")?);
+    assert!(rt; exports(rt, alloc, shelf, generation, 5)?);
+    let numbers = [0x80, 0, 0x80, 0, 0, 3, 0x80, 0];
+    assert!(rt; holds(alloc, shelf, "Norder3/Dir0/Npix0.fits", 5_760, &numbers)?);
     Ok(())
+}
+
+fn is_exported<R: Threads + Sync + Clock + Log + Abort>(
+    rt: &R,
+    alloc: Global,
+    shelf: &mut MemShelf,
+) -> Result<(), Fail> {
+    let generation = opened(rt, alloc, shelf)?;
+    is_survey(rt, alloc, shelf, &generation)
+}
+
+fn is_loaded_again<R: Threads + Sync + Clock + Log>(
+    rt: &R,
+    alloc: Global,
+    shelf: &mut MemShelf,
+) -> Result<bool, Fail> {
+    let generation = opened(rt, alloc, shelf)?;
+    compares(rt, alloc, shelf, &generation, "verified 5")
+}
+
+fn is_kept<R: Threads + Sync + Clock + Log + Abort>(
+    rt: &R,
+    alloc: Global,
+    shelf: &mut MemShelf,
+) -> Result<bool, Fail> {
+    is_exported(rt, alloc, shelf)?;
+    is_loaded_again(rt, alloc, shelf)
+}
+
+fn keeps_leaf<R: Threads + Sync + Clock + Log + Abort>(
+    rt: &R,
+    alloc: Global,
+) -> Result<bool, Fail> {
+    let mut shelf = shelf_with_leaf(alloc, Vec::new(alloc))?;
+    is_kept(rt, alloc, &mut shelf)
 }
 
 #[test]
 fn a_survey_is_exported_and_loaded_again(rt: HostRuntime) -> Result<(), Fail> {
-    let alloc = rt.alloc();
-    let mut shelf = shelf_with_leaf(alloc, Vec::new(alloc))?;
-    let generation = opened(&rt, alloc, &mut shelf)?;
-    let verdict = compared(&rt, alloc, &mut shelf, &generation)?;
-    assert!(rt; verdict.as_str() == "differs Moc.fits");
-    assert!(rt; export(&rt, alloc, &mut shelf, &generation)? == 5);
-    let above = shelf
-        .get(alloc, "Norder3/Dir0/Npix0.fits")?
-        .ok_or("no tile")?;
-    assert!(rt; above.len() == 5_760);
-    assert!(rt; above[2_880..2_888] == [0x80, 0, 0x80, 0, 0, 3, 0x80, 0]);
-    let again = opened(&rt, alloc, &mut shelf)?;
-    let verdict = compared(&rt, alloc, &mut shelf, &again)?;
-    assert!(rt; verdict.as_str() == "verified 5");
+    assert!(rt; keeps_leaf(&rt, rt.alloc())?);
     Ok(())
 }
 
@@ -230,11 +329,19 @@ fn with_one_failing_call<R: Threads + Sync + Clock + Log>(
     alloc: Global,
     call: u64,
 ) -> Result<u64, Fail> {
-    let mut fails = Vec::new(alloc);
-    fails.push(4 + call % 64)?;
+    let fails = Vec::from_slice(alloc, &[4 + call % 64])?;
     let mut shelf = shelf_with_leaf(alloc, fails)?;
-    let told = how_far(rt, alloc, &mut shelf)?;
-    if !keeps_its_own(alloc, &mut shelf)? {
+    how_far_with_its_own(rt, alloc, &mut shelf)
+}
+
+// How far it came, where the description and the note are as they were.
+fn how_far_with_its_own<R: Threads + Sync + Clock + Log>(
+    rt: &R,
+    alloc: Global,
+    shelf: &mut MemShelf,
+) -> Result<u64, Fail> {
+    let told = how_far(rt, alloc, shelf)?;
+    if !keeps_its_own(alloc, shelf)? {
         return Err(Fail::from("a file of another kind was touched"));
     }
     Ok(told)
@@ -245,13 +352,21 @@ fn how_far<R: Threads + Sync + Clock + Log>(
     alloc: Global,
     shelf: &mut MemShelf,
 ) -> Result<u64, Fail> {
-    let generation = match opened(rt, alloc, shelf) {
-        Ok(generation) => generation,
-        Err(LoadRefusal::ShelfFault) => return Ok(100),
-        Err(refusal) => return Err(Fail::from(refusal)),
-    };
-    match export(rt, alloc, shelf, &generation) {
-        Ok(_) => how_compared(rt, alloc, shelf, &generation),
+    match opened(rt, alloc, shelf) {
+        Ok(generation) => how_exported(rt, alloc, shelf, &generation),
+        Err(LoadRefusal::ShelfFault) => Ok(100),
+        Err(refusal) => Err(Fail::from(refusal)),
+    }
+}
+
+fn how_exported<R: Clock + Log>(
+    rt: &R,
+    alloc: Global,
+    shelf: &mut MemShelf,
+    generation: &Generation,
+) -> Result<u64, Fail> {
+    match export(rt, alloc, shelf, generation) {
+        Ok(_) => how_compared(rt, alloc, shelf, generation),
         Err(LinkFault::Failed) => Ok(200),
         Err(fault) => Err(Fail::from(fault)),
     }
@@ -270,13 +385,24 @@ fn how_compared<R: Clock + Log>(
     }
 }
 
+// Whether the file at the path has this text.
+fn has_text(
+    alloc: Global,
+    shelf: &mut MemShelf,
+    path: &str,
+    text: &[u8],
+) -> Result<bool, LinkFault> {
+    match shelf.get(alloc, path)? {
+        Some(file) => Ok(file.as_slice() == text),
+        None => Ok(false),
+    }
+}
+
 // Whether the description and the note are as they were.
 fn keeps_its_own(alloc: Global, shelf: &mut MemShelf) -> Result<bool, LinkFault> {
-    let conf = shelf.get(alloc, "survey.conf")?;
-    let note = shelf.get(alloc, "note.txt")?;
     Ok(
-        conf.is_some_and(|text| text.as_slice() == SURVEY.as_bytes())
-            && note.is_some_and(|text| text.as_slice() == b"keep".as_slice()),
+        has_text(alloc, shelf, "survey.conf", SURVEY.as_bytes())?
+            && has_text(alloc, shelf, "note.txt", b"keep")?,
     )
 }
 

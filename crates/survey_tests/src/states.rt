@@ -5,28 +5,40 @@ ghost use Rattle.survey_core.specs.State.{state_edits};
 
 use crate::bodies::body;
 use crate::surveys::{SURVEY, first_state, fits};
-use edit_journal::{BatchRefusal, EditRefusal};
+use edit_journal::{BatchRefusal, Edit, EditRefusal};
 use parent_rule::Steps;
-use std::alloc::Global;
+use std::alloc::{AllocError, Global};
+use std::process::Abort;
 use std::sync::Arc;
 use std::test::Fail;
 use std::thread::Threads;
+use survey_conf::Conf;
 use survey_core::{InstallRefusal, State, read_batch};
 use survey_link::OpenGate;
 
-// The state with the one edit of a body, or the number of its fault.
-fn with_edit(alloc: Global, state: &State, text: &str) -> Result<Result<State, u8>, Fail> {
+// The one edit of a body.
+fn edit_of(alloc: Global, conf: &Conf, text: &str) -> Result<Edit, Fail> {
     let body = body(alloc, text)?;
-    let mut edits = read_batch(alloc, &body, state.conf(), &mut Steps::new())?;
-    let edit = edits.pop().ok_or("no edit")?;
+    let mut edits = read_batch(alloc, &body, conf, &mut Steps::new())?;
+    Ok(edits.pop().ok_or("no edit")?)
+}
+
+// The state with the edit, or the number of its fault.
+fn accepted(state: &State, edit: Edit) -> Result<State, u8> {
     if !fits(state, &edit) {
-        return Ok(Err(255));
+        return Err(255);
     }
     match state.accept(edit) {
-        Ok(next) => Ok(Ok(next)),
-        Err(EditRefusal::Fault(fault)) => Ok(Err(fault.number())),
-        Err(EditRefusal::OutOfMemory) => Ok(Err(0)),
+        Ok(next) => Ok(next),
+        Err(EditRefusal::Fault(fault)) => Err(fault.number()),
+        Err(EditRefusal::OutOfMemory) => Err(0),
     }
+}
+
+// The state with the one edit of a body, or the number of its fault.
+fn with_edit(alloc: Global, state: &State, text: &str) -> Result<Result<State, u8>, Fail> {
+    let edit = edit_of(alloc, state.conf(), text)?;
+    Ok(accepted(state, edit))
 }
 
 // The state with the batch of a body, or the place and the number of its fault, as one number.
@@ -105,24 +117,51 @@ publish|5|- 5 5 1
 publish|5|5 5 5 1
 batch|remove 3071;|- 6 5 0";
 
-#[test]
-fn a_survey_goes_from_state_to_state(rt: HostRuntime) -> Result<(), Fail> {
-    let alloc = rt.alloc();
-    let mut state = first_state(&rt, alloc, SURVEY)?;
-    for line in STEPS.lines() {
-        let (word, rest) = line.split_once('|').ok_or("no word")?;
-        let (rest, expected) = rest.split_once('|').ok_or("no answer")?;
-        let said = match after(&rt, alloc, &state, word, rest)? {
-            Ok(next) => {
-                state = next;
-                format!(in alloc; "-")?
-            }
-            Err(number) => format!(in alloc; "{number}")?,
-        };
-        let leaves = state.journal().leaves().len();
-        let found = format!(in alloc; "{said} {} {} {leaves}", state.edits(), state.tip())?;
-        assert!(rt; found.as_str() == expected, "{line}: {found}");
-        assert_eq!(rt; state.generation().prefix(), state.tip());
+// Goes on to the next state, if there is one; else what is said against it.
+fn told(state: &mut State, next: Result<State, u8>) -> Option<u8> {
+    match next {
+        Ok(next) => {
+            *state = next;
+            None
+        }
+        Err(number) => Some(number),
+    }
+}
+
+// What was said against a step, and the counts of the state after it.
+fn shown(alloc: Global, told: Option<u8>, state: &State) -> Result<String, AllocError> {
+    let (edits, tip) = (state.edits(), state.tip());
+    let leaves = state.journal().leaves().len();
+    match told {
+        Some(number) => format!(in alloc; "{number} {edits} {tip} {leaves}"),
+        None => format!(in alloc; "- {edits} {tip} {leaves}"),
+    }
+}
+
+// Whether the step of a row goes so, and the generation has as many edits as are published.
+fn goes<R: Threads + Sync>(
+    rt: &R,
+    alloc: Global,
+    state: &mut State,
+    row: &str,
+) -> Result<bool, Fail> {
+    let (word, rest) = row.split_once('|').ok_or("no word")?;
+    let (rest, expected) = rest.split_once('|').ok_or("no answer")?;
+    let next = after(rt, alloc, state, word, rest)?;
+    let told = told(state, next);
+    let found = shown(alloc, told, state)?;
+    Ok(found.as_str() == expected && state.generation().prefix() == state.tip())
+}
+
+fn all_go<R: Threads + Abort + Sync>(rt: &R, alloc: Global, state: &mut State) -> Result<(), Fail> {
+    for row in STEPS.lines() {
+        assert!(rt; goes(rt, alloc, state, row)?, "{row}");
     }
     Ok(())
+}
+
+#[test]
+fn a_survey_goes_from_state_to_state(rt: HostRuntime) -> Result<(), Fail> {
+    let mut state = first_state(&rt, rt.alloc(), SURVEY)?;
+    all_go(&rt, rt.alloc(), &mut state)
 }

@@ -1,4 +1,4 @@
-//! Surveys without leaves, and connections to them.
+//! Surveys without leaves, and the edits that fit them.
 ghost use Rattle.std.specs.Prelude.{◌≡◌, [], IfOk, IsTrue};
 ghost use Rattle.edit_journal.specs.Edit.{edit_of};
 ghost use Rattle.edit_journal.specs.Leaves.{FitsEdit};
@@ -6,19 +6,15 @@ ghost use Rattle.edit_journal.specs.Leaves.{FitsEdit};
 use edit_journal::Edit;
 use generation::Generation;
 use healpix_nested::cells;
-use hips_http::{SessionEnd, session};
 use leaf_store::Store;
-use log::Log;
 use parent_rule::Steps;
-use reader_pin::Solo;
-use std::alloc::Global;
-use std::sync::{Arc, Wait};
+use std::alloc::{AllocError, Global};
+use std::sync::Arc;
 use std::test::Fail;
 use std::thread::Threads;
-use std::time::Clock;
 use survey_conf::Conf;
 use survey_core::State;
-use survey_link::{Gate, MemSink, MemSource, OpenGate};
+use survey_link::OpenGate;
 
 // A survey of order 4 whose tiles have two columns and two lines of 16 bits.
 pub(crate) const SURVEY: &str = "creator_did = ivo://example/P/one
@@ -51,11 +47,6 @@ pub(crate) fn first_state<R: Threads + Sync>(
     Ok(State::start(alloc, Arc::new(alloc, generation)?)?)
 }
 
-// The board of that survey.
-pub(crate) fn opened<R: Threads + Sync>(rt: &R, alloc: Global, conf: &str) -> Result<Solo, Fail> {
-    Ok(Solo::new(alloc, first_state(rt, alloc, conf)?)?)
-}
-
 // Whether the edit fits the survey of a state.
 pub(crate) fn fits(state: &State, edit: &Edit) -> bool
     ensures { IsTrue result → FitsEdit state.now.conf.shape (edit_of edit.now) }
@@ -70,36 +61,35 @@ pub(crate) fn fits(state: &State, edit: &Edit) -> bool
     }
 }
 
-// Serves a connection over the board, and answers how it ends: `OutOfMemory` also where a reply told want of memory.
-pub(crate) fn serve<R: Threads + Wait + Sync + Clock + Log, G: Gate + Sync>(
-    rt: &R,
-    alloc: Global,
-    board: &mut Solo,
-    source: &mut MemSource,
-    sink: &mut MemSink,
-    gate: &G,
-    steps: &mut Steps,
-) -> SessionEnd {
-    let served = session(rt, alloc, board, source, sink, gate, steps);
-    if served.wants != 0 {
-        return SessionEnd::OutOfMemory;
+// Appends a card.
+fn push_card(header: &mut String, card: &str) -> Result<(), AllocError> {
+    header.push_str(card)?;
+    for _ in card.len()..80 {
+        header.push(' ')?;
     }
-    served.end
+    Ok(())
 }
 
-// Whether a connection with that input ends so, and what was written is the output.
-pub(crate) fn answers<R: Threads + Wait + Sync + Clock + Log>(
-    rt: &R,
+// The header of one block whose cards are the lines of the text.
+fn header(alloc: Global, cards: &str) -> Result<String, AllocError> {
+    let mut header = String::new(alloc);
+    for card in cards.lines() {
+        push_card(&mut header, card)?;
+    }
+    format!(in alloc; "{header:<2880}")
+}
+
+// The file of a tile: that header, and the stored numbers without what fills their block.
+pub(crate) fn tile_file(
     alloc: Global,
-    board: &mut Solo,
-    input: Vec<u8>,
-    output: &[u8],
-    wanted: SessionEnd,
-    steps: &mut Steps,
-) -> Result<bool, Fail> {
-    let mut source = MemSource::new(input, 65_536, Vec::new(alloc));
-    let mut sink = MemSink::new(alloc, 16_777_216, Vec::new(alloc))?;
-    let gate = OpenGate::new();
-    let end = serve(rt, alloc, board, &mut source, &mut sink, &gate, steps);
-    Ok(end == wanted && sink.bytes() == output)
+    cards: &str,
+    numbers: [i16; 4],
+) -> Result<Vec<u8>, AllocError> {
+    let header = header(alloc, cards)?;
+    let mut file = Vec::new(alloc);
+    file.extend_from_slice(header.as_bytes())?;
+    for number in numbers {
+        file.extend_from_slice(&number.to_be_bytes())?;
+    }
+    Ok(file)
 }

@@ -1,10 +1,10 @@
 //! The most that a connection or a survey takes.
-use crate::rows::{replies, requests};
+use crate::rows::{push_replies, replies, requests};
 use crate::surveys::{SURVEY, answers, fits, opened};
 use edit_journal::Edit;
 use hips_http::SessionEnd;
 use log::Log;
-use parent_rule::Steps;
+use parent_rule::{Depth, Steps};
 use reader_pin::{Board, Solo};
 use std::alloc::Global;
 use std::sync::{Arc, Wait};
@@ -57,12 +57,26 @@ fn asks<R: Threads + Wait + Sync + Clock + Log>(
     answered: &str,
     steps: &mut Steps,
 ) -> Result<bool, Fail> {
-    let input = requests(alloc, asked)?;
     let output = replies(alloc, answered)?;
+    let input = requests(alloc, asked)?;
     answers(rt, alloc, board, input, &output, SessionEnd::Closed, steps)
 }
 
 // Whether the two leaves are published, the survey has so many files then, and at most so many tiles were read or merged.
+fn publishes<R: Threads + Wait + Sync + Clock + Log>(
+    rt: &R,
+    alloc: Global,
+    board: &mut Solo,
+    files: u64,
+    most: u64,
+) -> Result<bool, Fail> {
+    let mut steps = Steps::new();
+    let is_answered = asks(rt, alloc, board, FAR, FAR_ANSWERED, &mut steps)?;
+    let found = board.last().generation().file_count();
+    Ok(is_answered && found == files && steps.count() <= most)
+}
+
+// The same over the survey with that description.
 fn is_published<R: Threads + Wait + Sync + Clock + Log>(
     rt: &R,
     alloc: Global,
@@ -71,10 +85,7 @@ fn is_published<R: Threads + Wait + Sync + Clock + Log>(
     most: u64,
 ) -> Result<bool, Fail> {
     let mut board = opened(rt, alloc, conf)?;
-    let mut steps = Steps::new();
-    let is_answered = asks(rt, alloc, &mut board, FAR, FAR_ANSWERED, &mut steps)?;
-    let found = board.last().generation().file_count();
-    Ok(is_answered && found == files && steps.count() <= most)
+    publishes(rt, alloc, &mut board, files, most)
 }
 
 // The files are the two leaves, the tiles above each, the mosaic, the coverage and the properties.
@@ -85,25 +96,25 @@ fn two_far_leaves_are_published(rt: HostRuntime) -> Result<(), Fail> {
     Ok(())
 }
 
-// Whether the board accepts so many edits, one by one, each of which puts the same tile on leaf 0.
-fn accepts<B: Board, R: Wait>(
-    rt: &R,
-    alloc: Global,
-    board: &mut B,
-    count: u32,
-) -> Result<bool, Fail> {
-    let shape = board.last().conf().shape();
-    if shape.depth.bytes() != 2 || shape.n != 1 {
+// The tile of the first survey whose bytes are all 1.
+fn tile(alloc: Global, depth: Depth) -> Result<Arc<Tile>, Fail> {
+    if depth.bytes() != 2 {
         return Err("other tiles".into());
     }
-    let tile = Tile::from_bytes(alloc, &[1; 8], shape.depth, shape.n, &mut Steps::new())?;
-    let tile = Arc::new(alloc, tile)?;
+    let tile = Tile::from_bytes(alloc, &[1; 8], depth, 1, &mut Steps::new())?;
+    Ok(Arc::new(alloc, tile)?)
+}
+
+// Whether the board accepts that edit.
+fn accepts_one<R: Wait>(rt: &R, board: &mut Solo, edit: Edit) -> bool {
+    fits(board.last(), &edit) && board.edit(rt, edit).is_ok()
+}
+
+// Whether the board accepts so many edits, one by one, each of which puts the same tile on leaf 0.
+fn accepts<R: Wait>(rt: &R, board: &mut Solo, tile: &Arc<Tile>, count: u32) -> Result<bool, Fail> {
     for _ in 0..count {
-        let edit = Edit::Put {
-            leaf: 0,
-            tile: tile.clone()?,
-        };
-        if !fits(board.last(), &edit) || board.edit(rt, edit).is_err() {
+        let tile = tile.clone()?;
+        if !accepts_one(rt, board, Edit::Put { leaf: 0, tile }) {
             return Ok(false);
         }
     }
@@ -119,13 +130,30 @@ static REFUSED: &str =
 404 Not Found;Content-Type: text/plain;Content-Length: 7;Survey-Edits: 65536|line absent
 412 Precondition Failed;Content-Type: text/plain;Content-Length: 20;Survey-Edits: 65536|line precondition failed";
 
+// Whether the board accepts 65,536 edits and refuses one more.
+fn is_filled<R: Threads + Wait + Sync + Clock + Log>(
+    rt: &R,
+    alloc: Global,
+    board: &mut Solo,
+) -> Result<bool, Fail> {
+    let tile = tile(alloc, board.last().conf().shape().depth)?;
+    if !accepts(rt, board, &tile, 65_536)? {
+        return Ok(false);
+    }
+    asks(rt, alloc, board, ONE_MORE, REFUSED, &mut Steps::new())
+}
+
+fn takes_no_more<R: Threads + Wait + Sync + Clock + Log>(
+    rt: &R,
+    alloc: Global,
+) -> Result<bool, Fail> {
+    let mut board = opened(rt, alloc, SURVEY)?;
+    is_filled(rt, alloc, &mut board)
+}
+
 #[test]
 fn a_survey_takes_no_more_edits(rt: HostRuntime) -> Result<(), Fail> {
-    let alloc = rt.alloc();
-    let mut board = opened(&rt, alloc, SURVEY)?;
-    assert!(rt; accepts(&rt, alloc, &mut board, 65_536)?);
-    let is_refused = asks(&rt, alloc, &mut board, ONE_MORE, REFUSED, &mut Steps::new())?;
-    assert!(rt; is_refused);
+    assert!(rt; takes_no_more(&rt, rt.alloc())?);
     Ok(())
 }
 
@@ -143,23 +171,31 @@ fn repeated(alloc: Global, bytes: &[u8], count: u32) -> Result<Vec<u8>, Fail> {
     Ok(all)
 }
 
+// The bytes of so many replies, and of the last one.
+fn headed(alloc: Global, count: u32) -> Result<Vec<u8>, Fail> {
+    let mut output = repeated(alloc, &replies(alloc, HEADED)?, count)?;
+    push_replies(alloc, &mut output, HEADED_LAST)?;
+    Ok(output)
+}
+
+// Whether the connection of these requests ends so, when as many were answered as it takes.
+fn is_spent<R: Threads + Wait + Sync + Clock + Log>(
+    rt: &R,
+    alloc: Global,
+    input: Vec<u8>,
+    output: &[u8],
+) -> Result<bool, Fail> {
+    let mut board = opened(rt, alloc, SURVEY)?;
+    let end = SessionEnd::Spent;
+    answers(rt, alloc, &mut board, input, output, end, &mut Steps::new())
+}
+
 // The last reply is the one with all lines; the 65,537th request isn't answered.
 #[test]
 fn a_connection_has_so_many_requests(rt: HostRuntime) -> Result<(), Fail> {
     let alloc = rt.alloc();
-    let mut board = opened(&rt, alloc, SURVEY)?;
+    let output = headed(alloc, 65_535)?;
     let input = repeated(alloc, &requests(alloc, "HEAD /Moc.fits")?, 65_537)?;
-    let mut output = repeated(alloc, &replies(alloc, HEADED)?, 65_535)?;
-    output.extend_from_slice(&replies(alloc, HEADED_LAST)?)?;
-    let is_spent = answers(
-        &rt,
-        alloc,
-        &mut board,
-        input,
-        &output,
-        SessionEnd::Spent,
-        &mut Steps::new(),
-    )?;
-    assert!(rt; is_spent);
+    assert!(rt; is_spent(&rt, alloc, input, &output)?);
     Ok(())
 }

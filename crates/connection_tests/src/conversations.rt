@@ -449,41 +449,63 @@ PUT /Norder4/Dir0/Npix0.fits;Content-Length: 5761|tile 4 0&short 1 2 3 5&spaces 
     ),
 ];
 
-// Whether the connection of a row goes so: its requests are answered by these replies, and it ends so.
+// The bytes of the requests of a row.
+fn asked(alloc: Global, begun: bool, rows: &str) -> Result<Vec<u8>, Fail> {
+    let mut input = Vec::new(alloc);
+    if begun {
+        push_requests(alloc, &mut input, EDIT)?;
+    }
+    push_requests(alloc, &mut input, rows)?;
+    Ok(input)
+}
+
+// The bytes of the replies of a row.
+fn answered(alloc: Global, begun: bool, rows: &str) -> Result<Vec<u8>, Fail> {
+    let mut output = Vec::new(alloc);
+    if begun {
+        push_replies(alloc, &mut output, EDITED)?;
+    }
+    push_replies(alloc, &mut output, rows)?;
+    Ok(output)
+}
+
+// Whether the connection goes so over the survey with that description, and ends so.
 fn goes<R: Threads + Wait + Sync + Clock + Log>(
     rt: &R,
     alloc: Global,
     conf: &str,
-    begun: bool,
-    asked: &str,
-    answered: &str,
+    input: Vec<u8>,
+    output: &[u8],
     wanted: SessionEnd,
 ) -> Result<bool, Fail> {
     let mut board = opened(rt, alloc, conf)?;
-    let mut input = Vec::new(alloc);
-    let mut output = Vec::new(alloc);
-    if begun {
-        push_requests(alloc, &mut input, EDIT)?;
-        push_replies(alloc, &mut output, EDITED)?;
-    }
-    push_requests(alloc, &mut input, asked)?;
-    push_replies(alloc, &mut output, answered)?;
     answers(
         rt,
         alloc,
         &mut board,
         input,
-        &output,
+        output,
         wanted,
         &mut Steps::new(),
     )
 }
 
+// Whether the connection of a row goes so: its requests are answered by these replies, and it ends so.
+fn row_goes<R: Threads + Wait + Sync + Clock + Log>(
+    rt: &R,
+    alloc: Global,
+    row: &(&str, bool, &str, &str, SessionEnd),
+) -> Result<bool, Fail> {
+    let (conf, begun, asks, replies, wanted) = *row;
+    let output = answered(alloc, begun, replies)?;
+    let input = asked(alloc, begun, asks)?;
+    goes(rt, alloc, conf, input, &output, wanted)
+}
+
 #[test]
 fn conversations_are_answered(rt: HostRuntime) -> Result<(), Fail> {
-    for (conf, begun, asked, answered, wanted) in &CONVERSATIONS {
-        let is_well = goes(&rt, rt.alloc(), conf, *begun, asked, answered, *wanted)?;
-        assert!(rt; is_well, "{asked}: not {answered}");
+    for row in &CONVERSATIONS {
+        assert!(rt; row_goes(&rt, rt.alloc(), row)?, "{}: not {}", row.2, row.3);
     }
     Ok(())
 }

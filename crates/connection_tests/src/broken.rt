@@ -8,6 +8,7 @@ use hips_http::SessionEnd;
 use log::Log;
 use parent_rule::Steps;
 use std::alloc::Global;
+use std::process::Abort;
 use std::sync::Wait;
 use std::test::Fail;
 use std::thread::Threads;
@@ -26,9 +27,9 @@ fn breaks<R: Threads + Wait + Sync + Clock + Log>(
 ) -> Result<SessionEnd, Fail>
     requires { 0 < piece }
 {
-    let mut board = opened(rt, alloc, SURVEY)?;
     let reads = Vec::from_slice(alloc, reads)?;
     let mut source = MemSource::new(Vec::from_slice(alloc, input)?, piece, reads);
+    let mut board = opened(rt, alloc, SURVEY)?;
     let gate = OpenGate::new();
     let end = serve(
         rt,
@@ -75,19 +76,29 @@ fn is_cut<R: Threads + Wait + Sync + Clock + Log>(
         SessionEnd::Cut
     };
     let first = input.get(..at).unwrap_or(input);
-    let is_short = ends(rt, alloc, first, 65_536, &[], end, output)?;
-    Ok(
-        is_short
-            && ends(
-                rt,
-                alloc,
-                input,
-                1,
-                &[at as u64],
-                SessionEnd::ReadFault,
-                output,
-            )?,
-    )
+    if !ends(rt, alloc, first, 65_536, &[], end, output)? {
+        return Ok(false);
+    }
+    let end = SessionEnd::ReadFault;
+    ends(rt, alloc, input, 1, &[at as u64], end, output)
+}
+
+// Each cut within the last request, which begins there.
+fn all_are_cut<R: Threads + Wait + Sync + Clock + Log + Abort>(
+    rt: &R,
+    alloc: Global,
+    asked: &str,
+    input: &[u8],
+    begun: usize,
+    output: &[u8],
+) -> Result<(), Fail> {
+    for at in begun..input.len() {
+        assert!(rt;
+            is_cut(rt, alloc, input, at, begun, output)?,
+            "{asked}, cut at {at}"
+        );
+    }
+    Ok(())
 }
 
 #[test]
@@ -98,12 +109,7 @@ fn a_cut_input_is_answered_up_to_its_last_whole_request(rt: HostRuntime) -> Resu
     for (asked, answered) in EDIT.lines().zip(EDITED.lines()) {
         let begun = input.len();
         push_requests(alloc, &mut input, asked)?;
-        for at in begun..input.len() {
-            assert!(rt;
-                is_cut(&rt, alloc, &input, at, begun, &output)?,
-                "{asked}, cut at {at}"
-            );
-        }
+        all_are_cut(&rt, alloc, asked, &input, begun, &output)?;
         push_replies(alloc, &mut output, answered)?;
     }
     Ok(())
@@ -117,16 +123,16 @@ fn fails<R: Threads + Wait + Sync + Clock + Log>(
     call: u64,
     wanted: SessionEnd,
 ) -> Result<bool, Fail> {
+    let output = replies(alloc, EDITED)?;
     let input = requests(alloc, EDIT)?;
     let mut sink = MemSink::new(alloc, 65_536, Vec::from_slice(alloc, &[call])?)?;
     let end = breaks(rt, alloc, &input, 1, &[], &mut sink)?;
-    let output = replies(alloc, EDITED)?;
-    let is_whole = sink.bytes().len() == output.len();
-    Ok(
-        end == wanted
-            && output.starts_with(sink.bytes())
-            && (is_whole || end == SessionEnd::WriteFault),
-    )
+    Ok(end == wanted && is_begun(sink.bytes(), &output, end))
+}
+
+// Whether these bytes begin the output, and are all of it where no write failed.
+fn is_begun(bytes: &[u8], output: &[u8], end: SessionEnd) -> bool {
+    output.starts_with(bytes) && (bytes.len() == output.len() || end == SessionEnd::WriteFault)
 }
 
 // Each reply is written by one call, with the file in it, and flushed by another.

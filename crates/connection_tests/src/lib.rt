@@ -1,0 +1,15 @@
+//! Tests of whole connections, byte for byte: what is asked as rows of text, what is answered, and how the connection ends.
+//!
+//! They stand over the finished crates, in a crate of their own: in `hips_http` it would be proved a second time.
+#![tactic(auto)]
+
+#[cfg(test)]
+mod broken;
+#[cfg(test)]
+mod conversations;
+#[cfg(test)]
+mod limits;
+#[cfg(test)]
+mod rows;
+#[cfg(test)]
+mod surveys;
