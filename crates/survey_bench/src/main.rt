@@ -38,7 +38,7 @@ mod survey;
 mod tiles;
 mod waiting;
 
-use boards::{EDITS, PINS, time_board_edits, time_pins};
+use boards::{EDITS, PINS, PinTimes, time_board_edits, time_pins};
 use cover::time_cover;
 use hundredths::Hundredths;
 use journal::time_journal;
@@ -46,12 +46,12 @@ use level::{LevelTimes, TILES, time_level};
 use merge::{time_halve, time_merge};
 use mosaic::{MosaicTimes, NUMBERS, time_mosaic};
 use parent_rule::Depth;
-use publication::{CALLS, FullTimes, time_deep, time_full};
+use publication::{CALLS, DeepTimes, FullTimes, time_deep, time_full};
 use std::alloc::Global;
 use std::io::Print;
 use std::sync::Wait;
 use std::thread::Threads;
-use std::time::Clock;
+use std::time::{Clock, CpuClock};
 use std::{env, io};
 use tiles::{PIXELS, depth, sixteenths};
 use waiting::{WaitTimes, time_waits};
@@ -68,82 +68,121 @@ fn main(rt: HostRuntime) -> io::Result<()> {
     for word in env::args(&rt)?.skip(1) {
         words.push(word)?;
     }
-    match words.as_slice() {
+    let words = words.as_slice();
+    if !is_timed(&rt, words)? && !is_timed_in_threads(&rt, rt.alloc(), words)? {
+        println!(rt; "{USAGE}")?;
+    }
+    Ok(())
+}
+
+// What the tiles are, by three words, and how many of 16 pixels are blank.
+fn tiles_of(bits: &str, way: &str, blanks: &str) -> Option<(Depth, u32)> {
+    match (depth(bits, way), sixteenths(blanks)) {
+        (Some(depth), Some(blanks)) => Some((depth, blanks)),
+        _ => None,
+    }
+}
+
+// Times what needs one thread; whether the words ask for that.
+fn is_timed(rt: &HostRuntime, words: &[String]) -> io::Result<bool> {
+    match words {
         [what, bits, way, blanks] => {
-            if let (Some(depth), Some(blanks)) = (
-                depth(bits.as_str(), way.as_str()),
-                sixteenths(blanks.as_str()),
-            ) {
-                if what.as_str() == "level" {
-                    let times = time_level(&rt, rt.alloc(), depth, blanks)?;
-                    return print_level(&rt, times);
-                }
-                if what.as_str() == "mosaic" {
-                    let times = time_mosaic(&rt, rt.alloc(), depth, blanks)?;
-                    return print_mosaic(&rt, times);
-                }
-                return of_tiles(&rt, what.as_str(), depth, blanks);
-            }
-        }
-        [what, of, count] if what.as_str() == "boards" => {
-            if let Ok(count) = count.parse::<usize>() {
-                return of_boards(&rt, rt.alloc(), of.as_str(), count);
+            match tiles_of(bits.as_str(), way.as_str(), blanks.as_str()) {
+                Some((depth, blanks)) => of_tiles(rt, what.as_str(), depth, blanks),
+                None => Ok(false),
             }
         }
         [what, count, apart] => {
-            if let ("cover", Ok(count), Ok(apart)) = (
-                what.as_str(),
-                count.parse::<u64>(),
-                apart.parse::<u64>(),
-            ) {
-                return of_leaves(&rt, count, apart);
+            match (what.as_str(), count.parse::<u64>(), apart.parse::<u64>()) {
+                ("cover", Ok(count), Ok(apart)) => print_cover(rt, count, apart),
+                _ => Ok(false),
             }
         }
-        [what, of] => match (what.as_str(), of.as_str()) {
-            ("generation", "full") => {
-                let times = time_full(&rt, rt.alloc())?;
-                return print_full(&rt, times);
-            }
-            ("generation", "deep") => {
-                let times = time_deep(&rt, rt.alloc())?;
-                println!(rt; "{} {} {}", times.start, times.one, times.edit)?;
-                return Ok(());
-            }
-            ("boards", "publication") => {
-                let times = time_waits(&rt, rt.alloc())?;
-                return print_waits(&rt, times);
-            }
-            ("journal", count) => {
-                if let Ok(count) = count.parse::<u32>() {
-                    return of_journals(&rt, count);
-                }
-            }
-            _ => {}
+        [what, count] => match (what.as_str(), count.parse::<u32>()) {
+            ("journal", Ok(count)) => print_journals(rt, count),
+            _ => Ok(false),
         },
-        _ => {}
+        _ => Ok(false),
     }
-    println!(rt; "{USAGE}")?;
-    Ok(())
 }
 
-// What is done with tiles of 512 by 512 pixels.
-fn of_tiles(rt: &HostRuntime, what: &str, depth: Depth, blanks: u32) -> io::Result<()> {
-    let pixels = PIXELS as u128;
+// Times what needs threads; whether the words ask for that.
+fn is_timed_in_threads<R: Clock + CpuClock + Threads + Wait + Print + Sync>(
+    rt: &R,
+    alloc: Global,
+    words: &[String],
+) -> io::Result<bool> {
+    match words {
+        [what, bits, way, blanks] => {
+            match tiles_of(bits.as_str(), way.as_str(), blanks.as_str()) {
+                Some((depth, blanks)) => of_skies(rt, alloc, what.as_str(), depth, blanks),
+                None => Ok(false),
+            }
+        }
+        [what, of, count] => match (what.as_str(), count.parse::<usize>()) {
+            ("boards", Ok(count)) => of_boards(rt, alloc, of.as_str(), count),
+            _ => Ok(false),
+        },
+        [what, of] => of_surveys(rt, alloc, what.as_str(), of.as_str()),
+        _ => Ok(false),
+    }
+}
+
+// What is done with a few tiles of 512 by 512 pixels.
+fn of_tiles(rt: &HostRuntime, what: &str, depth: Depth, blanks: u32) -> io::Result<bool> {
     match what {
-        "merge" => {
-            let (least, sum) = time_merge(rt, depth, blanks)?;
-            println!(rt; "{} {sum}", Hundredths::of(least, pixels))?;
-        }
-        "halve" => {
-            let (least, sum) = time_halve(rt, depth, blanks)?;
-            println!(rt; "{} {sum}", Hundredths::of(least, pixels / 4))?;
-        }
-        _ => println!(rt; "{USAGE}")?,
+        "merge" => print_merge(rt, depth, blanks)?,
+        "halve" => print_halve(rt, depth, blanks)?,
+        _ => return Ok(false),
     }
+    Ok(true)
+}
+
+// What is done with a full sky of them.
+fn of_skies<R: Clock + CpuClock + Threads + Print + Sync>(
+    rt: &R,
+    alloc: Global,
+    what: &str,
+    depth: Depth,
+    blanks: u32,
+) -> io::Result<bool> {
+    match what {
+        "level" => print_level(rt, time_level(rt, alloc, depth, blanks)?)?,
+        "mosaic" => print_mosaic(rt, time_mosaic(rt, alloc, depth, blanks)?)?,
+        _ => return Ok(false),
+    }
+    Ok(true)
+}
+
+// What is done with a whole survey.
+fn of_surveys<R: Clock + CpuClock + Threads + Wait + Print + Sync>(
+    rt: &R,
+    alloc: Global,
+    what: &str,
+    of: &str,
+) -> io::Result<bool> {
+    match (what, of) {
+        ("generation", "full") => print_full(rt, time_full(rt, alloc)?)?,
+        ("generation", "deep") => print_deep(rt, time_deep(rt, alloc)?)?,
+        ("boards", "publication") => print_waits(rt, time_waits(rt, alloc)?)?,
+        _ => return Ok(false),
+    }
+    Ok(true)
+}
+
+fn print_merge(rt: &HostRuntime, depth: Depth, blanks: u32) -> io::Result<()> {
+    let (least, sum) = time_merge(rt, depth, blanks)?;
+    println!(rt; "{} {sum}", Hundredths::of(least, PIXELS as u128))?;
     Ok(())
 }
 
-fn print_level(rt: &HostRuntime, times: LevelTimes) -> io::Result<()> {
+fn print_halve(rt: &HostRuntime, depth: Depth, blanks: u32) -> io::Result<()> {
+    let (least, sum) = time_halve(rt, depth, blanks)?;
+    println!(rt; "{} {sum}", Hundredths::of(least, PIXELS as u128 / 4))?;
+    Ok(())
+}
+
+fn print_level<R: Print>(rt: &R, times: LevelTimes) -> io::Result<()> {
     let pixels = TILES * PIXELS as u128;
     let processor = Hundredths::of(times.processor, pixels);
     let serial = Hundredths::of(times.serial, pixels);
@@ -152,11 +191,11 @@ fn print_level(rt: &HostRuntime, times: LevelTimes) -> io::Result<()> {
     Ok(())
 }
 
-fn of_leaves(rt: &HostRuntime, count: u64, apart: u64) -> io::Result<()> {
+fn print_cover(rt: &HostRuntime, count: u64, apart: u64) -> io::Result<bool> {
     let times = time_cover(rt, count, apart)?;
     let of = Hundredths::of(times.of, u128::from(count.max(1)));
     println!(rt; "{of} {} {}", times.add, times.rows)?;
-    Ok(())
+    Ok(true)
 }
 
 // What boards do at once.
@@ -165,24 +204,26 @@ fn of_boards<R: Clock + Threads + Wait + Print + Sync>(
     alloc: Global,
     of: &str,
     count: usize,
-) -> io::Result<()> {
+) -> io::Result<bool> {
     match of {
-        "pins" => {
-            let times = time_pins(rt, alloc, count)?;
-            let quiet = Hundredths::of(times.quiet, u128::from(PINS));
-            let busy = Hundredths::of(times.busy, u128::from(PINS));
-            println!(rt; "{quiet} {busy} {}", times.edits)?;
-        }
+        "pins" => print_pins(rt, time_pins(rt, alloc, count)?)?,
         "edits" => {
             let took = time_board_edits(rt, alloc, count)?;
             println!(rt; "{}", Hundredths::of(took, u128::from(EDITS)))?;
         }
-        _ => println!(rt; "{USAGE}")?,
+        _ => return Ok(false),
     }
+    Ok(true)
+}
+
+fn print_pins<R: Print>(rt: &R, times: PinTimes) -> io::Result<()> {
+    let quiet = Hundredths::of(times.quiet, u128::from(PINS));
+    let busy = Hundredths::of(times.busy, u128::from(PINS));
+    println!(rt; "{quiet} {busy} {}", times.edits)?;
     Ok(())
 }
 
-fn print_waits(rt: &HostRuntime, times: WaitTimes) -> io::Result<()> {
+fn print_waits<R: Print>(rt: &R, times: WaitTimes) -> io::Result<()> {
     println!(rt;
         "{} {} {} {} {}",
         times.alone, times.beside, times.wait, times.call, times.calls
@@ -190,7 +231,7 @@ fn print_waits(rt: &HostRuntime, times: WaitTimes) -> io::Result<()> {
     Ok(())
 }
 
-fn print_mosaic(rt: &HostRuntime, times: MosaicTimes) -> io::Result<()> {
+fn print_mosaic<R: Print>(rt: &R, times: MosaicTimes) -> io::Result<()> {
     let processor = Hundredths::of(times.processor, NUMBERS);
     let wall = Hundredths::of(times.wall, NUMBERS);
     let patch = Hundredths::of(times.patch, NUMBERS);
@@ -198,14 +239,19 @@ fn print_mosaic(rt: &HostRuntime, times: MosaicTimes) -> io::Result<()> {
     Ok(())
 }
 
-fn of_journals(rt: &HostRuntime, count: u32) -> io::Result<()> {
-    let times = time_journal(rt, count)?;
-    let edit = Hundredths::of(times.processor, u128::from(count.max(1)));
-    println!(rt; "{edit} {}", times.held)?;
+fn print_deep<R: Print>(rt: &R, times: DeepTimes) -> io::Result<()> {
+    println!(rt; "{} {} {}", times.start, times.one, times.edit)?;
     Ok(())
 }
 
-fn print_full(rt: &HostRuntime, times: FullTimes) -> io::Result<()> {
+fn print_journals(rt: &HostRuntime, count: u32) -> io::Result<bool> {
+    let times = time_journal(rt, count)?;
+    let edit = Hundredths::of(times.processor, u128::from(count.max(1)));
+    println!(rt; "{edit} {}", times.held)?;
+    Ok(true)
+}
+
+fn print_full<R: Print>(rt: &R, times: FullTimes) -> io::Result<()> {
     let calls = CALLS as u128;
     let tile = Hundredths::of(times.tile, calls);
     let mosaic = Hundredths::of(times.mosaic, calls);

@@ -68,21 +68,53 @@ pub fn time_full<R: Clock + CpuClock + Threads + Sync>(
     let leaves = first_leaves(alloc, conf.shape(), FULL_LEAVES)?;
     let start = time_start(rt, alloc, &conf, &leaves)?;
     let generation = started(rt, alloc, &conf, &leaves)?;
-    let (tile, of_tile) = time_files(rt, &generation, &tile_paths(alloc)?)?;
-    let allsky = same_path(alloc, Path::Allsky)?;
-    let (mosaic, of_mosaic) = time_files(rt, &generation, &allsky)?;
-    let described = same_path(alloc, Path::Properties)?;
-    let (properties, of_properties) = time_files(rt, &generation, &described)?;
+    full_times(rt, alloc, &generation, start)
+}
+
+// Times the full sky that was made in so many nanoseconds.
+fn full_times<R: Clock + CpuClock + Threads + Sync>(
+    rt: &R,
+    alloc: Global,
+    generation: &Generation,
+    start: u128,
+) -> io::Result<FullTimes>
+    requires { generation.now.prefix ≡ 0 }
+{
+    let (tile, of_tile) = time_tiles(rt, alloc, generation)?;
+    let (mosaic, of_mosaic) = time_same(rt, alloc, generation, Path::Allsky)?;
+    let (properties, of_properties) = time_same(rt, alloc, generation, Path::Properties)?;
     Ok(FullTimes {
         start,
-        one: time_next(rt, alloc, &generation, 1)?,
-        many: time_next(rt, alloc, &generation, 64)?,
-        most: time_next(rt, alloc, &generation, 256)?,
+        one: time_next(rt, alloc, generation, 1)?,
+        many: time_next(rt, alloc, generation, 64)?,
+        most: time_next(rt, alloc, generation, 256)?,
         tile,
         mosaic,
         properties,
         bytes: of_tile.wrapping_add(of_mosaic).wrapping_add(of_properties),
     })
+}
+
+// The least nanoseconds of asking for the leaf tiles, and how many bytes were handed out.
+fn time_tiles<R: CpuClock>(
+    rt: &R,
+    alloc: Global,
+    generation: &Generation,
+) -> io::Result<(u128, u64)> {
+    let paths = tile_paths(alloc)?;
+    time_files(rt, generation, &paths)
+}
+
+// The same of one path over and over.
+fn time_same<R: CpuClock>(
+    rt: &R,
+    alloc: Global,
+    generation: &Generation,
+    path: Path,
+) -> io::Result<(u128, u64)> {
+    let mut paths = Vec::new(alloc);
+    paths.resize(CALLS, path)?;
+    time_files(rt, generation, &paths)
 }
 
 /// Times 65,536 leaves of order 11, of 32 by 32.
@@ -225,12 +257,5 @@ fn tile_paths(alloc: Global) -> Result<Vec<Path>, AllocError> {
             paths.push(Path::Tile(cell))?;
         }
     }
-    Ok(paths)
-}
-
-// One path over and over.
-fn same_path(alloc: Global, path: Path) -> Result<Vec<Path>, AllocError> {
-    let mut paths = Vec::new(alloc);
-    paths.resize(CALLS, path)?;
     Ok(paths)
 }

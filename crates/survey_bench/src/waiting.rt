@@ -7,6 +7,7 @@ use crate::edits::opened;
 use crate::publication::{FULL_LEAVES, started};
 use crate::survey::{FULL, described, first_leaves, leaf_tile};
 use edit_journal::Edit;
+use generation::Generation;
 use parent_rule::Steps;
 use reader_pin::{Board, Published, Shared, Survey, SurveyBook, SurveySeat, open_shared};
 use shared_history::Naming;
@@ -65,15 +66,21 @@ pub fn time_waits<R: Clock + Threads + Wait + Sync>(
     rt: &R,
     alloc: Global,
 ) -> io::Result<WaitTimes> {
-    let conf = described(alloc, FULL)?;
-    let leaves = first_leaves(alloc, conf.shape(), FULL_LEAVES)?;
-    let generation = Arc::new(alloc, started(rt, alloc, &conf, &leaves)?)?;
-    let state = opened(alloc, &generation)?;
+    let state = opened(alloc, &full(rt, alloc)?)?;
     let times = waits::<Brand, R>(rt, alloc, SurveyBook::new(), state)?;
     if times.calls == 0 {
         return Err(io::Error::from(ErrorKind::TimedOut));
     }
     Ok(times)
+}
+
+// A full sky of order 3, of 768 leaves of 512 by 512.
+fn full<R: Threads + Sync>(rt: &R, alloc: Global) -> io::Result<Arc<Generation>>
+    ensures { IfOk result (λ made. (arc_value made).prefix ≡ 0) }
+{
+    let conf = described(alloc, FULL)?;
+    let leaves = first_leaves(alloc, conf.shape(), FULL_LEAVES)?;
+    Ok(Arc::new(alloc, started(rt, alloc, &conf, &leaves)?)?)
 }
 
 // Opens the survey with two places, and ends it.
