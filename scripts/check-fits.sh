@@ -1,6 +1,6 @@
 #!/bin/sh
 # Has tools of others check the FITS files that this repository writes: one tile file of each depth is printed by a test of
-# fits_tile, and two coverage files by a test of coverage_moc, both `prints_files_for_tools_of_others`. The tools are Debian's
+# format_tests, and two coverage files by a test of coverage_moc, both `prints_files_for_tools_of_others`. The tools are Debian's
 # fitsverify and python3-astropy (install-tools.sh). Where one is missing this fails if CI=true, and else says what was left
 # out.
 cd "$(dirname "$0")/.." || exit 1
@@ -16,7 +16,7 @@ fi
 
 folder=$(mktemp -d) || exit 1
 trap 'rm -rf "$folder"' EXIT
-(cd crates/fits_tile && rt try --test) >"$folder/printed" 2>&1
+(cd crates/format_tests && rt try --test) >"$folder/printed" 2>&1
 "$python" - "$folder" <<'PYTHON'
 import re
 import subprocess

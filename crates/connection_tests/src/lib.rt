@@ -1,6 +1,8 @@
-//! Tests of whole connections, byte for byte: what is asked as rows of text, what is answered, and how the connection ends.
+//! Tests of whole connections, byte for byte: what is asked as rows of text, what is answered, and how the connection ends;
+//! and of places over a door in memory.
 //!
-//! They stand over the finished crates, in a crate of their own: in `hips_http` it would be proved a second time.
+//! They stand over the finished crates, in a crate of their own: in `hips_http` and `hips_place` these would be proved a
+//! second time.
 #![tactic(auto)]
 
 #[cfg(test)]
@@ -9,6 +11,8 @@ mod broken;
 mod conversations;
 #[cfg(test)]
 mod limits;
+#[cfg(test)]
+mod places;
 #[cfg(test)]
 mod rows;
 #[cfg(test)]

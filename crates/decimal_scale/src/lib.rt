@@ -9,8 +9,6 @@ mod digits;
 mod exponent;
 mod fault;
 pub mod laws;
-#[cfg(test)]
-mod tests;
 mod whole;
 
 pub use decimal::Decimal;

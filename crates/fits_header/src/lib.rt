@@ -11,8 +11,6 @@ mod header;
 mod keyword;
 pub mod laws;
 mod scan;
-#[cfg(test)]
-mod tests;
 mod value;
 
 pub use blocks::{BLOCK_LEN, CARD_LEN, whole_blocks};

@@ -9,12 +9,8 @@ mod encode;
 mod fault;
 mod header;
 pub mod laws;
-#[cfg(test)]
-mod outside_tests;
 mod reading;
 mod size;
-#[cfg(test)]
-mod tests;
 
 pub use encode::{encode_cards, encode_image, encode_into};
 pub use fault::{TileFault, TileRefusal};

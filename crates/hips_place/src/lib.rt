@@ -7,8 +7,6 @@
 mod doors;
 mod place;
 mod places;
-#[cfg(test)]
-mod tests;
 
 pub use doors::serve_doors;
 pub use place::{PlaceEnd, serve_place};

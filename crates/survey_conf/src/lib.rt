@@ -13,11 +13,7 @@ pub mod laws;
 mod line;
 mod number;
 mod properties;
-#[cfg(test)]
-mod properties_tests;
 mod real;
-#[cfg(test)]
-mod tests;
 mod values;
 
 pub use conf::Conf;

@@ -7,8 +7,6 @@
 pub mod laws;
 mod number;
 mod path;
-#[cfg(test)]
-mod tests;
 mod tile;
 mod write;
 

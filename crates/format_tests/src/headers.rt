@@ -1,7 +1,7 @@
 //! Headers as outside tools write them, and worked examples, as tables.
 
-use crate::{BLOCK_LEN, CARD_LEN, Card, Header, HeaderFault, whole_blocks, write_cards};
 use decimal_scale::Decimal;
+use fits_header::{BLOCK_LEN, CARD_LEN, Card, Header, HeaderFault, whole_blocks, write_cards};
 use std::alloc::{AllocError, Global};
 use std::test::Fail;
 

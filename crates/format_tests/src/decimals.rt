@@ -1,6 +1,6 @@
 //! Worked examples, as tables.
 
-use crate::{BadReal, Decimal, plain_decimal, split_sign, whole_number};
+use decimal_scale::{BadReal, Decimal, plain_decimal, split_sign, whole_number};
 use std::alloc::{AllocError, Global};
 use std::test::Fail;
 

@@ -1,10 +1,10 @@
 //! What descriptions answer, and the faults of wrong ones.
-use super::*;
 use itoa::Buffer;
 use parent_rule::Combine;
 use std::alloc::{AllocError, Global};
 use std::process::Abort;
 use std::test::Fail;
+use survey_conf::{Conf, ConfFault, ConfKind, ConfRefusal};
 
 // A description of eight lines.
 const LINES: [&str; 8] = [

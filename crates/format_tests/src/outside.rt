@@ -1,5 +1,5 @@
 //! Files for tools of others, which `scripts/check-fits.sh` hands them.
-use crate::tests::{header, written_again};
+use crate::tile_files::{header, written_again};
 use healpix_nested::Cell;
 use std::alloc::Global;
 use std::test::Fail;

@@ -2,9 +2,9 @@
 ghost use Rattle.std.specs.Prelude.{IsTrue, ◌↔◌};
 ghost use Rattle.tile_path.specs.Spelling.{HasTileOrder};
 
-use super::*;
 use healpix_nested::Cell;
 use std::test::Fail;
+use tile_path::{Path, read_tsv, tsv_into};
 
 const BLANK: [u8; 40] = [b'!'; 40];
 

@@ -1,7 +1,7 @@
 //! Worked examples of the properties of a description.
-use crate::{Conf, ConfRefusal};
 use std::alloc::Global;
 use std::test::Fail;
+use survey_conf::{Conf, ConfRefusal};
 
 const PLAIN: &[u8] = b"creator_did = ivo://example/P/one
 obs_title = Survey one

@@ -1,44 +1,14 @@
 //! Places over a door in memory.
-use crate::{PlaceEnd, serve_place};
-use generation::Generation;
-use leaf_store::Store;
+use crate::surveys::{SURVEY, opened};
+use hips_place::{PlaceEnd, serve_place};
 use log::Log;
 use parent_rule::Steps;
-use reader_pin::Solo;
 use std::alloc::{AllocError, Global};
-use std::sync::{Arc, Wait};
+use std::sync::Wait;
 use std::test::Fail;
 use std::thread::Threads;
 use std::time::Clock;
-use survey_conf::Conf;
-use survey_core::State;
 use survey_link::{MemDoor, MemSink, MemSource, OpenGate};
-
-// A survey of order 4 whose tiles have two columns and two lines of 16 bits.
-static SURVEY: &str = "creator_did = ivo://example/P/one
-obs_title = Survey one
-hips_release_date = 2024-05-01T00:00Z
-hips_status = public master clonable
-hips_order = 4
-hips_tile_width = 2
-survey_bitpix = 16
-survey_blank = -32768
-";
-
-// The board of the survey, without leaves.
-fn opened<R: Threads + Sync + Clock + Log>(rt: &R, alloc: Global) -> Result<Solo, Fail> {
-    let conf = Arc::new(alloc, Conf::read(alloc, SURVEY.as_bytes())?)?;
-    let generation = Generation::start(
-        rt,
-        alloc,
-        conf,
-        Store::new(alloc),
-        &OpenGate::new(),
-        &mut Steps::new(),
-    )?;
-    let state = State::start(alloc, Arc::new(alloc, generation)?)?;
-    Ok(Solo::new(alloc, state)?)
-}
 
 static PIN: &[u8] = b"POST /pin HTTP/1.1\r\nHost: a\r\n\r\n";
 
@@ -76,7 +46,7 @@ fn place<R: Threads + Wait + Sync + Clock + Log>(
     most: u32,
     fails: u64,
 ) -> Result<(PlaceEnd, usize), Fail> {
-    let mut board = opened(rt, alloc)?;
+    let mut board = opened(rt, alloc, SURVEY)?;
     let mut door = door_of(alloc, fails)?;
     let end = serve_place(
         rt,

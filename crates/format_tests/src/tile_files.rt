@@ -1,7 +1,7 @@
 //! Tile files as outside tools write them, and worked examples.
 ghost use Rattle.std.specs.Prelude.{◌≡◌, IfOk, length};
 
-use crate::{body_room, decode, encode_image, encode_into, file_len};
+use fits_tile::{body_room, decode, encode_image, encode_into, file_len};
 use healpix_nested::Cell;
 use parent_rule::Steps;
 use std::alloc::{AllocError, Global};
