@@ -23,25 +23,46 @@ fn spread(random: u32) -> i64 {
     i64::from(random).wrapping_mul(-7046029254386353131)
 }
 
-// The number at a place of a row of a kind, of which only the low bytes are stored.
-fn number(kind: usize, place: usize, places: usize, depth: Depth, random: u32) -> i64 {
-    let blank = depth.blank();
-    let other = spread(random);
-    let is_blank = match kind {
+// Whether the number at a place of a row of a kind is blank.
+fn is_blank(kind: usize, place: usize, places: usize, random: u32) -> bool {
+    match kind {
         1 => place < 2 || places <= place.saturating_add(2),
         2 => place % 16 < 6,
         3 => random % 3 == 0,
         4 => true,
         _ => false,
-    };
-    match kind {
-        5 if place % 2 == 0 => i64::MIN >> (64 - depth.bitpix()),
-        5 => i64::MAX >> (64 - depth.bitpix()),
-        6 if place % 2 == 0 => blank.wrapping_sub(1),
-        6 => blank.wrapping_add(1),
-        _ if is_blank => blank,
-        _ => other,
     }
+}
+
+// The least number of the type, and the greatest, by turns.
+fn end_of_type(place: usize, depth: Depth) -> i64 {
+    let end = if place % 2 == 0 { i64::MIN } else { i64::MAX };
+    end >> (64 - depth.bitpix())
+}
+
+// The number before the blank one, and the one after it, by turns.
+fn beside_blank(place: usize, depth: Depth) -> i64 {
+    let blank = depth.blank();
+    if place % 2 == 0 {
+        blank.wrapping_sub(1)
+    } else {
+        blank.wrapping_add(1)
+    }
+}
+
+// The number at a place of a row of a kind, of which only the low bytes are stored.
+fn number(kind: usize, place: usize, places: usize, depth: Depth, random: u32) -> i64 {
+    match kind {
+        5 => end_of_type(place, depth),
+        6 => beside_blank(place, depth),
+        _ if is_blank(kind, place, places, random) => depth.blank(),
+        _ => spread(random),
+    }
+}
+
+// The last bytes of some, as many as a number has.
+fn low_bytes(bytes: &[u8], width: usize) -> &[u8] {
+    &bytes[bytes.len().saturating_sub(width)..]
 }
 
 // A row of a kind, as bytes.
@@ -57,12 +78,7 @@ fn row(
     for place in 0..places {
         random = random.wrapping_mul(1664525).wrapping_add(1013904223);
         let bytes = number(kind, place, places, depth, random >> 3).to_be_bytes();
-        match depth.bytes() {
-            1 => row.extend_from_slice(&bytes[7..])?,
-            2 => row.extend_from_slice(&bytes[6..])?,
-            4 => row.extend_from_slice(&bytes[4..])?,
-            _ => row.extend_from_slice(&bytes)?,
-        }
+        row.extend_from_slice(low_bytes(&bytes, depth.bytes()))?;
     }
     Ok(row)
 }
