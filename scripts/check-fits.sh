@@ -1,6 +1,6 @@
 #!/bin/sh
 # Has tools of others check the FITS files that this repository writes: one tile file of each depth is printed by a test of
-# format_tests, and two coverage files by a test of coverage_moc, both `prints_files_for_tools_of_others`. The tools are Debian's
+# format_tests, and two coverage files by a test of edit_tests, both `prints_files_for_tools_of_others`. The tools are Debian's
 # fitsverify and python3-astropy (install-tools.sh). Where one is missing this fails if CI=true, and else says what was left
 # out.
 cd "$(dirname "$0")/.." || exit 1
@@ -46,7 +46,7 @@ print("check-fits: fitsverify and astropy accept the tile files of each depth")
 PYTHON
 [ $? -eq 0 ] || exit 1
 
-(cd crates/coverage_moc && rt try --test) >"$folder/printed" 2>&1
+(cd crates/edit_tests && rt try --test) >"$folder/printed" 2>&1
 "$python" - "$folder" <<'PYTHON'
 import re
 import subprocess

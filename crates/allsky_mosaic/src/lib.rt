@@ -8,8 +8,6 @@ mod bands;
 mod making;
 mod patching;
 mod square;
-#[cfg(test)]
-mod tests;
 
 pub use making::whole;
 pub use patching::patch;

@@ -10,13 +10,9 @@ mod file;
 pub mod laws;
 mod leaves;
 mod merge;
-#[cfg(test)]
-mod outside_tests;
 pub mod plain;
 mod refusal;
 mod rows;
-#[cfg(test)]
-mod tests;
 mod tree;
 
 pub use cover::Cover;

@@ -11,8 +11,6 @@ mod judge;
 pub mod laws;
 mod newest;
 mod notes;
-#[cfg(test)]
-mod tests;
 
 pub use edit::Edit;
 pub use fault::{BatchFault, BatchRefusal, EditFault, EditRefusal, StartRefusal};

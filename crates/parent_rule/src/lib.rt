@@ -14,8 +14,6 @@ mod mean_32;
 mod mean_8;
 mod median;
 mod permit;
-#[cfg(test)]
-mod tests;
 
 pub use combine::Combine;
 pub use depth::Depth;

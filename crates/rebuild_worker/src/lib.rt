@@ -9,8 +9,6 @@ mod named;
 mod parallel;
 mod permits;
 mod serial;
-#[cfg(test)]
-mod tests;
 
 pub use named::Named;
 pub use parallel::level_parallel;

@@ -3,12 +3,11 @@
 //! A `Tile` keeps its pixels as the bytes that a FITS file stores; `Tile::merge` makes the tile above four tiles, quadrant
 //! by quadrant and line by line; a `Block` is a tile's square of numbers, which can be halved. Numbers of 8, 16 and
 //! 32 bits are combined at their own width by loops over whole rows (`means`, `medians`, `halved`), those of 64 bits by
-//! `parent_rule::mean_rows`.
+//! `parent_rule::mean_rows`. `store_row_above` and `combine_rows` run the loop of a depth; `store_plain` is the plain
+//! program of the first.
 #![tactic(auto)]
 
 mod above;
-#[cfg(test)]
-mod above_tests;
 mod block;
 mod byte_means;
 mod full_means;
@@ -16,14 +15,12 @@ mod halved;
 mod means;
 mod medians;
 mod merge;
-#[cfg(test)]
-mod merge_tests;
 mod row;
 mod stored;
-#[cfg(test)]
-mod tests;
 mod tile;
 
+pub use above::{store_plain, store_row_above};
 pub use block::Block;
-pub use row::write_row;
+pub use halved::combine_rows;
+pub use row::{read_row, write_row};
 pub use tile::Tile;
