@@ -11,10 +11,8 @@ mod tcp_door;
 mod tcp_in;
 mod tcp_out;
 
+pub use again::again;
 pub use refusal::Refusal;
-pub use tcp_door::{TcpDoor, tcp_doors};
+pub use tcp_door::{TcpDoor, patient_doors, tcp_doors};
 pub use tcp_in::TcpIn;
 pub use tcp_out::TcpOut;
-
-#[cfg(test)]
-mod tests;

@@ -1,0 +1,299 @@
+//! Connections of `tcp_link` over the loopback device.
+use log::Log;
+use std::alloc::{AllocError, Global};
+use std::cell::Cell;
+use std::io::{ErrorKind, Read, Write};
+use std::net::{Net, TcpListener, TcpStream};
+use std::process::Abort;
+use std::sync::Wait;
+use std::test::Fail;
+use std::time::Duration;
+use std::{io, thread};
+use survey_link::{Door, DoorFault, Failed, Sink, Source, write_all_parts, write_whole};
+use tcp_link::{Refusal, TcpDoor, TcpIn, TcpOut, again, patient_doors, tcp_doors};
+
+// Any free port of the loopback device.
+static FREE: &str = "127.0.0.1:0";
+
+// What a door and its checks need of the runtime.
+trait Outside: Net<Listener = TcpListener, Stream = TcpStream>
+    + Wait
+    + Log
+    + Abort
+    + AllocGlobal
+    + Clone
+    + Drop {}
+
+impl<R> Outside for R
+where
+    R: Net<Listener = TcpListener, Stream = TcpStream>
+        + Wait
+        + Log
+        + Abort
+        + AllocGlobal
+        + Clone
+        + Drop,
+{}
+
+// A connection and its client.
+#[derive(Drop)]
+struct Met {
+    client: TcpStream,
+    input: TcpIn,
+    output: TcpOut,
+}
+
+// The connection of a client that has just come to the door.
+fn meet<R: Outside>(rt: &R, door: &mut TcpDoor<R>) -> Result<Met, Fail> {
+    let client = TcpStream::connect(rt, door.listen()?)?;
+    match door.accept()? {
+        Some((input, output)) => Ok(Met {
+            client,
+            input,
+            output,
+        }),
+        None => Err(Fail::new("no connection")),
+    }
+}
+
+// How many bytes a reading gives; `None` where it fails.
+fn read_some<S: Source>(source: &mut S) -> Option<usize> {
+    source.read(&mut [0; 8]).ok()
+}
+
+// What the client says comes in.
+fn check_heard(rt: &impl Abort, met: &mut Met) -> Result<(), Fail> {
+    met.client.write_all(b"ask")?;
+    let mut buf = [0; 8];
+    let count = met.input.read(&mut buf)?;
+    assert!(rt; &buf[..count] == b"ask".as_slice());
+    Ok(())
+}
+
+// Writes `one two three` both ways.
+fn reply<K: Sink>(sink: &mut K) -> Result<(), Failed> {
+    write_whole(sink, b"one ")?;
+    write_all_parts(sink, [b"tw", b"", b"o thr", b"ee"])?;
+    sink.flush()
+}
+
+// The client gets this reply and no more.
+fn check_reply<R: AllocGlobal + Abort>(
+    rt: &R,
+    client: &mut TcpStream,
+    reply: &str,
+) -> Result<(), Fail> {
+    let mut got = String::new(rt.alloc());
+    client.read_to_string(&mut got)?;
+    assert_eq!(rt; got.as_str(), reply);
+    Ok(())
+}
+
+// Gives the connection back, and answers the client.
+fn end<D: Door<In = TcpIn, Out = TcpOut>>(door: &mut D, met: Met) -> TcpStream {
+    let Met {
+        client,
+        input,
+        output,
+    } = met;
+    door.done(input, output);
+    client
+}
+
+#[test]
+fn a_reply_goes_back(rt: HostRuntime) -> Result<(), Fail> {
+    let mut doors = tcp_doors(&rt, FREE, 2)?;
+    assert_eq!(rt; doors.len(), 2);
+    // the second door takes what comes to the first one's listener
+    let place = doors[0].listen()?;
+    assert!(rt; doors[1].listen()? == place);
+    check_conversation(&rt, &mut doors[1])?;
+    assert_eq!(rt; doors[1].faults(), 0);
+    assert!(rt; doors[1].refusal().is_none());
+    Ok(())
+}
+
+fn check_conversation<R: Outside>(rt: &R, door: &mut TcpDoor<R>) -> Result<(), Fail> {
+    let mut met = meet(rt, door)?;
+    check_heard(rt, &mut met)?;
+    reply(&mut met.output)?;
+    check_reply(rt, &mut end(door, met), "one two three")
+}
+
+// What nobody reads before the connection is closed.
+fn say_too_much(met: &mut Met) -> Result<(), Fail> {
+    met.client.write_all(&[0; 100_000])?;
+    write_whole(&mut met.output, b"too long")?;
+    Ok(())
+}
+
+#[test]
+fn a_reply_is_read_to_its_end(rt: HostRuntime) -> Result<(), Fail> {
+    let mut doors = tcp_doors(&rt, FREE, 1)?;
+    let mut met = meet(&rt, &mut doors[0])?;
+    say_too_much(&mut met)?;
+    check_reply(&rt, &mut end(&mut doors[0], met), "too long")
+}
+
+// Writes a reply of 64 MB, of which the buffers on the way hold a few.
+fn send_much<K: Sink>(sink: &mut K) -> Result<(), Failed> {
+    for _ in 0..1000 {
+        write_whole(sink, &[0; 65_536])?;
+    }
+    Ok(())
+}
+
+// A client that says nothing, and then some bytes of a body.
+fn check_silence(rt: &impl Abort, met: &mut Met) -> Result<(), Fail> {
+    assert_eq!(rt; read_some(&mut met.input), None);
+    met.client.write_all(b"abc")?;
+    assert_eq!(rt; read_some(&mut met.input), Some(3));
+    assert_eq!(rt; read_some(&mut met.input), None);
+    Ok(())
+}
+
+#[test]
+fn a_silent_client_gives_its_place_back(rt: HostRuntime) -> Result<(), Fail> {
+    let mut doors = patient_doors(&rt, FREE, 1, Duration::from_millis(50))?;
+    // in the middle of a body
+    check_silence(&rt, &mut meet(&rt, &mut doors[0])?)?;
+    // in the middle of a reply
+    let mut met = meet(&rt, &mut doors[0])?;
+    assert!(rt; send_much(&mut met.output).is_err());
+    assert_eq!(rt; doors[0].faults(), 0);
+    Ok(())
+}
+
+// A connection whose client said something, was replied to, and has gone without reading that.
+fn left_behind<R: Outside>(
+    rt: &R,
+    door: &mut TcpDoor<R>,
+    said: &[u8],
+    replied: &[u8],
+) -> Result<(TcpIn, TcpOut), Fail> {
+    let mut met = meet(rt, door)?;
+    met.client.write_all(said)?;
+    write_whole(&mut met.output, replied)?;
+    let Met {
+        client: _client,
+        input,
+        output,
+    } = met;
+    Ok((input, output))
+}
+
+#[test]
+fn a_client_goes_away(rt: HostRuntime) -> Result<(), Fail> {
+    let mut doors = tcp_doors(&rt, FREE, 1)?;
+    // in the middle of a body
+    let (mut input, mut output) = left_behind(&rt, &mut doors[0], b"abc", b"")?;
+    assert_eq!(rt; read_some(&mut input), Some(3));
+    assert_eq!(rt; read_some(&mut input), Some(0));
+    // in the middle of a reply
+    assert!(rt; send_much(&mut output).is_err());
+    // with a reply that it hasn't read
+    let (mut input, _output) = left_behind(&rt, &mut doors[0], b"", b"abc")?;
+    assert_eq!(rt; read_some(&mut input), None);
+    assert_eq!(rt; doors[0].faults(), 0);
+    Ok(())
+}
+
+// The text of what the door was refused.
+fn refusal_of<R>(alloc: Global, door: &TcpDoor<R>) -> Result<String, AllocError> {
+    match door.refusal() {
+        Some(refusal) => format!(in alloc; "{refusal}"),
+        None => Ok(String::new(alloc)),
+    }
+}
+
+fn check_refused<R: Outside>(rt: &R, address: &str) -> Result<(), Fail> {
+    let mut doors = tcp_doors(rt, address, 2)?;
+    assert!(rt; matches!(doors[0].accept(), Err(DoorFault::Failed)));
+    assert!(rt; matches!(doors[0].listen(), Err(DoorFault::Failed)));
+    assert_eq!(rt; doors[0].faults(), 2);
+    assert_eq!(rt;
+        refusal_of(rt.alloc(), &doors[0])?.as_str(),
+        "can't listen: Address already in use (os error 98)"
+    );
+    assert_eq!(rt; doors[1].faults(), 0);
+    Ok(())
+}
+
+// A client comes to the address, and the server closes the connection.
+fn check_closed<R: Outside>(rt: &R, address: &str) -> Result<(), Fail> {
+    let mut doors = tcp_doors(rt, address, 1)?;
+    let met = meet(rt, &mut doors[0])?;
+    let mut client = end(&mut doors[0], met);
+    assert_eq!(rt; client.read(&mut [0; 8])?, 0);
+    Ok(())
+}
+
+#[test]
+fn an_address_in_use(rt: HostRuntime) -> Result<(), Fail> {
+    let other = TcpListener::bind(&rt, FREE)?;
+    let address = format!(in rt.alloc(); "{}", other.local_addr()?)?;
+    check_refused(&rt, address.as_str())?;
+    drop(other);
+    // free again at once, also after a connection that the server closed
+    for _ in 0..2 {
+        check_closed(&rt, address.as_str())?;
+    }
+    Ok(())
+}
+
+fn check_no_address<R: Outside>(rt: &R, address: &str) -> Result<(), Fail> {
+    let mut doors = tcp_doors(rt, address, 1)?;
+    assert!(rt;
+        matches!(doors[0].accept(), Err(DoorFault::Failed)),
+        "{address}"
+    );
+    assert_eq!(rt; doors[0].faults(), 1);
+    assert!(rt;
+        matches!(doors[0].refusal(), Some(Refusal::Listen(_))),
+        "{address}"
+    );
+    Ok(())
+}
+
+#[test]
+fn what_is_no_address(rt: HostRuntime) -> Result<(), Fail> {
+    for address in ["", "127.0.0.1", "127.0.0.1:65536"] {
+        check_no_address(&rt, address)?;
+    }
+    Ok(())
+}
+
+#[test]
+fn doors_in_threads_share_a_listener(rt: HostRuntime) -> Result<(), Fail> {
+    let places = thread::map_vec(
+        &rt,
+        tcp_doors(&rt, FREE, 4)?,
+        &|mut door| door.listen().ok(),
+    )?;
+    assert_eq!(rt; places.len(), 4);
+    assert!(rt; places[0].is_some());
+    assert!(rt; places.iter().all(|place| *place == places[0]));
+    Ok(())
+}
+
+// A call whose first answer is an error of this kind and whose second is a number.
+fn answers_second(kind: ErrorKind, calls: &Cell<u32>) -> io::Result<u32> {
+    calls.set(calls.get().saturating_add(1));
+    if calls.get() == 1 {
+        Err(kind.into())
+    } else {
+        Ok(calls.get())
+    }
+}
+
+fn answer_of(kind: ErrorKind) -> Option<u32> {
+    let calls = Cell::new(0);
+    again(|| answers_second(kind, &calls)).ok()
+}
+
+#[test]
+fn an_accept_is_made_again(rt: HostRuntime) {
+    assert_eq!(rt; answer_of(ErrorKind::Interrupted), Some(2));
+    assert_eq!(rt; answer_of(ErrorKind::ConnectionAborted), Some(2));
+    assert_eq!(rt; answer_of(ErrorKind::ConnectionReset), None);
+}
