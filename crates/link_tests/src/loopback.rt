@@ -10,7 +10,8 @@ use std::test::Fail;
 use std::time::Duration;
 use std::{io, thread};
 use survey_link::{Door, DoorFault, Failed, Sink, Source, write_all_parts, write_whole};
-use tcp_link::{Refusal, TcpDoor, TcpIn, TcpOut, again, patient_doors, tcp_doors};
+use tcp_link::again::again;
+use tcp_link::{Refusal, TcpDoor, TcpIn, TcpOut, patient_doors, tcp_doors};
 
 // Any free port of the loopback device.
 static FREE: &str = "127.0.0.1:0";
