@@ -62,20 +62,21 @@ fn read_some<S: Source>(source: &mut S) -> Option<usize> {
     source.read(&mut [0; 8]).ok()
 }
 
-// What the client says comes in.
-fn check_heard(rt: &impl Abort, met: &mut Met) -> Result<(), Fail> {
-    met.client.write_all(b"ask")?;
-    let mut buf = [0; 8];
-    let count = met.input.read(&mut buf)?;
-    assert!(rt; &buf[..count] == b"ask".as_slice());
-    Ok(())
-}
-
 // Writes `one two three` both ways.
 fn reply<K: Sink>(sink: &mut K) -> Result<(), Failed> {
     write_whole(sink, b"one ")?;
     write_all_parts(sink, [b"tw", b"", b"o thr", b"ee"])?;
     sink.flush()
+}
+
+// What the client says comes in, and is replied to.
+fn check_heard(rt: &impl Abort, met: &mut Met) -> Result<(), Fail> {
+    met.client.write_all(b"ask")?;
+    let mut buf = [0; 8];
+    let count = met.input.read(&mut buf)?;
+    assert!(rt; &buf[..count] == b"ask".as_slice());
+    reply(&mut met.output)?;
+    Ok(())
 }
 
 // The client gets this reply and no more.
@@ -108,17 +109,12 @@ fn a_reply_goes_back(rt: HostRuntime) -> Result<(), Fail> {
     // the second door takes what comes to the first one's listener
     let place = doors[0].listen()?;
     assert!(rt; doors[1].listen()? == place);
-    check_conversation(&rt, &mut doors[1])?;
+    let mut met = meet(&rt, &mut doors[1])?;
+    check_heard(&rt, &mut met)?;
+    check_reply(&rt, &mut end(&mut doors[1], met), "one two three")?;
     assert_eq!(rt; doors[1].faults(), 0);
     assert!(rt; doors[1].refusal().is_none());
     Ok(())
-}
-
-fn check_conversation<R: Outside>(rt: &R, door: &mut TcpDoor<R>) -> Result<(), Fail> {
-    let mut met = meet(rt, door)?;
-    check_heard(rt, &mut met)?;
-    reply(&mut met.output)?;
-    check_reply(rt, &mut end(door, met), "one two three")
 }
 
 // What nobody reads before the connection is closed.
@@ -242,24 +238,19 @@ fn an_address_in_use(rt: HostRuntime) -> Result<(), Fail> {
     Ok(())
 }
 
-fn check_no_address<R: Outside>(rt: &R, address: &str) -> Result<(), Fail> {
-    let mut doors = tcp_doors(rt, address, 1)?;
-    assert!(rt;
-        matches!(doors[0].accept(), Err(DoorFault::Failed)),
-        "{address}"
-    );
-    assert_eq!(rt; doors[0].faults(), 1);
-    assert!(rt;
-        matches!(doors[0].refusal(), Some(Refusal::Listen(_))),
-        "{address}"
-    );
-    Ok(())
-}
-
 #[test]
 fn what_is_no_address(rt: HostRuntime) -> Result<(), Fail> {
     for address in ["", "127.0.0.1", "127.0.0.1:65536"] {
-        check_no_address(&rt, address)?;
+        let mut doors = tcp_doors(&rt, address, 1)?;
+        assert!(rt;
+            matches!(doors[0].accept(), Err(DoorFault::Failed)),
+            "{address}"
+        );
+        assert_eq!(rt; doors[0].faults(), 1);
+        assert!(rt;
+            matches!(doors[0].refusal(), Some(Refusal::Listen(_))),
+            "{address}"
+        );
     }
     Ok(())
 }
