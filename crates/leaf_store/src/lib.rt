@@ -9,12 +9,8 @@ mod chunk;
 mod level;
 mod page;
 mod pairs;
-#[cfg(test)]
-mod plain;
 mod slot;
 mod store;
-#[cfg(test)]
-mod tests;
 
 pub use pairs::Pairs;
 pub use store::Store;

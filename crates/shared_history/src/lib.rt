@@ -12,8 +12,6 @@ mod seat;
 mod shared_history;
 mod showing;
 mod shown;
-#[cfg(test)]
-mod tests;
 mod window;
 
 pub use book::{Blank, Law, Naming};

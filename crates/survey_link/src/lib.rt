@@ -39,6 +39,3 @@ pub use sink::{Sink, write_all_parts, write_whole};
 pub use source::Source;
 pub use stream::{StreamSink, StreamSource};
 pub use sure_source::SureSource;
-
-#[cfg(test)]
-mod tests;

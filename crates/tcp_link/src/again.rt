@@ -6,8 +6,12 @@ ghost use Rattle.tcp_link.specs.Tcp.{passes};
 use std::io;
 use std::io::ErrorKind;
 
-/// Makes a call again while what it is refused for passes.
-pub(crate) fn again<T, F: Fn() -> io::Result<T> + Drop>(call: F) -> io::Result<T>
+/// Makes a call again while what it is refused for passes: the system interrupted it, or the client that it was for has gone.
+///
+/// # Errors
+///
+/// What the call was refused for, where that doesn't pass.
+pub fn again<T, F: Fn() -> io::Result<T> + Drop>(call: F) -> io::Result<T>
     requires { F.IsAlwaysCallable call }
     ensures lasts { IfErr result (λ error. passes (error_kind error) ≡ false) }
 {

@@ -4,7 +4,7 @@
 //! halves of one stream. They count their faults and tell nothing of what passes: what the system does is trusted.
 #![tactic(auto)]
 
-mod again;
+pub mod again;
 mod listening;
 mod refusal;
 mod tcp_door;
@@ -12,9 +12,6 @@ mod tcp_in;
 mod tcp_out;
 
 pub use refusal::Refusal;
-pub use tcp_door::{TcpDoor, tcp_doors};
+pub use tcp_door::{TcpDoor, patient_doors, tcp_doors};
 pub use tcp_in::TcpIn;
 pub use tcp_out::TcpOut;
-
-#[cfg(test)]
-mod tests;

@@ -59,8 +59,12 @@ pub fn tcp_doors<R: AllocGlobal + Clone + Drop>(
     patient_doors(rt, address, count, Duration::from_secs(PATIENCE))
 }
 
-/// As `tcp_doors`, of doors whose clients may be silent for so long.
-pub(crate) fn patient_doors<R: AllocGlobal + Clone + Drop>(
+/// As `tcp_doors`, of doors whose clients may be silent, or take nothing, for so long.
+///
+/// # Errors
+///
+/// As for `tcp_doors`.
+pub fn patient_doors<R: AllocGlobal + Clone + Drop>(
     rt: &R,
     address: &str,
     count: usize,

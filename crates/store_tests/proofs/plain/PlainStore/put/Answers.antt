@@ -4,7 +4,7 @@ use Rattle.std.specs.Arc.{arc_value}
 use Rattle.leaf_store.specs.Store.{value_at, with_value}
 use Rattle.leaf_store.specs.Entries.{pairs_of}
 use Rattle.leaf_store.proofs.PairLemmas.{ascending_pairs, value_of_pairs, pairs_of-insert_entry, other_stays}
-use Rattle.leaf_store.proofs.plain.PlainStore.put.Goals as goal
+use Rattle.store_tests.proofs.plain.PlainStore.put.Goals as goal
 
 pub invariant_of-self-2 : goal.invariant_of-self-2
 invariant_of-self-2 g c = ascending_pairs c.insert.new.self.entries c.insert.ensures.ordered

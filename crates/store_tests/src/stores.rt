@@ -1,8 +1,8 @@
 //! What a store answers: by tables, beside the plain store, and with keys in any order.
 ghost use Rattle.std.specs.Prelude.{◌<◌};
 
-use super::*;
 use crate::plain::PlainStore;
+use leaf_store::Store;
 use std::alloc::{AllocError, Global};
 use std::process::Abort;
 use std::sync::Arc;

@@ -1,20 +1,40 @@
-//! Connections over the loopback device.
-use super::*;
-use crate::again::again;
-use crate::tcp_door::patient_doors;
+//! Connections of `tcp_link` over the loopback device.
 use log::Log;
 use std::alloc::{AllocError, Global};
 use std::cell::Cell;
 use std::io::{ErrorKind, Read, Write};
 use std::net::{Net, TcpListener, TcpStream};
+use std::process::Abort;
 use std::sync::Wait;
 use std::test::Fail;
 use std::time::Duration;
 use std::{io, thread};
 use survey_link::{Door, DoorFault, Failed, Sink, Source, write_all_parts, write_whole};
+use tcp_link::again::again;
+use tcp_link::{Refusal, TcpDoor, TcpIn, TcpOut, patient_doors, tcp_doors};
 
 // Any free port of the loopback device.
 static FREE: &str = "127.0.0.1:0";
+
+// What a door and its checks need of the runtime.
+trait Outside: Net<Listener = TcpListener, Stream = TcpStream>
+    + Wait
+    + Log
+    + Abort
+    + AllocGlobal
+    + Clone
+    + Drop {}
+
+impl<R> Outside for R
+where
+    R: Net<Listener = TcpListener, Stream = TcpStream>
+        + Wait
+        + Log
+        + Abort
+        + AllocGlobal
+        + Clone
+        + Drop,
+{}
 
 // A connection and its client.
 #[derive(Drop)]
@@ -25,10 +45,7 @@ struct Met {
 }
 
 // The connection of a client that has just come to the door.
-fn meet<R>(rt: &R, door: &mut TcpDoor<R>) -> Result<Met, Fail>
-where
-    R: Net<Listener = TcpListener, Stream = TcpStream> + Wait + Log + Drop,
-{
+fn meet<R: Outside>(rt: &R, door: &mut TcpDoor<R>) -> Result<Met, Fail> {
     let client = TcpStream::connect(rt, door.listen()?)?;
     match door.accept()? {
         Some((input, output)) => Ok(Met {
@@ -45,6 +62,46 @@ fn read_some<S: Source>(source: &mut S) -> Option<usize> {
     source.read(&mut [0; 8]).ok()
 }
 
+// Writes `one two three` both ways.
+fn reply<K: Sink>(sink: &mut K) -> Result<(), Failed> {
+    write_whole(sink, b"one ")?;
+    write_all_parts(sink, [b"tw", b"", b"o thr", b"ee"])?;
+    sink.flush()
+}
+
+// What the client says comes in, and is replied to.
+fn check_heard(rt: &impl Abort, met: &mut Met) -> Result<(), Fail> {
+    met.client.write_all(b"ask")?;
+    let mut buf = [0; 8];
+    let count = met.input.read(&mut buf)?;
+    assert!(rt; &buf[..count] == b"ask".as_slice());
+    reply(&mut met.output)?;
+    Ok(())
+}
+
+// The client gets this reply and no more.
+fn check_reply<R: AllocGlobal + Abort>(
+    rt: &R,
+    client: &mut TcpStream,
+    reply: &str,
+) -> Result<(), Fail> {
+    let mut got = String::new(rt.alloc());
+    client.read_to_string(&mut got)?;
+    assert_eq!(rt; got.as_str(), reply);
+    Ok(())
+}
+
+// Gives the connection back, and answers the client.
+fn end<D: Door<In = TcpIn, Out = TcpOut>>(door: &mut D, met: Met) -> TcpStream {
+    let Met {
+        client,
+        input,
+        output,
+    } = met;
+    door.done(input, output);
+    client
+}
+
 #[test]
 fn a_reply_goes_back(rt: HostRuntime) -> Result<(), Fail> {
     let mut doors = tcp_doors(&rt, FREE, 2)?;
@@ -52,43 +109,27 @@ fn a_reply_goes_back(rt: HostRuntime) -> Result<(), Fail> {
     // the second door takes what comes to the first one's listener
     let place = doors[0].listen()?;
     assert!(rt; doors[1].listen()? == place);
-    let Met {
-        mut client,
-        mut input,
-        mut output,
-    } = meet(&rt, &mut doors[1])?;
-    client.write_all(b"ask")?;
-    let mut buf = [0; 8];
-    let count = input.read(&mut buf)?;
-    assert!(rt; &buf[..count] == b"ask".as_slice());
-    write_whole(&mut output, b"one ")?;
-    write_all_parts(&mut output, [b"tw", b"", b"o thr", b"ee"])?;
-    output.flush()?;
-    doors[1].done(input, output);
-    let mut reply = String::new(rt.alloc());
-    client.read_to_string(&mut reply)?;
-    assert_eq!(rt; reply.as_str(), "one two three");
+    let mut met = meet(&rt, &mut doors[1])?;
+    check_heard(&rt, &mut met)?;
+    check_reply(&rt, &mut end(&mut doors[1], met), "one two three")?;
     assert_eq!(rt; doors[1].faults(), 0);
     assert!(rt; doors[1].refusal().is_none());
+    Ok(())
+}
+
+// What nobody reads before the connection is closed.
+fn say_too_much(met: &mut Met) -> Result<(), Fail> {
+    met.client.write_all(&[0; 100_000])?;
+    write_whole(&mut met.output, b"too long")?;
     Ok(())
 }
 
 #[test]
 fn a_reply_is_read_to_its_end(rt: HostRuntime) -> Result<(), Fail> {
     let mut doors = tcp_doors(&rt, FREE, 1)?;
-    let Met {
-        mut client,
-        input,
-        mut output,
-    } = meet(&rt, &mut doors[0])?;
-    // what nobody reads before the connection is closed
-    client.write_all(&[0; 100_000])?;
-    write_whole(&mut output, b"too long")?;
-    doors[0].done(input, output);
-    let mut reply = String::new(rt.alloc());
-    client.read_to_string(&mut reply)?;
-    assert_eq!(rt; reply.as_str(), "too long");
-    Ok(())
+    let mut met = meet(&rt, &mut doors[0])?;
+    say_too_much(&mut met)?;
+    check_reply(&rt, &mut end(&mut doors[0], met), "too long")
 }
 
 // Writes a reply of 64 MB, of which the buffers on the way hold a few.
@@ -99,15 +140,20 @@ fn send_much<K: Sink>(sink: &mut K) -> Result<(), Failed> {
     Ok(())
 }
 
-#[test]
-fn a_silent_client_gives_its_place_back(rt: HostRuntime) -> Result<(), Fail> {
-    let mut doors = patient_doors(&rt, FREE, 1, Duration::from_millis(50))?;
-    let mut met = meet(&rt, &mut doors[0])?;
+// A client that says nothing, and then some bytes of a body.
+fn check_silence(rt: &impl Abort, met: &mut Met) -> Result<(), Fail> {
     assert_eq!(rt; read_some(&mut met.input), None);
-    // in the middle of a body
     met.client.write_all(b"abc")?;
     assert_eq!(rt; read_some(&mut met.input), Some(3));
     assert_eq!(rt; read_some(&mut met.input), None);
+    Ok(())
+}
+
+#[test]
+fn a_silent_client_gives_its_place_back(rt: HostRuntime) -> Result<(), Fail> {
+    let mut doors = patient_doors(&rt, FREE, 1, Duration::from_millis(50))?;
+    // in the middle of a body
+    check_silence(&rt, &mut meet(&rt, &mut doors[0])?)?;
     // in the middle of a reply
     let mut met = meet(&rt, &mut doors[0])?;
     assert!(rt; send_much(&mut met.output).is_err());
@@ -115,22 +161,36 @@ fn a_silent_client_gives_its_place_back(rt: HostRuntime) -> Result<(), Fail> {
     Ok(())
 }
 
+// A connection whose client said something, was replied to, and has gone without reading that.
+fn left_behind<R: Outside>(
+    rt: &R,
+    door: &mut TcpDoor<R>,
+    said: &[u8],
+    replied: &[u8],
+) -> Result<(TcpIn, TcpOut), Fail> {
+    let mut met = meet(rt, door)?;
+    met.client.write_all(said)?;
+    write_whole(&mut met.output, replied)?;
+    let Met {
+        client: _client,
+        input,
+        output,
+    } = met;
+    Ok((input, output))
+}
+
 #[test]
 fn a_client_goes_away(rt: HostRuntime) -> Result<(), Fail> {
     let mut doors = tcp_doors(&rt, FREE, 1)?;
     // in the middle of a body
-    let mut met = meet(&rt, &mut doors[0])?;
-    met.client.write_all(b"abc")?;
-    drop(met.client);
-    assert_eq!(rt; read_some(&mut met.input), Some(3));
-    assert_eq!(rt; read_some(&mut met.input), Some(0));
+    let (mut input, mut output) = left_behind(&rt, &mut doors[0], b"abc", b"")?;
+    assert_eq!(rt; read_some(&mut input), Some(3));
+    assert_eq!(rt; read_some(&mut input), Some(0));
     // in the middle of a reply
-    assert!(rt; send_much(&mut met.output).is_err());
+    assert!(rt; send_much(&mut output).is_err());
     // with a reply that it hasn't read
-    let mut met = meet(&rt, &mut doors[0])?;
-    write_whole(&mut met.output, b"abc")?;
-    drop(met.client);
-    assert_eq!(rt; read_some(&mut met.input), None);
+    let (mut input, _output) = left_behind(&rt, &mut doors[0], b"", b"abc")?;
+    assert_eq!(rt; read_some(&mut input), None);
     assert_eq!(rt; doors[0].faults(), 0);
     Ok(())
 }
@@ -143,31 +203,37 @@ fn refusal_of<R>(alloc: Global, door: &TcpDoor<R>) -> Result<String, AllocError>
     }
 }
 
-#[test]
-fn an_address_in_use(rt: HostRuntime) -> Result<(), Fail> {
-    let alloc = rt.alloc();
-    let other = TcpListener::bind(&rt, FREE)?;
-    let address = format!(in alloc; "{}", other.local_addr()?)?;
-    let mut doors = tcp_doors(&rt, address.as_str(), 2)?;
+fn check_refused<R: Outside>(rt: &R, address: &str) -> Result<(), Fail> {
+    let mut doors = tcp_doors(rt, address, 2)?;
     assert!(rt; matches!(doors[0].accept(), Err(DoorFault::Failed)));
     assert!(rt; matches!(doors[0].listen(), Err(DoorFault::Failed)));
     assert_eq!(rt; doors[0].faults(), 2);
     assert_eq!(rt;
-        refusal_of(alloc, &doors[0])?.as_str(),
+        refusal_of(rt.alloc(), &doors[0])?.as_str(),
         "can't listen: Address already in use (os error 98)"
     );
     assert_eq!(rt; doors[1].faults(), 0);
+    Ok(())
+}
+
+// A client comes to the address, and the server closes the connection.
+fn check_closed<R: Outside>(rt: &R, address: &str) -> Result<(), Fail> {
+    let mut doors = tcp_doors(rt, address, 1)?;
+    let met = meet(rt, &mut doors[0])?;
+    let mut client = end(&mut doors[0], met);
+    assert_eq!(rt; client.read(&mut [0; 8])?, 0);
+    Ok(())
+}
+
+#[test]
+fn an_address_in_use(rt: HostRuntime) -> Result<(), Fail> {
+    let other = TcpListener::bind(&rt, FREE)?;
+    let address = format!(in rt.alloc(); "{}", other.local_addr()?)?;
+    check_refused(&rt, address.as_str())?;
     drop(other);
     // free again at once, also after a connection that the server closed
     for _ in 0..2 {
-        let mut doors = tcp_doors(&rt, address.as_str(), 1)?;
-        let Met {
-            mut client,
-            input,
-            output,
-        } = meet(&rt, &mut doors[0])?;
-        doors[0].done(input, output);
-        assert_eq!(rt; client.read(&mut [0; 8])?, 0);
+        check_closed(&rt, address.as_str())?;
     }
     Ok(())
 }

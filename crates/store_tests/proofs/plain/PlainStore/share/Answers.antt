@@ -1,7 +1,7 @@
 use Rattle.std.proofs.Common.{ℕ, List, sym, ◌∙◌, subst}
 use Rattle.leaf_store.specs.Store.{IsAscending}
 use Rattle.leaf_store.proofs.PairLemmas.{cloned_pairs}
-use Rattle.leaf_store.proofs.plain.PlainStore.share.Goals as goal
+use Rattle.store_tests.proofs.plain.PlainStore.share.Goals as goal
 
 pub invariant_of-result : goal.invariant_of-result
 invariant_of-result g c = let P : List (ℕ × g.row.T.Denot) → Type 0 = λ pairs. IsAscending pairs in subst P (sym (cloned_pairs c.self.inside.entries.entries c.in_ok-entries.entries.entries c.in_ok-entries.ensures.cases)) c.self.invariant

@@ -1,7 +1,7 @@
 //! A history of plain numbers.
 ghost use Rattle.std.specs.Prelude.{◌≡◌};
 
-use crate::{Blank, Law, Naming, Seat, SharedHistory, Shown};
+use shared_history::{Blank, Law, Naming, Seat, SharedHistory, Shown, Window};
 use std::alloc::{AllocError, Global};
 use std::marker::Brand;
 use std::process::Abort;
@@ -49,15 +49,48 @@ fn appended<J: Naming, R: Wait + Abort>(
 ) -> Result<(), Fail> {
     let (mut window, first) = seat.into_parts();
     assert_eq!(rt; seen(&first), (1, 7));
-    assert!(rt; window.look(&first).is_none());
+    check_first(rt, history, &mut window, &first)
+}
+
+// Only the first number was appended.
+fn check_first<J: Naming, R: Wait + Abort>(
+    rt: &R,
+    history: &SharedHistory<u64, Numbers, J>,
+    window: &mut Window<u64, Numbers, J>,
+    first: &Shown<u64, Numbers, J>,
+) -> Result<(), Fail> {
+    assert!(rt; window.look(first).is_none());
     let second = add(rt, history, 9)?;
-    assert_eq!(rt; seen(&second), (2, 9));
+    check_second(rt, history, window, first, &second)
+}
+
+// The second number was appended too, and wasn't looked for.
+fn check_second<J: Naming, R: Wait + Abort>(
+    rt: &R,
+    history: &SharedHistory<u64, Numbers, J>,
+    window: &mut Window<u64, Numbers, J>,
+    first: &Shown<u64, Numbers, J>,
+    second: &Shown<u64, Numbers, J>,
+) -> Result<(), Fail> {
+    assert_eq!(rt; seen(second), (2, 9));
     add(rt, history, 8)?;
-    let third = window.look(&first).ok_or("nothing was shown")?;
-    assert_eq!(rt; seen(&third), (3, 8));
-    assert_eq!(rt; more(&first, &second)?, Some((2, 9)));
-    assert_eq!(rt; more(&third, &third)?, None);
-    assert!(rt; more(&third, &second).is_err());
+    match window.look(first) {
+        Some(third) => check_third(rt, first, second, &third),
+        None => Err("nothing was shown".into()),
+    }
+}
+
+// All three were seen.
+fn check_third<J: Naming>(
+    rt: &impl Abort,
+    first: &Shown<u64, Numbers, J>,
+    second: &Shown<u64, Numbers, J>,
+    third: &Shown<u64, Numbers, J>,
+) -> Result<(), Fail> {
+    assert_eq!(rt; seen(third), (3, 8));
+    assert_eq!(rt; more(first, second)?, Some((2, 9)));
+    assert_eq!(rt; more(third, third)?, None);
+    assert!(rt; more(third, second).is_err());
     Ok(())
 }
 

@@ -6,7 +6,7 @@ use Rattle.std.specs.Ordering.{nat_cmp}
 use Rattle.std.specs.BTreeMap.{is_at}
 use Rattle.leaf_store.specs.Entries.{pairs_of}
 use Rattle.leaf_store.proofs.PairLemmas.{ascending_pairs, value_of_pairs, pairs_of-remove_entry, other_stays}
-use Rattle.leaf_store.proofs.plain.PlainStore.remove.Goals as goal
+use Rattle.store_tests.proofs.plain.PlainStore.remove.Goals as goal
 
 pub invariant_of-self : goal.invariant_of-self
 invariant_of-self g c = ascending_pairs c.remove.new.self.entries c.remove.ensures.ordered

@@ -1,14 +1,16 @@
-//! Each form once, through the trait it meets.
+//! Each form of `survey_link` once, through the trait it meets.
 ghost use Rattle.std.specs.Prelude.{◌<◌, length};
 ghost use Rattle.survey_link.specs.Link.{parts_bytes};
 
-mod folder_shelf;
-
-use super::*;
 use std::alloc::{AllocError, Global};
 use std::io;
 use std::io::{ErrorKind, Read, Write};
 use std::test::Fail;
+use survey_link::{
+    Door, DoorFault, Failed, Gate, LinkFault, MemDoor, MemShelf, MemSink, MemSource, NullSink,
+    OpenGate, Shelf, Sink, Source, StreamSink, StreamSource, SureSource, write_all_parts,
+    write_whole,
+};
 
 // What comes until the end, and how many reads failed on the way.
 fn drain<S: Source>(
@@ -131,8 +133,8 @@ fn count<H: Shelf>(alloc: Global, shelf: &mut H) -> Result<usize, LinkFault> {
     Ok(shelf.list(alloc)?.len())
 }
 
-// Whether these bytes stand at the path.
-fn holds<H: Shelf>(
+/// Whether these bytes stand at the path.
+pub(crate) fn holds<H: Shelf>(
     alloc: Global,
     shelf: &mut H,
     path: &str,
@@ -144,7 +146,8 @@ fn holds<H: Shelf>(
     }
 }
 
-fn lacks<H: Shelf>(alloc: Global, shelf: &mut H, path: &str) -> Result<bool, LinkFault> {
+/// Whether nothing stands at the path.
+pub(crate) fn lacks<H: Shelf>(alloc: Global, shelf: &mut H, path: &str) -> Result<bool, LinkFault> {
     Ok(shelf.get(alloc, path)?.is_none())
 }
 

@@ -1,0 +1,259 @@
+//! A shelf over the folder that the test runs in; all that it writes lies below the folder `shelf`, or in the file `twice`.
+use crate::forms::{holds, lacks};
+use std::alloc::{Allocator, Global};
+use std::cell::Cell;
+use std::fs::{Metadata, OpenOptions};
+use std::io::ErrorKind;
+use std::rt::Files;
+use std::test::Fail;
+use std::{fs, io};
+use survey_link::{FolderShelf, LinkFault, Shelf};
+
+// Each line: a word, a path, and a text or a number.
+static STEPS: &str = "\
+lacks shelf/a/b -
+removed shelf/a/b -
+put shelf/a/b one
+put shelf/c two
+put shelf/d.fits three
+listed - 3
+holds shelf/a/b one
+put shelf/c four
+holds shelf/c four
+holds shelf/a/b one
+listed - 3
+removed shelf/d.fits -
+lacks shelf/d.fits -
+listed - 2
+faults - 0
+left shelf/c.unfinished ha
+left shelf/e.unfinished ha
+listed - 2
+holds shelf/c four
+put shelf/c five
+gone shelf/c.unfinished -
+holds shelf/c five
+removed shelf/c -
+lacks shelf/c -
+lacks shelf/a/b/c -
+removed shelf/a/b/c -
+faults - 0
+unreadable shelf/a -
+faults - 1
+unwritable shelf/a x
+faults - 2
+gone shelf/a.unfinished -
+unwritable shelf/a/b/c x
+faults - 3
+unreadable shelf/e.unfinished -
+unwritable shelf/e.unfinished x
+unwritable ../shelf-x x
+unreadable shelf/../shelf/a/b -
+faults - 7
+holds shelf/a/b one
+listed - 1
+";
+
+// How many of the files that are listed lie in the folder `shelf`.
+fn count<H: Shelf>(alloc: Global, shelf: &mut H) -> Result<usize, LinkFault> {
+    let paths = shelf.list(alloc)?;
+    let ours = paths
+        .iter()
+        .filter(|path| path.as_str().starts_with("shelf/"));
+    Ok(ours.count())
+}
+
+// Whether the step goes as its word says.
+fn goes<R: Files + AllocGlobal + Clone + Drop>(
+    rt: &R,
+    shelf: &mut FolderShelf<R>,
+    word: &str,
+    path: &str,
+    text: &str,
+) -> bool {
+    let alloc = rt.alloc();
+    match word {
+        "put" => shelf.put(path, text.as_bytes()).is_ok(),
+        "holds" => holds(alloc, shelf, path, text.as_bytes()).unwrap_or(false),
+        "lacks" => lacks(alloc, shelf, path).unwrap_or(false),
+        "removed" => shelf.remove(path).is_ok(),
+        "listed" => count(alloc, shelf).ok() == text.parse::<usize>().ok(),
+        "faults" => Some(shelf.faults()) == text.parse::<u64>().ok(),
+        "unreadable" => shelf.get(alloc, path).is_err(),
+        "unwritable" => shelf.put(path, text.as_bytes()).is_err(),
+        "left" => fs::write(rt, path, text).is_ok(),
+        "gone" => matches!(fs::exists(rt, path), Ok(false)),
+        _ => false,
+    }
+}
+
+#[test]
+fn files_lie_in_a_folder(rt: HostRuntime) -> Result<(), Fail> {
+    let _ = fs::remove_dir_all(&rt, "shelf");
+    let mut shelf = FolderShelf::here(rt.clone()?);
+    for line in STEPS.lines() {
+        let mut words = line.split(' ');
+        let (word, path, text) = (words.next(), words.next(), words.next());
+        let went = match (word, path, text) {
+            (Some(word), Some(path), Some(text)) => goes(&rt, &mut shelf, word, path, text),
+            _ => false,
+        };
+        assert!(rt; went, "{line}");
+    }
+    fs::remove_dir_all(&rt, "shelf")?;
+    Ok(())
+}
+
+// Each line: whether a file on the shelf may have the path that follows in brackets.
+static PATHS: &str = "\
+yes [Moc.fits]
+yes [Norder3/Dir0/Npix7.fits]
+yes [a.unfinished/b]
+yes [..a/b..]
+yes [.a]
+no []
+no [/a]
+no [a/]
+no [a//b]
+no [.]
+no [./a]
+no [a/./b]
+no [..]
+no [../a]
+no [a/..]
+no [a/../b]
+no [a/b.unfinished]
+no [.unfinished]
+";
+
+// A runtime that refuses the first opening of a file by an error of this kind, and counts them.
+#[derive(Drop)]
+struct Opens<'a, R> {
+    rt: &'a R,
+    refusal: ErrorKind,
+    count: Cell<u32>,
+}
+
+impl<'a, R> Opens<'a, R> {
+    fn new(rt: &'a R, refusal: ErrorKind) -> Opens<'a, R> {
+        Opens {
+            rt,
+            refusal,
+            count: Cell::new(0),
+        }
+    }
+}
+
+impl<'a, R: Alloc> Alloc for Opens<'a, R> {
+    type A = R::A;
+
+    fn alloc(&self) -> R::A {
+        self.rt.alloc()
+    }
+}
+
+impl<'a, R: Files> Files for Opens<'a, R> {
+    type File = R::File;
+
+    type Dir = R::Dir;
+
+    fn open_file(&self, how: &OpenOptions, path: &str) -> io::Result<R::File> {
+        self.count.set(self.count.get().saturating_add(1));
+        if self.count.get() == 1 {
+            return Err(self.refusal.into());
+        }
+        self.rt.open_file(how, path)
+    }
+
+    fn open_dir(&self, path: &str) -> io::Result<R::Dir> {
+        self.rt.open_dir(path)
+    }
+
+    fn metadata(&self, path: &str) -> io::Result<Metadata> {
+        self.rt.metadata(path)
+    }
+
+    fn symlink_metadata(&self, path: &str) -> io::Result<Metadata> {
+        self.rt.symlink_metadata(path)
+    }
+
+    fn copy(&self, from: &str, to: &str) -> io::Result<u64> {
+        self.rt.copy(from, to)
+    }
+
+    fn rename(&self, from: &str, to: &str) -> io::Result<()> {
+        self.rt.rename(from, to)
+    }
+
+    fn remove_file(&self, path: &str) -> io::Result<()> {
+        self.rt.remove_file(path)
+    }
+
+    fn create_dir(&self, path: &str) -> io::Result<()> {
+        self.rt.create_dir(path)
+    }
+
+    fn remove_dir(&self, path: &str) -> io::Result<()> {
+        self.rt.remove_dir(path)
+    }
+
+    fn remove_dir_all<B: Allocator>(&self, alloc: B, path: &str) -> io::Result<()> {
+        self.rt.remove_dir_all(alloc, path)
+    }
+}
+
+// What a shelf answers to `get` where the first opening is refused by an error of this kind, and how many there were.
+fn answer_of<R: Files + AllocGlobal>(
+    rt: &R,
+    refusal: ErrorKind,
+    path: &str,
+) -> (&'static str, u32) {
+    let opens = Opens::new(rt, refusal);
+    let answer = match FolderShelf::here(&opens).get(rt.alloc(), path) {
+        Ok(Some(_)) => "there",
+        Ok(None) => "absent",
+        Err(LinkFault::OutOfMemory) => "out of memory",
+        Err(LinkFault::Failed) => "failed",
+    };
+    (answer, opens.count.get())
+}
+
+// Whether the shelf looks for a file with that path, which it doesn't find. Where it doesn't look it fails.
+fn is_looked_for<R: Files + AllocGlobal>(rt: &R, path: &str) -> Option<bool> {
+    match answer_of(rt, ErrorKind::NotFound, path) {
+        ("absent", 1) => Some(true),
+        ("failed", 0) => Some(false),
+        _ => None,
+    }
+}
+
+#[test]
+fn paths_that_stay_in_the_folder(rt: HostRuntime) {
+    for line in PATHS.lines() {
+        let may = match line.split_once(" [") {
+            Some((_, path)) => is_looked_for(&rt, path.trim_end_matches(']')),
+            None => None,
+        };
+        assert!(rt; may == Some(line.starts_with("yes")), "{line}");
+    }
+    assert!(rt; is_looked_for(&rt, "a\0b") == Some(false));
+}
+
+// Each kind of error by which the first opening is refused, what the shelf answers, and how often it opens the file.
+static REFUSALS: [(ErrorKind, &str, u32); 4] = [
+    (ErrorKind::Interrupted, "there", 2),
+    (ErrorKind::NotFound, "absent", 1),
+    (ErrorKind::OutOfMemory, "out of memory", 1),
+    (ErrorKind::IsADirectory, "failed", 1),
+];
+
+#[test]
+fn an_interrupted_call_is_made_again(rt: HostRuntime) -> Result<(), Fail> {
+    fs::write(&rt, "twice", "two")?;
+    for (refusal, answer, count) in &REFUSALS {
+        let (given, opened) = answer_of(&rt, *refusal, "twice");
+        assert!(rt; given == *answer && opened == *count, "{answer}");
+    }
+    fs::remove_file(&rt, "twice")?;
+    Ok(())
+}
