@@ -1,11 +1,11 @@
 //! A survey through the board of its only connection.
-use crate::calls::check;
+use crate::calls::check_all;
 use crate::survey::first_state;
 use reader_pin::Solo;
 use std::test::Fail;
 
 // A call, what is answered, the last state seen then, and the one that is held.
-const CALLS: &str = "pin|||0 0 0|none
+static CALLS: &str = "pin|||0 0 0|none
 publish||already 0 by 0|0 0 0|none
 edit|P 0|1 true|1 0 0|none
 pin|||1 0 0|none
@@ -32,8 +32,5 @@ publish||already 7 by 0|7 7 2|none";
 fn a_survey_has_one_board(rt: HostRuntime) -> Result<(), Fail> {
     let alloc = rt.alloc();
     let mut board = Solo::new(alloc, first_state(&rt, alloc)?)?;
-    for line in CALLS.lines() {
-        check(&rt, alloc, &mut board, line)?;
-    }
-    Ok(())
+    check_all(&rt, alloc, &mut board, CALLS)
 }

@@ -11,7 +11,7 @@ use survey_link::OpenGate;
 use tile_pixels::Tile;
 
 /// A call of a board.
-#[derive(Clone, Copy, Debug)]
+#[derive(Clone, Copy)]
 pub(crate) enum Call {
     /// One edit.
     Edit(Asked),
@@ -24,7 +24,7 @@ pub(crate) enum Call {
 }
 
 /// An edit: 0 to put, 1 to add, 2 to replace, 3 to remove, and the leaf.
-#[derive(Clone, Copy, Debug)]
+#[derive(Clone, Copy)]
 pub(crate) struct Asked {
     pub(crate) kind: u32,
     pub(crate) leaf: u32,
@@ -55,7 +55,7 @@ impl Asked {
 }
 
 /// What a board answers.
-#[derive(Clone, Copy, Debug)]
+#[derive(Clone, Copy)]
 pub(crate) enum Answer {
     /// An edit or a batch is accepted: how many edits there are then, and whether the leaf of the only edit was absent.
     Accepted(u32, Option<bool>),
@@ -66,7 +66,7 @@ pub(crate) enum Answer {
 }
 
 /// How many edits a state has, and how many of them are published.
-#[derive(Clone, Copy, Debug, PartialEq, Eq)]
+#[derive(Clone, Copy, PartialEq, Eq)]
 pub(crate) struct Seen {
     pub(crate) edits: u32,
     pub(crate) tip: u32,
@@ -83,7 +83,7 @@ impl Seen {
 }
 
 /// A call, what was answered, the last state seen then, and the one that is held.
-#[derive(Clone, Copy, Debug)]
+#[derive(Clone, Copy)]
 pub(crate) struct Told {
     pub(crate) call: Call,
     pub(crate) answer: Answer,
@@ -93,7 +93,7 @@ pub(crate) struct Told {
 
 // What the board answers to an edit.
 fn edited<B: Board, R: Wait>(rt: &R, board: &mut B, edit: Edit) -> Option<Answer> {
-    if !fits(board, &edit) {
+    if !fits(board.last(), &edit) {
         return None;
     }
     match board.edit(rt, edit) {
@@ -105,7 +105,7 @@ fn edited<B: Board, R: Wait>(rt: &R, board: &mut B, edit: Edit) -> Option<Answer
 
 // What it answers to a batch.
 fn batched<B: Board, R: Wait>(rt: &R, board: &mut B, edits: Vec<Edit>) -> Option<Answer> {
-    if edits.is_empty() || edits.len() > 1024 || !all_fit(board, &edits) {
+    if edits.is_empty() || edits.len() > 1024 || !all_fit(board.last(), &edits) {
         return None;
     }
     match board.batch(rt, edits) {
@@ -117,12 +117,27 @@ fn batched<B: Board, R: Wait>(rt: &R, board: &mut B, edits: Vec<Edit>) -> Option
     }
 }
 
+// What it answers to a publication.
+fn published<B: Board, R: Threads + Wait + Sync>(rt: &R, board: &mut B) -> Option<Answer> {
+    match board.publish(rt, &OpenGate::new(), &mut Steps::new()) {
+        Ok(published) => Some(Answer::Published(published)),
+        Err(_) => None,
+    }
+}
+
+// Appends the edits of a batch.
+fn push_edits(edits: &mut Vec<Edit>, first: Asked, count: u32, tile: &Arc<Tile>) -> Option<()> {
+    for at in 0..count {
+        let edit = first.behind(at).edit(tile)?;
+        edits.push(edit).ok()?;
+    }
+    Some(())
+}
+
 // The edits of a batch.
 fn batch_of(alloc: Global, first: Asked, count: u32, tile: &Arc<Tile>) -> Option<Vec<Edit>> {
     let mut edits = Vec::new(alloc);
-    for at in 0..count {
-        edits.push(first.behind(at).edit(tile)?).ok()?;
-    }
+    push_edits(&mut edits, first, count, tile)?;
     Some(edits)
 }
 
@@ -139,10 +154,7 @@ pub(crate) fn made<B: Board, R: Threads + Wait + Sync>(
         Call::Batch(first, count) => {
             return batched(rt, board, batch_of(alloc, first, count, tile)?);
         }
-        Call::Publish => {
-            let published = board.publish(rt, &OpenGate::new(), &mut Steps::new()).ok()?;
-            return Some(Answer::Published(published));
-        }
+        Call::Publish => return published(rt, board),
         Call::Pin => board.pin(),
         Call::Hold => board.hold(),
         Call::Release => board.release(),

@@ -15,21 +15,30 @@ use survey_link::OpenGate;
 pub(crate) fn edit(alloc: Global, depth: Depth, text: &str) -> Result<Edit, Fail> {
     let (letter, leaf) = text.split_once(' ').ok_or("no leaf")?;
     let leaf = leaf.parse::<u64>()?;
+    if letter == "D" {
+        return Ok(Edit::Remove { leaf });
+    }
     let tile = tile(alloc, depth)?;
-    Ok(match letter {
-        "A" => Edit::Add { leaf, tile },
-        "R" => Edit::Replace { leaf, tile },
-        "D" => Edit::Remove { leaf },
-        _ => Edit::Put { leaf, tile },
-    })
+    match letter {
+        "A" => Ok(Edit::Add { leaf, tile }),
+        "R" => Ok(Edit::Replace { leaf, tile }),
+        _ => Ok(Edit::Put { leaf, tile }),
+    }
 }
 
-// The edits that stand in a text, with commas between them.
+// Appends the edits that stand in a text, with commas between them.
+fn push_edits(alloc: Global, edits: &mut Vec<Edit>, depth: Depth, text: &str) -> Result<(), Fail> {
+    for part in text.split(',') {
+        let edit = edit(alloc, depth, part)?;
+        edits.push(edit)?;
+    }
+    Ok(())
+}
+
+// The edits of a text.
 fn edits(alloc: Global, depth: Depth, text: &str) -> Result<Vec<Edit>, Fail> {
     let mut edits = Vec::new(alloc);
-    for part in text.split(',') {
-        edits.push(edit(alloc, depth, part)?)?;
-    }
+    push_edits(alloc, &mut edits, depth, text)?;
     Ok(edits)
 }
 
@@ -40,7 +49,7 @@ fn told_of_edit<B: Board, R: Wait>(
     board: &mut B,
     edit: Edit,
 ) -> Result<String, AllocError> {
-    if !fits(board, &edit) {
+    if !fits(board.last(), &edit) {
         return format!(in alloc; "no edit");
     }
     match board.edit(rt, edit) {
@@ -59,7 +68,7 @@ fn told_of_batch<B: Board, R: Wait>(
     board: &mut B,
     edits: Vec<Edit>,
 ) -> Result<String, AllocError> {
-    if edits.is_empty() || edits.len() > 1024 || !all_fit(board, &edits) {
+    if edits.is_empty() || edits.len() > 1024 || !all_fit(board.last(), &edits) {
         return format!(in alloc; "no batch");
     }
     match board.batch(rt, edits) {
@@ -87,6 +96,28 @@ fn told_of_publication<B: Board, R: Threads + Wait + Sync>(
     }
 }
 
+// What it answers to the edit of a text.
+fn told_of_edit_text<B: Board, R: Wait>(
+    rt: &R,
+    alloc: Global,
+    board: &mut B,
+    text: &str,
+) -> Result<String, Fail> {
+    let edit = edit(alloc, board.last().conf().shape().depth, text)?;
+    Ok(told_of_edit(rt, alloc, board, edit)?)
+}
+
+// What it answers to the batch of a text.
+fn told_of_batch_text<B: Board, R: Wait>(
+    rt: &R,
+    alloc: Global,
+    board: &mut B,
+    text: &str,
+) -> Result<String, Fail> {
+    let edits = edits(alloc, board.last().conf().shape().depth, text)?;
+    Ok(told_of_batch(rt, alloc, board, edits)?)
+}
+
 // What it answers to a call by its word.
 fn told<B: Board, R: Threads + Wait + Sync>(
     rt: &R,
@@ -95,16 +126,9 @@ fn told<B: Board, R: Threads + Wait + Sync>(
     word: &str,
     rest: &str,
 ) -> Result<String, Fail> {
-    let depth = board.last().conf().shape().depth;
     match word {
-        "edit" => {
-            let edit = edit(alloc, depth, rest)?;
-            return Ok(told_of_edit(rt, alloc, board, edit)?);
-        }
-        "batch" => {
-            let edits = edits(alloc, depth, rest)?;
-            return Ok(told_of_batch(rt, alloc, board, edits)?);
-        }
+        "edit" => return told_of_edit_text(rt, alloc, board, rest),
+        "batch" => return told_of_batch_text(rt, alloc, board, rest),
         "publish" => return Ok(told_of_publication(rt, alloc, board)?),
         "hold" => board.hold(),
         "release" => board.release(),
@@ -114,18 +138,37 @@ fn told<B: Board, R: Threads + Wait + Sync>(
 }
 
 // How many edits a state has, how many of them are published, and how many leaves these leave.
-fn shown(alloc: Global, state: Option<&State>) -> Result<String, AllocError> {
-    match state {
-        Some(state) => {
-            let leaves = state.generation().leaves().len();
-            format!(in alloc; "{} {} {leaves}", state.edits(), state.tip())
-        }
-        None => format!(in alloc; "none"),
+fn shown(alloc: Global, state: &State) -> Result<String, AllocError> {
+    let leaves = state.generation().leaves().len();
+    format!(in alloc; "{} {} {leaves}", state.edits(), state.tip())
+}
+
+// Appends what the board shows of the last state seen, and of the one that is held.
+fn push_shown<B: Board>(alloc: Global, told: &mut String, board: &B) -> Result<(), AllocError> {
+    told.push_str("|")?;
+    told.push_str(&shown(alloc, board.last())?)?;
+    told.push_str("|")?;
+    match board.held() {
+        Some(state) => told.push_str(&shown(alloc, state)?),
+        None => told.push_str("none"),
     }
 }
 
-// Makes the call of a line, and compares what is answered, the last state seen then, and the one that is held.
-pub(crate) fn check<B: Board, R: Threads + Wait + Abort + Sync>(
+// What is answered to a call, the last state seen then, and the one that is held.
+fn found<B: Board, R: Threads + Wait + Sync>(
+    rt: &R,
+    alloc: Global,
+    board: &mut B,
+    word: &str,
+    rest: &str,
+) -> Result<String, Fail> {
+    let mut told = told(rt, alloc, board, word, rest)?;
+    push_shown(alloc, &mut told, board)?;
+    Ok(told)
+}
+
+// Makes the call of a line, and compares what is found.
+fn check<B: Board, R: Threads + Wait + Abort + Sync>(
     rt: &R,
     alloc: Global,
     board: &mut B,
@@ -133,10 +176,20 @@ pub(crate) fn check<B: Board, R: Threads + Wait + Abort + Sync>(
 ) -> Result<(), Fail> {
     let (word, rest) = line.split_once('|').ok_or("no word")?;
     let (rest, expected) = rest.split_once('|').ok_or("no answer")?;
-    let answer = told(rt, alloc, board, word, rest)?;
-    let last = shown(alloc, Some(board.last()))?;
-    let held = shown(alloc, board.held())?;
-    let found = format!(in alloc; "{answer}|{last}|{held}")?;
+    let found = found(rt, alloc, board, word, rest)?;
     assert!(rt; found.as_str() == expected, "{line}: {found}");
+    Ok(())
+}
+
+/// Makes the calls of some lines, and compares what is answered, the last state seen then, and the one that is held.
+pub(crate) fn check_all<B: Board, R: Threads + Wait + Abort + Sync>(
+    rt: &R,
+    alloc: Global,
+    board: &mut B,
+    lines: &str,
+) -> Result<(), Fail> {
+    for line in lines.lines() {
+        check(rt, alloc, board, line)?;
+    }
     Ok(())
 }

@@ -19,6 +19,7 @@ mod shared;
 mod storm;
 mod story;
 mod survey;
+mod teller;
 
 use std::test::Fail;
 use story::play;

@@ -1,6 +1,6 @@
 //! One history, and whether it explains what boards told.
 use crate::calling::{Answer, Asked, Call, Seen, Told};
-use edit_journal::Edit;
+use edit_journal::{Edit, Journal};
 use reader_pin::Published;
 use std::alloc::{AllocError, Global};
 use std::test::Fail;
@@ -66,38 +66,72 @@ fn asked(edit: &Edit) -> Option<Asked> {
     Some(Asked { kind, leaf })
 }
 
+// Whether that many edits are not fewer than one state has, and not more than another.
+fn is_between(before: Seen, edits: u32, last: Seen) -> bool {
+    before.edits <= edits && edits <= last.edits
+}
+
+// Whether a state may follow another.
+fn rises(before: Seen, last: Seen) -> bool {
+    before.edits <= last.edits && before.tip <= last.tip && last.tip <= last.edits
+}
+
+// What a board holds after a call.
+fn held_after(held: Option<Seen>, told: &Told) -> Option<Seen> {
+    match told.call {
+        Call::Hold => Some(told.last),
+        Call::Release => None,
+        _ => held,
+    }
+}
+
+// What was asked for by the edit behind so many; none of the four kinds where there is none.
+fn asked_behind(journal: &Journal, k: u32) -> Asked {
+    let edit = match journal.edit(k) {
+        Some(edit) => asked(edit),
+        None => None,
+    };
+    edit.unwrap_or(Asked { kind: 4, leaf: 0 })
+}
+
+// What the history is after so many edits, which leave these leaves.
+fn place_at(journal: &Journal, k: u32, leaves: u32) -> Place {
+    Place {
+        edit: asked_behind(journal, k),
+        leaves,
+        is_end: journal.is_end(k),
+        made: 0,
+        published: 0,
+        is_tip: false,
+        least: u32::MAX,
+        most: 0,
+    }
+}
+
+// Appends what the history is after each number of edits.
+fn push_places(places: &mut Vec<Place>, journal: &Journal) -> Result<(), AllocError> {
+    let mut leaves = 0;
+    for k in 0..=journal.len() {
+        let place = place_at(journal, k, leaves);
+        places.push(place)?;
+        leaves = after(leaves, place.edit);
+    }
+    Ok(())
+}
+
 impl Replay {
     /// The history that leads to a state.
     pub(crate) fn of(alloc: Global, state: &State) -> Result<Replay, AllocError> {
-        let journal = state.journal();
         let mut places = Vec::new(alloc);
-        let mut leaves = 0;
-        for k in 0..=journal.len() {
-            let edit = journal
-                .edit(k)
-                .and_then(asked)
-                .unwrap_or(Asked { kind: 4, leaf: 0 });
-            places.push(Place {
-                edit,
-                leaves,
-                is_end: journal.is_end(k),
-                made: 0,
-                published: 0,
-                is_tip: false,
-                least: u32::MAX,
-                most: 0,
-            })?;
-            leaves = after(leaves, edit);
-        }
-        let last = Seen {
-            edits: state.edits(),
-            tip: state.tip(),
-        };
-        Ok(Replay { places, last })
+        push_places(&mut places, state.journal())?;
+        Ok(Replay {
+            places,
+            last: Seen::of(state),
+        })
     }
 
-    fn place(&self, k: u32) -> Option<Place> {
-        self.places.get(k as usize).copied()
+    fn place(&self, k: u32) -> Option<&Place> {
+        self.places.get(k as usize)
     }
 
     // Whether a batch ends after so many edits.
@@ -178,38 +212,74 @@ impl Replay {
         }
     }
 
-    // Whether the history explains an answer, where that was the last state seen before.
-    fn explains(&mut self, before: Seen, told: Told) -> bool {
-        let last = told.last;
-        match (told.call, told.answer) {
-            (Call::Edit(edit), Answer::Accepted(number, Some(created))) => {
-                number == last.edits
-                    && number > before.edits
-                    && self.has_batch(edit, 1, number)
+    // Whether the history explains that a batch of so many edits was accepted, where that was the last state seen before.
+    fn has_accepted(
+        &mut self,
+        first: Asked,
+        count: u32,
+        number: u32,
+        before: Seen,
+        last: Seen,
+    ) -> bool {
+        number == last.edits
+            && number >= before.edits.saturating_add(count)
+            && self.has_batch(first, count, number)
+    }
+
+    // Whether it explains what was answered to an edit.
+    fn explains_edit(&mut self, edit: Asked, answer: Answer, before: Seen, last: Seen) -> bool {
+        match answer {
+            Answer::Accepted(number, Some(created)) => {
+                self.has_accepted(edit, 1, number, before, last)
                     && self.was_absent(edit, number) == created
             }
-            (Call::Batch(first, count), Answer::Accepted(number, None)) => {
-                number == last.edits
-                    && number >= before.edits.saturating_add(count)
-                    && self.has_batch(first, count, number)
+            Answer::Fault(at, fault, edits) => {
+                at == 0 && is_between(before, edits, last) && self.has_fault(edit, 0, fault, edits)
             }
-            (Call::Edit(edit), Answer::Fault(at, fault, edits)) => {
-                let is_seen = before.edits <= edits && edits <= last.edits;
-                at == 0 && is_seen && self.has_fault(edit, 0, fault, edits)
+            _ => false,
+        }
+    }
+
+    // Whether it explains what was answered to a batch.
+    fn explains_batch(
+        &mut self,
+        first: Asked,
+        count: u32,
+        answer: Answer,
+        before: Seen,
+        last: Seen,
+    ) -> bool {
+        match answer {
+            Answer::Accepted(number, None) => self.has_accepted(first, count, number, before, last),
+            Answer::Fault(at, fault, edits) => {
+                at < count
+                    && is_between(before, edits, last)
+                    && self.has_fault(first, at, fault, edits)
             }
-            (Call::Batch(first, count), Answer::Fault(at, fault, edits)) => {
-                let is_seen = before.edits <= edits && edits <= last.edits;
-                at < count && is_seen && self.has_fault(first, at, fault, edits)
-            }
-            (Call::Publish, Answer::Published(Published::New(k))) => {
+            _ => false,
+        }
+    }
+
+    // Whether it explains what was answered to a publication.
+    fn explains_publication(&mut self, answer: Answer, before: Seen, last: Seen) -> bool {
+        match answer {
+            Answer::Published(Published::New(k)) => {
                 k == last.tip && k >= before.edits && k > before.tip && self.publish(k)
             }
-            (Call::Publish, Answer::Published(Published::Already(k))) => {
-                k == last.tip && k == last.edits
-            }
-            (Call::Pin, Answer::Nothing) => true,
-            (Call::Hold, Answer::Nothing) | (Call::Release, Answer::Nothing) => last == before,
+            Answer::Published(Published::Already(k)) => k == last.tip && k == last.edits,
             _ => false,
+        }
+    }
+
+    // Whether the history explains an answer, where that was the last state seen before.
+    fn explains(&mut self, before: Seen, told: &Told) -> bool {
+        let (answer, last) = (told.answer, told.last);
+        match told.call {
+            Call::Edit(edit) => self.explains_edit(edit, answer, before, last),
+            Call::Batch(first, count) => self.explains_batch(first, count, answer, before, last),
+            Call::Publish => self.explains_publication(answer, before, last),
+            Call::Pin => matches!(answer, Answer::Nothing),
+            Call::Hold | Call::Release => matches!(answer, Answer::Nothing) && last == before,
         }
     }
 
@@ -222,20 +292,12 @@ impl Replay {
         let mut before = Seen { edits: 0, tip: 0 };
         let mut held = None;
         for told in all {
-            match told.call {
-                Call::Hold => held = Some(told.last),
-                Call::Release => held = None,
-                _ => {}
-            }
-            let last = told.last;
-            self.see(last);
-            let rises = before.edits <= last.edits
-                && before.tip <= last.tip
-                && last.tip <= last.edits;
-            if !rises || held != told.held || !self.explains(before, *told) {
+            held = held_after(held, told);
+            self.see(told.last);
+            if !rises(before, told.last) || held != told.held || !self.explains(before, told) {
                 return Err("the history doesn't explain an answer".into());
             }
-            before = last;
+            before = told.last;
         }
         Ok(())
     }
@@ -249,12 +311,7 @@ impl Replay {
         let mut most = 0;
         let mut k = 0;
         for place in &self.places {
-            if place.made != u32::from(k < self.last.edits) {
-                return Err("an edit was lost, or made twice".into());
-            }
-            if place.published != u32::from(place.is_tip && k > 0) {
-                return Err("a publication was lost, or made twice".into());
-            }
+            self.end_at(k, place)?;
             if place.least < most {
                 return Err("fewer edits were published after more".into());
             }
@@ -263,6 +320,17 @@ impl Replay {
         }
         if most != self.last.tip {
             return Err("the last publication was seen by no board".into());
+        }
+        Ok(())
+    }
+
+    // The edit behind so many was made once, and they were published once, if at all.
+    fn end_at(&self, k: u32, place: &Place) -> Result<(), Fail> {
+        if place.made != u32::from(k < self.last.edits) {
+            return Err("an edit was lost, or made twice".into());
+        }
+        if place.published != u32::from(place.is_tip && k > 0) {
+            return Err("a publication was lost, or made twice".into());
         }
         Ok(())
     }

@@ -1,15 +1,15 @@
 //! A survey through boards of several connections.
 ghost use Rattle.std.specs.Prelude.{◌≡◌, ◌<◌, ◌≤◌};
 
-use crate::calls::{check, edit};
+use crate::calls::{check_all, edit};
 use crate::gates::{CountingGate, EditGate};
 use crate::storm::storm;
 use crate::survey::{first_state, fits};
 use edit_journal::Edit;
 use parent_rule::Steps;
-use reader_pin::{Accepted, Board, Published, Shared, Survey, SurveyBook, SurveySeat, open_shared};
+use reader_pin::{Board, Published, Shared, Survey, SurveyBook, SurveySeat, open_shared};
 use shared_history::Naming;
-use std::alloc::Global;
+use std::alloc::{AllocError, Global};
 use std::marker::Brand;
 use std::process::Abort;
 use std::sync::Wait;
@@ -27,22 +27,31 @@ enum Story {
     ThreeBoards,
 }
 
-// One connection: its board, the edit that it asks for, and what it is answered.
+// One connection: its board, how many edits there are after its own, and what its publication is answered.
 #[derive(Drop)]
 struct Connection<'a, J: Naming> {
     board: Shared<'a, J>,
-    edit: Option<Edit>,
-    accepted: Option<Accepted>,
+    accepted: Option<u32>,
     published: Option<(Published, u64)>,
 }
 
-// What the board answers to an edit; `None` where it isn't accepted, or there is none.
-fn accepted<B: Board, R: Wait>(rt: &R, board: &mut B, edit: Option<Edit>) -> Option<Accepted> {
-    let edit = edit?;
-    if !fits(board, &edit) {
+// How many edits there are after this one; `None` where it isn't accepted.
+fn accepted_one<B: Board, R: Wait>(rt: &R, board: &mut B, edit: Edit) -> Option<u32> {
+    if !fits(board.last(), &edit) {
         return None;
     }
-    board.edit(rt, edit).ok()
+    match board.edit(rt, edit) {
+        Ok(accepted) => Some(accepted.number),
+        Err(_) => None,
+    }
+}
+
+// The same of an edit that others ask for too.
+fn accepted<B: Board, R: Wait>(rt: &R, board: &mut B, edit: &Edit) -> Option<u32> {
+    match edit.clone() {
+        Ok(edit) => accepted_one(rt, board, edit),
+        Err(_) => None,
+    }
 }
 
 // What the board answers to a publication through the gate, and how many tiles that merged.
@@ -52,8 +61,10 @@ fn published<B: Board, G: Gate + Sync, R: Threads + Wait + Sync>(
     gate: &G,
 ) -> Option<(Published, u64)> {
     let mut steps = Steps::new();
-    let published = board.publish(rt, gate, &mut steps).ok()?;
-    Some((published, steps.count()))
+    match board.publish(rt, gate, &mut steps) {
+        Ok(published) => Some((published, steps.count())),
+        Err(_) => None,
+    }
 }
 
 // Whether one of 1,024 pins finds that so many edits are published.
@@ -67,19 +78,16 @@ fn finds<B: Board>(board: &mut B, tip: u32) -> bool {
     false
 }
 
-// Connections at the places of a survey, each of which asks for the same edit.
+// Connections at the places of a survey.
 fn places<'a, J: Naming>(
     alloc: Global,
     survey: &'a Survey<J>,
     seats: Vec<SurveySeat<J>>,
-) -> Result<Vec<Connection<'a, J>>, Fail> {
+) -> Result<Vec<Connection<'a, J>>, AllocError> {
     let mut connections = Vec::new(alloc);
     for seat in seats {
-        let board = Shared::new(alloc, survey, seat);
-        let edit = edit(alloc, board.last().conf().shape().depth, "P 7")?;
         connections.push(Connection {
-            board,
-            edit: Some(edit),
+            board: Shared::new(alloc, survey, seat),
             accepted: None,
             published: None,
         })?;
@@ -88,28 +96,34 @@ fn places<'a, J: Naming>(
 }
 
 // An edit and a publication.
-fn serve<'a, J: Naming, R: Threads + Wait + Sync>(rt: &R, connection: &mut Connection<'a, J>) {
-    connection.accepted = accepted(rt, &mut connection.board, connection.edit.take());
+fn serve<'a, J: Naming, R: Threads + Wait + Sync>(
+    rt: &R,
+    edit: &Edit,
+    connection: &mut Connection<'a, J>,
+) {
+    connection.accepted = accepted(rt, &mut connection.board, edit);
     connection.published = published(rt, &mut connection.board, &OpenGate::new());
 }
 
-// All connections are served, each in a thread of its own; then the first meets each other one. Each edit and each publication
-// is in the history then.
-fn at_once<'a, J: Naming + Send + Sync, R: Threads + Wait + Abort + Sync>(
+// The boards meet: both have seen as many edits then.
+fn meet<'a, J: Naming, R: Abort>(
+    rt: &R,
+    board: &mut Shared<'a, J>,
+    other: &mut Shared<'a, J>,
+) -> Result<(), AllocError> {
+    board.meet(other)?;
+    assert_eq!(rt; board.last().edits(), other.last().edits());
+    Ok(())
+}
+
+// The first board meets each other one. Each edit and each publication is in the history then.
+fn meet_all<'a, J: Naming, R: Abort>(
     rt: &R,
     connections: &mut [Connection<'a, J>],
 ) -> Result<(), Fail> {
-    let threads = connections.len().max(1);
-    for_each_mut(
-        rt,
-        connections,
-        threads,
-        &|_, connection| { serve(rt, connection) },
-    );
     let (first, others) = connections.split_first_mut().ok_or("no connection")?;
     for other in others {
-        first.board.meet(&mut other.board)?;
-        assert_eq!(rt; first.board.last().edits(), other.board.last().edits());
+        meet(rt, &mut first.board, &mut other.board)?;
     }
     let last = first.board.last();
     assert_eq!(rt; last.edits(), 8);
@@ -117,9 +131,26 @@ fn at_once<'a, J: Naming + Send + Sync, R: Threads + Wait + Abort + Sync>(
     Ok(())
 }
 
+// All connections are served, each in a thread of its own; then the boards meet.
+fn at_once<'a, J: Naming + Send + Sync, R: Threads + Wait + Abort + Sync>(
+    rt: &R,
+    edit: &Edit,
+    connections: &mut [Connection<'a, J>],
+) -> Result<(), Fail> {
+    let threads = connections.len().max(1);
+    for_each_mut(
+        rt,
+        connections,
+        threads,
+        &|_, connection| { serve(rt, edit, connection) },
+    );
+    meet_all(rt, connections)
+}
+
 // One publishes, and is held at the gate; another edits meanwhile.
 fn go_on<'a, J: Naming, R: Threads + Wait + Sync>(
     rt: &R,
+    edit: &Edit,
     gate: &EditGate,
     at: usize,
     connection: &mut Connection<'a, J>,
@@ -129,98 +160,155 @@ fn go_on<'a, J: Naming, R: Threads + Wait + Sync>(
         return;
     }
     gate.wait_for_entry();
-    connection.accepted = accepted(rt, &mut connection.board, connection.edit.take());
+    connection.accepted = accepted(rt, &mut connection.board, edit);
     gate.open();
+}
+
+// The first publishes its edit through a gate that is opened by the edit of the other.
+fn pass_together<'a, J: Naming + Send + Sync, R: Threads + Wait + Abort + Sync>(
+    rt: &R,
+    edit: &Edit,
+    connections: &mut [Connection<'a, J>],
+) {
+    let gate = EditGate::new();
+    for_each_mut(
+        rt,
+        connections,
+        2,
+        &|at, connection| { go_on(rt, edit, &gate, at, connection) },
+    );
+    assert!(rt; gate.is_in_time());
+}
+
+// What the two are answered, and what the other publishes then.
+fn answered<'a, J: Naming, R: Threads + Wait + Abort + Sync>(
+    rt: &R,
+    connections: &mut [Connection<'a, J>],
+) -> Result<(), Fail> {
+    let (first, others) = connections.split_first_mut().ok_or("no connection")?;
+    assert!(rt; first.published == Some((Published::New(1), 1)));
+    let other = others.first_mut().ok_or("no other")?;
+    assert!(rt; other.accepted == Some(2));
+    let told = published(rt, &mut other.board, &OpenGate::new());
+    assert!(rt; matches!(told, Some((Published::New(2), _))));
+    Ok(())
 }
 
 // The lock is free while a publication is built.
 fn open_lock<'a, J: Naming + Send + Sync, R: Threads + Wait + Abort + Sync>(
     rt: &R,
+    edit: &Edit,
     connections: &mut [Connection<'a, J>],
 ) -> Result<(), Fail> {
-    let gate = EditGate::new();
     let first = connections.first_mut().ok_or("no connection")?;
-    let number = accepted(rt, &mut first.board, first.edit.take()).map(|told| told.number);
-    assert_eq!(rt; number, Some(1));
-    for_each_mut(
-        rt,
-        connections,
-        2,
-        &|at, connection| { go_on(rt, &gate, at, connection) },
-    );
-    assert!(rt; gate.is_in_time());
-    let (first, others) = connections.split_first_mut().ok_or("no connection")?;
-    assert_eq!(rt; first.published, Some((Published::New(1), 1)));
-    let other = others.first_mut().ok_or("no other")?;
-    assert_eq!(rt; other.accepted.map(|told| told.number), Some(2));
-    let told = published(rt, &mut other.board, &OpenGate::new()).map(|told| told.0);
-    assert_eq!(rt; told, Some(Published::New(2)));
-    Ok(())
+    assert!(rt; accepted(rt, &mut first.board, edit) == Some(1));
+    pass_together(rt, edit, connections);
+    answered(rt, connections)
 }
 
 // What one board answers before the others look.
-const FIRST: &str = "edit|P 0|1 true|1 0 0|none
+static FIRST: &str = "edit|P 0|1 true|1 0 0|none
 publish||new 1 by 1|1 1 1|none
 pin|||1 1 1|none";
 
 // What another answers that holds the opening state.
-const SECOND: &str = "publish||already 1 by 0|1 1 1|0 0 0
+static SECOND: &str = "publish||already 1 by 0|1 1 1|0 0 0
 pin|||1 1 1|0 0 0
 edit|P 7|2 true|2 1 1|0 0 0
 release|||2 1 1|none";
 
 // What a third one answers.
-const THIRD: &str = "pin|||2 1 1|none
+static THIRD: &str = "pin|||2 1 1|none
 edit|P 7|3 false|3 1 1|none";
 
 // Three boards, whose calls come one after another.
-fn three_boards<J: Naming, R: Threads + Wait + Abort + Sync>(
+fn by_turns<'a, J: Naming, R: Threads + Wait + Abort + Sync>(
     rt: &R,
     alloc: Global,
-    survey: &Survey<J>,
-    mut seats: Vec<SurveySeat<J>>,
+    one: &mut Shared<'a, J>,
+    other: &mut Shared<'a, J>,
+    third: &mut Shared<'a, J>,
 ) -> Result<(), Fail> {
-    let mut one = Shared::new(alloc, survey, seats.pop().ok_or("no seat")?);
-    let mut other = Shared::new(alloc, survey, seats.pop().ok_or("no seat")?);
-    let mut third = Shared::new(alloc, survey, seats.pop().ok_or("no seat")?);
     other.hold();
-    check_all(rt, alloc, &mut one, FIRST)?;
-    assert!(rt; finds(&mut other, 1));
-    one.meet(&mut third)?;
+    check_all(rt, alloc, one, FIRST)?;
+    assert!(rt; finds(other, 1));
+    one.meet(third)?;
     assert_eq!(rt; third.last().tip(), 1);
-    check_all(rt, alloc, &mut other, SECOND)?;
-    check_all(rt, alloc, &mut third, THIRD)
+    check_all(rt, alloc, other, SECOND)?;
+    check_all(rt, alloc, third, THIRD)
 }
 
-// One leaf of three is replaced: one tile is merged, and passes the gate.
-fn counted<J: Naming, R: Threads + Wait + Abort + Sync>(
+fn three_boards<'a, J: Naming, R: Threads + Wait + Abort + Sync>(
     rt: &R,
     alloc: Global,
-    survey: &Survey<J>,
-    mut seats: Vec<SurveySeat<J>>,
+    connections: &mut [Connection<'a, J>],
 ) -> Result<(), Fail> {
-    let mut board = Shared::new(alloc, survey, seats.pop().ok_or("no seat")?);
-    check(rt, alloc, &mut board, "batch|A 0,A 4,A 8|3|3 0 0|none")?;
-    check(rt, alloc, &mut board, "publish||new 3 by 3|3 3 3|none")?;
-    check(rt, alloc, &mut board, "edit|R 0|4 false|4 3 3|none")?;
+    let (one, others) = connections.split_first_mut().ok_or("no connection")?;
+    let (other, others) = others.split_first_mut().ok_or("no other")?;
+    let third = others.first_mut().ok_or("no third")?;
+    by_turns(
+        rt,
+        alloc,
+        &mut one.board,
+        &mut other.board,
+        &mut third.board,
+    )
+}
+
+// Three leaves, one of which is replaced.
+static REPLACED: &str = "batch|A 0,A 4,A 8|3|3 0 0|none
+publish||new 3 by 3|3 3 3|none
+edit|R 0|4 false|4 3 3|none";
+
+// One leaf of three is replaced: one tile is merged, and passes the gate.
+fn counted<'a, J: Naming, R: Threads + Wait + Abort + Sync>(
+    rt: &R,
+    alloc: Global,
+    board: &mut Shared<'a, J>,
+) -> Result<(), Fail> {
+    check_all(rt, alloc, board, REPLACED)?;
     let gate = CountingGate::new();
-    let told = published(rt, &mut board, &gate);
-    assert_eq!(rt; told, Some((Published::New(4), 1)));
+    assert!(rt; published(rt, board, &gate) == Some((Published::New(4), 1)));
     assert_eq!(rt; gate.count(), 1);
     Ok(())
 }
 
-// The calls of some lines.
-fn check_all<B: Board, R: Threads + Wait + Abort + Sync>(
+fn counted_at<'a, J: Naming, R: Threads + Wait + Abort + Sync>(
     rt: &R,
     alloc: Global,
-    board: &mut B,
-    lines: &str,
+    connections: &mut [Connection<'a, J>],
 ) -> Result<(), Fail> {
-    for line in lines.lines() {
-        check(rt, alloc, board, line)?;
+    let first = connections.first_mut().ok_or("no connection")?;
+    counted(rt, alloc, &mut first.board)
+}
+
+// What is done by connections that ask for the same edit.
+fn told_of_edit<'a, J: Naming + Send + Sync, R: Threads + Wait + Abort + Sync>(
+    rt: &R,
+    alloc: Global,
+    connections: &mut [Connection<'a, J>],
+    story: Story,
+) -> Result<(), Fail> {
+    let first = connections.first().ok_or("no connection")?;
+    let edit = edit(alloc, first.board.last().conf().shape().depth, "P 7")?;
+    if let Story::AtOnce = story {
+        return at_once(rt, &edit, connections);
     }
-    Ok(())
+    open_lock(rt, &edit, connections)
+}
+
+fn told_by_connections<'a, J: Naming + Send + Sync, R: Threads + Wait + Abort + Sync>(
+    rt: &R,
+    alloc: Global,
+    connections: &mut [Connection<'a, J>],
+    story: Story,
+) -> Result<(), Fail> {
+    match story {
+        Story::AtOnce | Story::OpenLock => told_of_edit(rt, alloc, connections, story),
+        Story::Counted => counted_at(rt, alloc, connections),
+        Story::ThreeBoards => three_boards(rt, alloc, connections),
+        Story::Storm => Err("a storm has no connections".into()),
+    }
 }
 
 fn told_by<J: Naming + Send + Sync, R: Threads + Wait + Abort + Sync>(
@@ -230,13 +318,11 @@ fn told_by<J: Naming + Send + Sync, R: Threads + Wait + Abort + Sync>(
     seats: Vec<SurveySeat<J>>,
     story: Story,
 ) -> Result<(), Fail> {
-    match story {
-        Story::AtOnce => at_once(rt, places(alloc, survey, seats)?.as_mut_slice()),
-        Story::Counted => counted(rt, alloc, survey, seats),
-        Story::OpenLock => open_lock(rt, places(alloc, survey, seats)?.as_mut_slice()),
-        Story::Storm => storm(rt, alloc, survey, seats),
-        Story::ThreeBoards => three_boards(rt, alloc, survey, seats),
+    if let Story::Storm = story {
+        return storm(rt, alloc, survey, seats);
     }
+    let mut connections = places(alloc, survey, seats)?;
+    told_by_connections(rt, alloc, &mut connections, story)
 }
 
 // Opens a survey with so many places for the story, and ends it.

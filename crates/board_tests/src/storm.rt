@@ -1,8 +1,7 @@
 //! Many boards of one survey, whose random calls are explained by one history.
-use crate::calling::{Asked, Call, Seen, Told, made};
-use crate::replay::Replay;
-use crate::survey::tile;
-use reader_pin::{Board, Shared, Survey, SurveySeat};
+use crate::calling::{Asked, Call};
+use crate::teller::{Teller, explained, meet, tellers, tile_of};
+use reader_pin::{Survey, SurveySeat};
 use shared_history::Naming;
 use std::alloc::Global;
 use std::process::Abort;
@@ -12,21 +11,20 @@ use std::thread::{Threads, for_each_mut};
 use tile_pixels::Tile;
 
 // How many calls a board is asked for.
-const CALLS: u32 = 2000;
-
-// A board with what it told. It isn't complete where there was no memory.
-#[derive(Drop)]
-struct Caller<'a, J: Naming> {
-    board: Shared<'a, J>,
-    tile: Arc<Tile>,
-    seed: u32,
-    told: Vec<Told>,
-    is_complete: bool,
-}
+const CALLS: usize = 2000;
 
 // The next of some numbers that look random.
 fn next(seed: u32) -> u32 {
     seed.wrapping_mul(1664525).wrapping_add(1013904223)
+}
+
+// The number that the calls of the board at that place begin with.
+fn seed(at: usize) -> u32 {
+    let mut seed = next(1);
+    for _ in 0..at {
+        seed = next(seed);
+    }
+    seed
 }
 
 // The call that a number stands for: of sixteen, seven edits, three batches, one publication, three pins, a hold, a release.
@@ -45,48 +43,54 @@ fn call_of(number: u32) -> Call {
     }
 }
 
-// All calls of a board.
+// All calls of the board at that place. It tells fewer where there was no memory.
 fn call_all<'a, J: Naming, R: Threads + Wait + Sync>(
     rt: &R,
     alloc: Global,
-    caller: &mut Caller<'a, J>,
-) -> Option<()> {
+    tile: &Arc<Tile>,
+    at: usize,
+    teller: &mut Teller<'a, J>,
+) {
+    let mut seed = seed(at);
     for _ in 0..CALLS {
-        caller.seed = next(caller.seed);
-        let call = call_of(caller.seed);
-        let answer = made(rt, alloc, &mut caller.board, &caller.tile, call)?;
-        let told = Told {
-            call,
-            answer,
-            last: Seen::of(caller.board.last()),
-            held: caller.board.held().map(Seen::of),
-        };
-        caller.told.push(told).ok()?;
+        seed = next(seed);
+        let call = call_of(seed);
+        if let Some(answer) = teller.ask(rt, alloc, tile, call) {
+            let _told = teller.note(call, answer);
+        }
     }
-    Some(())
 }
 
-// A caller at each place.
-fn callers<'a, J: Naming>(
+// The storm itself, and what explains it.
+fn rage<'a, J: Naming + Send + Sync, R: Threads + Wait + Abort + Sync>(
+    rt: &R,
     alloc: Global,
-    survey: &'a Survey<J>,
-    seats: Vec<SurveySeat<J>>,
-) -> Result<Vec<Caller<'a, J>>, Fail> {
-    let mut callers = Vec::new(alloc);
-    let mut seed = 1;
-    for seat in seats {
-        let board = Shared::new(alloc, survey, seat);
-        let tile = tile(alloc, board.last().conf().shape().depth)?;
-        seed = next(seed);
-        callers.push(Caller {
-            board,
-            tile,
-            seed,
-            told: Vec::new(alloc),
-            is_complete: false,
-        })?;
+    tile: &Arc<Tile>,
+    tellers: &mut [Teller<'a, J>],
+) -> Result<(), Fail> {
+    let threads = tellers.len().max(1);
+    for_each_mut(
+        rt,
+        tellers,
+        threads,
+        &|at, teller| { call_all(rt, alloc, tile, at, teller) },
+    );
+    for teller in tellers.iter() {
+        assert!(rt; teller.told.len() == CALLS);
     }
-    Ok(callers)
+    meet(tellers)?;
+    let _last = explained(alloc, tellers)?;
+    Ok(())
+}
+
+// The storm, with a tile of the boards' survey.
+fn rage_with_tile<'a, J: Naming + Send + Sync, R: Threads + Wait + Abort + Sync>(
+    rt: &R,
+    alloc: Global,
+    tellers: &mut [Teller<'a, J>],
+) -> Result<(), Fail> {
+    let tile = tile_of(alloc, tellers)?;
+    rage(rt, alloc, &tile, tellers)
 }
 
 /// Each board makes its calls in a thread of its own. Then the first meets each other one twice, so that all have seen one
@@ -97,27 +101,6 @@ pub(crate) fn storm<J: Naming + Send + Sync, R: Threads + Wait + Abort + Sync>(
     survey: &Survey<J>,
     seats: Vec<SurveySeat<J>>,
 ) -> Result<(), Fail> {
-    let mut callers = callers(alloc, survey, seats)?;
-    let threads = callers.len().max(1);
-    for_each_mut(
-        rt,
-        callers.as_mut_slice(),
-        threads,
-        &|_, caller| { caller.is_complete = call_all(rt, alloc, caller).is_some() },
-    );
-    let (first, others) = callers.split_first_mut().ok_or("no caller")?;
-    for other in others.iter_mut() {
-        first.board.meet(&mut other.board)?;
-    }
-    assert!(rt; first.is_complete);
-    let mut replay = Replay::of(alloc, first.board.last())?;
-    replay.explain_all(&first.told)?;
-    for other in others.iter_mut() {
-        first.board.meet(&mut other.board)?;
-        assert!(rt;
-            other.is_complete && Seen::of(other.board.last()) == Seen::of(first.board.last())
-        );
-        replay.explain_all(&other.told)?;
-    }
-    replay.end()
+    let mut tellers = tellers(alloc, survey, seats)?;
+    rage_with_tile(rt, alloc, &mut tellers)
 }

@@ -1,12 +1,12 @@
 //! A story of three boards, each call of which is made again where memory is refused.
 ghost use Rattle.std.specs.Prelude.{◌≡◌, []};
 
-use crate::calling::{Answer, Asked, Call, Seen, Told, made};
-use crate::replay::Replay;
-use crate::survey::{first_state, tile};
-use reader_pin::{Board, Shared, Survey, SurveyBook, SurveySeat, open_shared};
+use crate::calling::{Answer, Asked, Call, Seen};
+use crate::survey::first_state;
+use crate::teller::{Teller, explained, meet, tellers, tile_of};
+use reader_pin::{Survey, SurveyBook, SurveySeat, open_shared};
 use shared_history::Naming;
-use std::alloc::Global;
+use std::alloc::{AllocError, Global};
 use std::io::Print;
 use std::marker::Brand;
 use std::sync::{Arc, Wait};
@@ -57,15 +57,6 @@ static END: [(usize, Call); 10] = [
     (2, Call::Publish),
 ];
 
-// A board with what it told, and how many of its calls were refused.
-#[derive(Drop)]
-struct Teller<'a, J: Naming> {
-    board: Shared<'a, J>,
-    tile: Arc<Tile>,
-    told: Vec<Told>,
-    refused: u32,
-}
-
 /// Plays the story.
 ///
 /// # Errors
@@ -90,62 +81,71 @@ fn open<J: Naming, R: Threads + Wait + Print + Sync>(
     requires first { state.batches ≡ [] }
 {
     let (survey, seats): (Survey<J>, Vec<SurveySeat<J>>) = open_shared(rt, alloc, book, state, 3)?;
-    let ending = tell_all(rt, alloc, &survey, seats);
+    let ending = tell_at(rt, alloc, &survey, seats);
     survey.close(rt);
     ending
 }
 
-// The story from its begin to its end: one history explains what each board was answered.
-fn tell_all<J: Naming, R: Threads + Wait + Print + Sync>(
+// The story, with a board at each place.
+fn tell_at<J: Naming, R: Threads + Wait + Print + Sync>(
     rt: &R,
     alloc: Global,
     survey: &Survey<J>,
     seats: Vec<SurveySeat<J>>,
 ) -> Result<Ending, Fail> {
     let mut tellers = tellers(alloc, survey, seats)?;
-    println!(rt; "begun")?;
-    tell(rt, alloc, &mut tellers, &BEGIN)?;
-    meet(&mut tellers)?;
-    tell(rt, alloc, &mut tellers, &END)?;
-    meet(&mut tellers)?;
-    let last = explained(alloc, &tellers)?;
-    let mut refused = 0u32;
-    for teller in &tellers {
-        refused = refused.saturating_add(teller.refused);
-    }
-    Ok(Ending { last, refused })
+    begin(rt, alloc, &mut tellers)
 }
 
-// A board at each place, with memory for what it will tell.
-fn tellers<'a, J: Naming>(
+// Begins the story once there is memory for what the boards will tell.
+fn begin<'a, J: Naming, R: Threads + Wait + Print + Sync>(
+    rt: &R,
     alloc: Global,
-    survey: &'a Survey<J>,
-    seats: Vec<SurveySeat<J>>,
-) -> Result<Vec<Teller<'a, J>>, Fail> {
-    let mut tellers = Vec::new(alloc);
-    for seat in seats {
-        let board = Shared::new(alloc, survey, seat);
-        let tile = tile(alloc, board.last().conf().shape().depth)?;
-        tellers.push(Teller {
-            board,
-            tile,
-            told: Vec::with_capacity(alloc, MOST)?,
-            refused: 0,
-        })?;
-    }
-    Ok(tellers)
+    tellers: &mut [Teller<'a, J>],
+) -> Result<Ending, Fail> {
+    make_room(tellers)?;
+    let tile = tile_of(alloc, tellers)?;
+    tell_all(rt, alloc, &tile, tellers)
 }
 
-// These calls, one after another.
+fn make_room<'a, J: Naming>(tellers: &mut [Teller<'a, J>]) -> Result<(), AllocError> {
+    for teller in tellers {
+        teller.told.reserve(MOST)?;
+    }
+    Ok(())
+}
+
+// The story from its begin to its end: one history explains what each board was answered.
+fn tell_all<'a, J: Naming, R: Threads + Wait + Print + Sync>(
+    rt: &R,
+    alloc: Global,
+    tile: &Arc<Tile>,
+    tellers: &mut [Teller<'a, J>],
+) -> Result<Ending, Fail> {
+    println!(rt; "begun")?;
+    tell(rt, alloc, tile, tellers, &BEGIN)?;
+    tell(rt, alloc, tile, tellers, &END)?;
+    Ok(Ending {
+        last: explained(alloc, tellers)?,
+        refused: refused(tellers),
+    })
+}
+
+// These calls, one after another; then the boards meet.
 fn tell<'a, J: Naming, R: Threads + Wait + Sync>(
     rt: &R,
     alloc: Global,
+    tile: &Arc<Tile>,
     tellers: &mut [Teller<'a, J>],
     calls: &[(usize, Call)],
 ) -> Result<(), Fail> {
     for (at, call) in calls {
         let teller = tellers.get_mut(*at).ok_or("no board")?;
-        answered(rt, alloc, teller, *call)?;
+        answered(rt, alloc, tile, teller, *call)?;
+    }
+    meet(tellers)?;
+    for teller in tellers {
+        teller.note(Call::Pin, Answer::Nothing)?;
     }
     Ok(())
 }
@@ -154,60 +154,27 @@ fn tell<'a, J: Naming, R: Threads + Wait + Sync>(
 fn answered<'a, J: Naming, R: Threads + Wait + Sync>(
     rt: &R,
     alloc: Global,
+    tile: &Arc<Tile>,
     teller: &mut Teller<'a, J>,
     call: Call,
 ) -> Result<(), Fail> {
     for _ in 0..TRIES {
-        match made(rt, alloc, &mut teller.board, &teller.tile, call) {
-            Some(answer) => return note(teller, call, answer),
+        match teller.ask(rt, alloc, tile, call) {
+            Some(answer) => return Ok(teller.note(call, answer)?),
             None => {
                 teller.refused = teller.refused.saturating_add(1);
-                note(teller, Call::Pin, Answer::Nothing)?;
+                teller.note(Call::Pin, Answer::Nothing)?;
             }
         }
     }
     Err("refused again".into())
 }
 
-// What a board was answered, and what it sees then.
-fn note<'a, J: Naming>(teller: &mut Teller<'a, J>, call: Call, answer: Answer) -> Result<(), Fail> {
-    teller.told.push(Told {
-        call,
-        answer,
-        last: Seen::of(teller.board.last()),
-        held: teller.board.held().map(Seen::of),
-    })?;
-    Ok(())
-}
-
-// The first board meets each other one, twice: all have seen the same then.
-fn meet<'a, J: Naming>(tellers: &mut [Teller<'a, J>]) -> Result<(), Fail> {
-    for _ in 0..2 {
-        let (first, others) = tellers.split_first_mut().ok_or("no board")?;
-        for other in others {
-            first.board.meet(&mut other.board)?;
-        }
-    }
+// How many calls were refused.
+fn refused<'a, J: Naming>(tellers: &[Teller<'a, J>]) -> u32 {
+    let mut refused = 0u32;
     for teller in tellers {
-        note(teller, Call::Pin, Answer::Nothing)?;
+        refused = refused.saturating_add(teller.refused);
     }
-    Ok(())
-}
-
-// The last state, if the history that all boards have seen explains what each was answered.
-fn explained<'a, J: Naming>(alloc: Global, tellers: &[Teller<'a, J>]) -> Result<Seen, Fail> {
-    let first = tellers.first().ok_or("no board")?.board.last();
-    let mut replay = match Replay::of(alloc, first) {
-        Ok(replay) => replay,
-        Err(_) => Replay::of(alloc, first)?,
-    };
-    let last = Seen::of(first);
-    for teller in tellers {
-        if Seen::of(teller.board.last()) != last {
-            return Err("boards that met have seen different states".into());
-        }
-        replay.explain_all(&teller.told)?;
-    }
-    replay.end()?;
-    Ok(last)
+    refused
 }

@@ -1,5 +1,6 @@
 //! The survey of the tests, and the edits that fit it.
 ghost use Rattle.std.specs.Prelude.{◌≡◌, [], map, All, IfOk, IsTrue};
+ghost use Rattle.std.specs.Arc.{arc_value};
 ghost use Rattle.edit_journal.specs.Edit.{edit_of};
 ghost use Rattle.edit_journal.specs.Leaves.{FitsEdit};
 
@@ -8,8 +9,7 @@ use generation::Generation;
 use healpix_nested::cells;
 use leaf_store::Store;
 use parent_rule::{Depth, Steps};
-use reader_pin::Board;
-use std::alloc::Global;
+use std::alloc::{AllocError, Global};
 use std::sync::Arc;
 use std::test::Fail;
 use std::thread::Threads;
@@ -29,21 +29,36 @@ survey_bitpix = 16
 survey_blank = -32768
 ";
 
-// The first state of the survey, which has no leaf yet.
-pub(crate) fn first_state<R: Threads + Sync>(rt: &R, alloc: Global) -> Result<State, Fail>
-    ensures { IfOk result (λ state. state.batches ≡ []) }
+// What the survey's description says.
+fn conf(alloc: Global) -> Result<Arc<Conf>, Fail> {
+    Ok(Arc::new(alloc, Conf::read(alloc, SURVEY.as_bytes())?)?)
+}
+
+// The published files of a survey that has no leaf yet.
+fn first_generation<R: Threads + Sync>(
+    rt: &R,
+    alloc: Global,
+    conf: Arc<Conf>,
+) -> Result<Arc<Generation>, AllocError>
+    ensures { IfOk result (λ generation. (arc_value generation).prefix ≡ 0) }
 {
-    let conf = Arc::new(alloc, Conf::read(alloc, SURVEY.as_bytes())?)?;
-    let gate = OpenGate::new();
     let generation = Generation::start(
         rt,
         alloc,
         conf,
         Store::new(alloc),
-        &gate,
+        &OpenGate::new(),
         &mut Steps::new(),
     )?;
-    Ok(State::start(alloc, Arc::new(alloc, generation)?)?)
+    Ok(Arc::new(alloc, generation)?)
+}
+
+// The first state of the survey, which has no leaf yet.
+pub(crate) fn first_state<R: Threads + Sync>(rt: &R, alloc: Global) -> Result<State, Fail>
+    ensures { IfOk result (λ state. state.batches ≡ []) }
+{
+    let generation = first_generation(rt, alloc, conf(alloc)?)?;
+    Ok(State::start(alloc, generation)?)
 }
 
 // A tile of two columns and two lines of 16 bits.
@@ -55,11 +70,11 @@ pub(crate) fn tile(alloc: Global, depth: Depth) -> Result<Arc<Tile>, Fail> {
     Ok(Arc::new(alloc, tile)?)
 }
 
-// Whether the edit fits the board's survey.
-pub(crate) fn fits<B: Board>(board: &B, edit: &Edit) -> bool
-    ensures { IsTrue result → FitsEdit (B.content board.now).conf.shape (edit_of edit.now) }
+// Whether the edit fits the survey of a state.
+pub(crate) fn fits(state: &State, edit: &Edit) -> bool
+    ensures { IsTrue result → FitsEdit state.now.conf.shape (edit_of edit.now) }
 {
-    let shape = board.last().conf().shape();
+    let shape = state.conf().shape();
     if edit.leaf() >= cells(shape.top) {
         return false;
     }
@@ -69,11 +84,11 @@ pub(crate) fn fits<B: Board>(board: &B, edit: &Edit) -> bool
     }
 }
 
-pub(crate) fn all_fit<B: Board>(board: &B, edits: &[Edit]) -> bool
-    ensures { IsTrue result → All (FitsEdit (B.content board.now).conf.shape) (map edit_of edits.now) }
+pub(crate) fn all_fit(state: &State, edits: &[Edit]) -> bool
+    ensures { IsTrue result → All (FitsEdit state.now.conf.shape) (map edit_of edits.now) }
 {
     for edit in edits {
-        if !fits(board, edit) {
+        if !fits(state, edit) {
             return false;
         }
     }

@@ -5,4 +5,4 @@ use Rattle.edit_journal.specs.Leaves.{FitsEdit}
 use Rattle.board_tests.proofs.survey.all_fit.Given as goal
 
 abbrev pub invariant-loop-edit : goal.invariant-loop-edit
-invariant-loop-edit g l = All (FitsEdit (g.B.Board.content l.board).conf.shape) (map edit_of (take l.edit-index l.edits))
+invariant-loop-edit l = All (FitsEdit l.state.conf.shape) (map edit_of (take l.edit-index l.edits))
