@@ -52,34 +52,44 @@ fn a_change_is_of_one_key(rt: HostRuntime) -> Result<(), Fail> {
 // The pairs of a store, by ascending key.
 const PAIRS: [(u64, u8); 3] = [(4, 2), (9, 1), (u64::MAX, 3)];
 
+// The value of the key.
+fn value_of(store: &Store<u8>, key: u64) -> Option<u8> {
+    store.get(key).map(|shared| **shared)
+}
+
+// Pair `i` by ascending key.
+fn pair_at(store: &Store<u8>, i: usize) -> Option<(u64, u8)> {
+    store.at(i).map(|(key, shared)| (key, **shared))
+}
+
 fn check_pairs(rt: &impl Abort, store: &Store<u8>) {
     for (i, (key, value)) in PAIRS.iter().enumerate() {
-        let at = store.at(i).map(|(key, shared)| (key, **shared));
-        assert_eq!(rt; at, Some((*key, *value)), "pair {i}");
-        let found = store.get(*key).map(|shared| **shared);
-        assert_eq!(rt; found, Some(*value), "key {key}");
+        assert!(rt; pair_at(store, i) == Some((*key, *value)), "pair {i}");
+        assert!(rt; value_of(store, *key) == Some(*value), "key {key}");
     }
     assert!(rt; store.at(3).is_none());
     assert!(rt; store.get(5).is_none());
     assert_eq!(rt; store.len(), 3);
 }
 
+// From which key to below which other one there is one.
+static RANGES: [(u64, u64, bool); 10] = [
+    (0, 4, false),
+    (4, 4, false),
+    (0, 5, true),
+    (4, 5, true),
+    (5, 9, false),
+    (5, 10, true),
+    (9, 5, false),
+    (10, u64::MAX, false),
+    (u64::MAX, u64::MAX, false),
+    (0, u64::MAX, true),
+];
+
 fn check_ranges(rt: &impl Abort, store: &Store<u8>) {
-    for (low, high, found) in [
-        (0, 4, false),
-        (4, 4, false),
-        (0, 5, true),
-        (4, 5, true),
-        (5, 9, false),
-        (5, 10, true),
-        (9, 5, false),
-        (10, u64::MAX, false),
-        (u64::MAX, u64::MAX, false),
-        (0, u64::MAX, true),
-    ] {
-        assert_eq!(rt;
-            store.any_in(low, high),
-            found,
+    for (low, high, found) in &RANGES {
+        assert!(rt;
+            store.any_in(*low, *high) == *found,
             "from {low} to below {high}"
         );
     }
@@ -116,13 +126,16 @@ fn a_shared_store_changes_alone(rt: HostRuntime) -> Result<(), Fail> {
     let taken = change(rt.alloc(), &mut other, 500, None)?;
     assert_eq!(rt; taken, Some(0));
     let _ = change(rt.alloc(), &mut other, 1000, Some(7))?;
-    assert_eq!(rt; store.len(), 1000);
-    assert_eq!(rt; store.get(500).map(|shared| **shared), Some(0));
-    assert_eq!(rt; other.len(), 1000);
-    assert!(rt; other.get(500).is_none());
-    let last = other.at(999).map(|(key, shared)| (key, **shared));
-    assert_eq!(rt; last, Some((1000, 7)));
+    check_shares(&rt, &store, &other);
     Ok(())
+}
+
+fn check_shares(rt: &impl Abort, store: &Store<u8>, other: &Store<u8>) {
+    assert_eq!(rt; store.len(), 1000);
+    assert_eq!(rt; value_of(store, 500), Some(0));
+    assert_eq!(rt; other.len(), 1000);
+    assert_eq!(rt; value_of(other, 500), None);
+    assert_eq!(rt; pair_at(other, 999), Some((1000, 7)));
 }
 
 // Numbers that look like chance, and are the same at each run.
@@ -138,6 +151,20 @@ impl Chance {
             .wrapping_mul(6_364_136_223_846_793_005)
             .wrapping_add(1_442_695_040_888_963_407);
         (self.0 >> 33) % bound
+    }
+
+    // A key below the bound.
+    fn key(&mut self, bound: u64) -> u64 {
+        self.below(u64::MAX) % bound.max(1)
+    }
+
+    // The number or none: mostly the number where a store is to grow, else mostly none.
+    fn value(&mut self, number: u64, grows: bool) -> Option<u64> {
+        if (self.below(3) > 0) == grows {
+            Some(number)
+        } else {
+            None
+        }
     }
 }
 
@@ -173,6 +200,18 @@ impl Both {
         self.pages.any_in(low, high) == self.plain.any_in(low, high)
     }
 
+    // Changes a key, and answers whether both answer the same, also whether a key from this one to below another is there.
+    fn change_and_look(
+        &mut self,
+        alloc: Global,
+        key: u64,
+        value: Option<u64>,
+        end: u64,
+    ) -> Result<bool, AllocError> {
+        let same = self.change(alloc, key, value)?;
+        Ok(same && self.same_range(key, key.saturating_add(2)) && self.same_range(key, end))
+    }
+
     // Whether both have the same pairs, each by its key, by its place and in turn.
     fn same(&self) -> bool {
         let mut seen = 0usize;
@@ -206,20 +245,14 @@ fn run(
     run: (u64, u64, bool),
 ) -> Result<bool, AllocError> {
     let (changes, bound, grows) = run;
-    let mut same = true;
     for i in 0..changes {
-        let key = chance.below(u64::MAX) % bound.max(1);
-        let value = if (chance.below(3) > 0) == grows {
-            Some(i)
-        } else {
-            None
-        };
-        same = same
-            && both.change(alloc, key, value)?
-            && both.same_range(key, key.saturating_add(2))
-            && both.same_range(key, chance.below(u64::MAX) % bound.max(1));
+        let key = chance.key(bound);
+        let value = chance.value(i, grows);
+        if !both.change_and_look(alloc, key, value, chance.key(bound))? {
+            return Ok(false);
+        }
     }
-    Ok(same)
+    Ok(true)
 }
 
 #[test]
@@ -262,20 +295,35 @@ fn has_all(store: &Store<u8>) -> bool {
     next == PRIME && store.len() as u64 == PRIME
 }
 
+// A store of each key below the prime, put in by this step.
+fn filled(alloc: Global, step: u64) -> Result<Store<u8>, AllocError> {
+    let mut store = Store::new(alloc);
+    for i in 0..PRIME {
+        change(alloc, &mut store, i.wrapping_mul(step) % PRIME, Some(1))?;
+    }
+    Ok(store)
+}
+
+// Takes each key below the prime out by this step.
+fn empty(alloc: Global, store: &mut Store<u8>, step: u64) -> Result<(), AllocError> {
+    for i in 0..PRIME {
+        change(alloc, store, i.wrapping_mul(step) % PRIME, None)?;
+    }
+    Ok(())
+}
+
+// Whether the store has each key below the prime, and none once they are taken out by this step.
+fn is_emptied(alloc: Global, store: &mut Store<u8>, step: u64) -> Result<bool, AllocError> {
+    let had_all = has_all(store);
+    empty(alloc, store, step)?;
+    Ok(had_all && store.at(0).is_none() && store.len() == 0)
+}
+
 #[test]
 fn keys_go_in_and_out_in_any_order(rt: HostRuntime) -> Result<(), Fail> {
     for step in STEPS {
-        let mut store = Store::new(rt.alloc());
-        for i in 0..PRIME {
-            let key = i.wrapping_mul(step) % PRIME;
-            let _ = store.put(key, Arc::new(rt.alloc(), 1)?)?;
-        }
-        assert!(rt; has_all(&store), "step {step}");
-        for i in 0..PRIME {
-            let _ = store.remove(i.wrapping_mul(step) % PRIME)?;
-        }
-        assert!(rt; store.at(0).is_none(), "step {step}");
-        assert_eq!(rt; store.len(), 0, "step {step}");
+        let mut store = filled(rt.alloc(), step)?;
+        assert!(rt; is_emptied(rt.alloc(), &mut store, step)?, "step {step}");
     }
     Ok(())
 }
