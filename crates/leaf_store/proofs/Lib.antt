@@ -1,9 +1,7 @@
 pub mod Changed
 pub mod Chunked
 pub mod Cuts
-pub mod InRange
 pub mod LookUps
 pub mod Pages
-pub mod PairLemmas
 pub mod Roots
 pub mod Slots

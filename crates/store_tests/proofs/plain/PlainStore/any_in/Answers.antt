@@ -2,7 +2,7 @@ use Rattle.std.proofs.Common.{rules, ◌≡◌, ◌≤◌, false, sym, ◌∙◌
 use Rattle.std.specs.Prelude.{nat_lt}
 use Rattle.std.proofs.lemmas.Bool.Decides.{nat_tests}
 use Rattle.leaf_store.specs.Store.{any_key_in}
-use Rattle.leaf_store.proofs.InRange.{first_in_range, none_in_range}
+use Rattle.store_tests.proofs.InRange.{first_in_range, none_in_range}
 use Rattle.store_tests.proofs.plain.PlainStore.any_in.Goals as goal
 
 pub returns-then-low-high : goal.returns-then-low-high

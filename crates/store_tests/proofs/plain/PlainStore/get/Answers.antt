@@ -1,6 +1,6 @@
 use Rattle.std.proofs.Common.{sym, ◌∙◌, ap}
 use Rattle.leaf_store.specs.Store.{value_at}
-use Rattle.leaf_store.proofs.PairLemmas.{value_of_pairs, value_lent}
+use Rattle.store_tests.proofs.PairLemmas.{value_of_pairs, value_lent}
 use Rattle.store_tests.proofs.plain.PlainStore.get.Goals as goal
 
 pub returns-clause-value : goal.returns-clause-value

@@ -3,7 +3,7 @@ use Rattle.std.proofs.Common.{option_map}
 use Rattle.std.specs.Arc.{arc_value}
 use Rattle.leaf_store.specs.Store.{value_at, with_value}
 use Rattle.leaf_store.specs.Entries.{pairs_of}
-use Rattle.leaf_store.proofs.PairLemmas.{ascending_pairs, value_of_pairs, pairs_of-insert_entry, other_stays}
+use Rattle.store_tests.proofs.PairLemmas.{ascending_pairs, value_of_pairs, pairs_of-insert_entry, other_stays}
 use Rattle.store_tests.proofs.plain.PlainStore.put.Goals as goal
 
 pub invariant_of-self-2 : goal.invariant_of-self-2

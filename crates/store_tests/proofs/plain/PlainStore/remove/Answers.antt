@@ -5,7 +5,7 @@ use Rattle.leaf_store.specs.Store.{value_at, without_key}
 use Rattle.std.specs.Ordering.{nat_cmp}
 use Rattle.std.specs.BTreeMap.{is_at}
 use Rattle.leaf_store.specs.Entries.{pairs_of}
-use Rattle.leaf_store.proofs.PairLemmas.{ascending_pairs, value_of_pairs, pairs_of-remove_entry, other_stays}
+use Rattle.store_tests.proofs.PairLemmas.{ascending_pairs, value_of_pairs, pairs_of-remove_entry, other_stays}
 use Rattle.store_tests.proofs.plain.PlainStore.remove.Goals as goal
 
 pub invariant_of-self : goal.invariant_of-self

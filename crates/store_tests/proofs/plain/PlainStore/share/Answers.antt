@@ -1,6 +1,6 @@
 use Rattle.std.proofs.Common.{ℕ, List, sym, ◌∙◌, subst}
 use Rattle.leaf_store.specs.Store.{IsAscending}
-use Rattle.leaf_store.proofs.PairLemmas.{cloned_pairs}
+use Rattle.store_tests.proofs.PairLemmas.{cloned_pairs}
 use Rattle.store_tests.proofs.plain.PlainStore.share.Goals as goal
 
 pub invariant_of-result : goal.invariant_of-result
