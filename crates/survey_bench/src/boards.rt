@@ -1,16 +1,16 @@
 //! Boards of one survey: how long a pin takes, and how long many edits take.
-ghost use Rattle.std.specs.Prelude.{◌≡◌, ◌<◌, ◌≤◌, [], IfOk, IsTrue};
+ghost use Rattle.std.specs.Prelude.{◌≡◌, ◌<◌, ◌≤◌, []};
 ghost use Rattle.std.specs.Arc.{arc_value};
-ghost use Rattle.edit_journal.specs.Edit.{edit_of};
-ghost use Rattle.edit_journal.specs.Leaves.{FitsEdit};
+ghost use Rattle.pyramid_model.specs.Shape.{IsShape};
 
+use crate::clocks::passed_since;
 use crate::edits::opened;
-use crate::publication::{DEEP_LEAVES, started};
-use crate::survey::{DEEP, described, first_leaves, leaf_tile};
+use crate::survey::{DEEP, DEEP_LEAVES, first_generation};
+use crate::workers::{Worker, is_accepted, workers};
 use edit_journal::Edit;
 use generation::Generation;
-use healpix_nested::cells;
-use reader_pin::{Board, Shared, Survey, SurveyBook, SurveySeat, open_shared};
+use pyramid_model::Shape;
+use reader_pin::{Board, Survey, SurveyBook, SurveySeat, open_shared};
 use shared_history::Naming;
 use std::alloc::Global;
 use std::io;
@@ -21,7 +21,6 @@ use std::sync::{Arc, Wait};
 use std::thread::{Threads, for_each_mut};
 use std::time::{Clock, Instant};
 use survey_core::State;
-use tile_pixels::Tile;
 
 const ROUNDS: u32 = 5;
 
@@ -59,15 +58,6 @@ struct Took {
     edits: u32,
 }
 
-// A board in a thread of its own, and what it measured there; `None` where it had no clock.
-#[derive(Drop)]
-struct Worker<'a, J: Naming> {
-    board: Shared<'a, J>,
-    tile: Arc<Tile>,
-    nanos: Option<u128>,
-    edits: u32,
-}
-
 /// Times pins of so many threads at 65,536 leaves of order 11.
 ///
 /// # Errors
@@ -78,16 +68,28 @@ pub fn time_pins<R: Clock + Threads + Wait + Sync>(
     alloc: Global,
     threads: usize,
 ) -> io::Result<PinTimes> {
-    let generation = deep(rt, alloc)?;
+    let generation = first_generation(rt, alloc, DEEP, DEEP_LEAVES)?;
+    time_pin_rounds(rt, alloc, &generation, threads)
+}
+
+// The least of all rounds.
+fn time_pin_rounds<R: Clock + Threads + Wait + Sync>(
+    rt: &R,
+    alloc: Global,
+    generation: &Arc<Generation>,
+    threads: usize,
+) -> io::Result<PinTimes>
+    requires { (arc_value generation.now).prefix ≡ 0 }
+{
     let mut times = PinTimes {
         quiet: u128::MAX,
         busy: u128::MAX,
         edits: 0,
     };
     for _ in 0..ROUNDS {
-        let quiet = round(rt, alloc, &generation, Work::Pins(threads, false))?;
+        let quiet = round(rt, alloc, generation, Work::Pins(threads, false))?;
         times.quiet = times.quiet.min(quiet.nanos);
-        let busy = round(rt, alloc, &generation, Work::Pins(threads, true))?;
+        let busy = round(rt, alloc, generation, Work::Pins(threads, true))?;
         if busy.nanos < times.busy {
             times.busy = busy.nanos;
             times.edits = busy.edits;
@@ -106,25 +108,28 @@ pub fn time_board_edits<R: Clock + Threads + Wait + Sync>(
     alloc: Global,
     boards: usize,
 ) -> io::Result<u128> {
-    let generation = deep(rt, alloc)?;
+    let generation = first_generation(rt, alloc, DEEP, DEEP_LEAVES)?;
+    time_edit_rounds(rt, alloc, &generation, boards)
+}
+
+// The least of all rounds.
+fn time_edit_rounds<R: Clock + Threads + Wait + Sync>(
+    rt: &R,
+    alloc: Global,
+    generation: &Arc<Generation>,
+    boards: usize,
+) -> io::Result<u128>
+    requires { (arc_value generation.now).prefix ≡ 0 }
+{
     let mut least = u128::MAX;
     for _ in 0..ROUNDS {
-        let took = round(rt, alloc, &generation, Work::Edits(boards))?;
+        let took = round(rt, alloc, generation, Work::Edits(boards))?;
         if (boards as u64).saturating_mul(u64::from(EDITS)) != u64::from(took.edits) {
             return Err(io::Error::from(ErrorKind::InvalidData));
         }
         least = least.min(took.nanos);
     }
     Ok(least)
-}
-
-// A generation of 65,536 leaves of order 11, of 32 by 32.
-fn deep<R: Threads + Sync>(rt: &R, alloc: Global) -> io::Result<Arc<Generation>>
-    ensures { IfOk result (λ made. (arc_value made).prefix ≡ 0) }
-{
-    let conf = described(alloc, DEEP)?;
-    let leaves = first_leaves(alloc, conf.shape(), DEEP_LEAVES)?;
-    Ok(Arc::new(alloc, started(rt, alloc, &conf, &leaves)?)?)
 }
 
 // One round of the work over a survey of its own.
@@ -161,58 +166,55 @@ fn done<J: Naming + Send + Sync, R: Clock + Threads + Wait + Sync>(
     requires some { 0 < places }
     requires most { places ≤ 64 }
 {
+    let shape = state.conf().shape();
     let (survey, seats): (Survey<J>, Vec<SurveySeat<J>>) = open_shared(
         rt, alloc, book, state, places,
     )?;
-    let took = at_once(rt, alloc, &survey, seats, work);
+    let took = at_places(rt, alloc, &survey, seats, shape, work);
     survey.close(rt);
     took
 }
 
-// All places work at once, each in a thread of its own.
-fn at_once<J: Naming + Send + Sync, R: Clock + Threads + Wait + Sync>(
+// The work of all places of a survey of that shape.
+fn at_places<J: Naming + Send + Sync, R: Clock + Threads + Wait + Sync>(
     rt: &R,
     alloc: Global,
     survey: &Survey<J>,
     seats: Vec<SurveySeat<J>>,
+    shape: Shape,
+    work: Work,
+) -> io::Result<Took>
+    requires { IsShape shape.top shape.low shape.n }
+{
+    let mut workers = workers(alloc, survey, seats, shape, 1)?;
+    at_once(rt, workers.as_mut_slice(), work)
+}
+
+// All work at once, each in a thread of its own.
+fn at_once<'a, J: Naming + Send + Sync, R: Clock + Threads + Wait + Sync>(
+    rt: &R,
+    workers: &mut [Worker<'a, J>],
     work: Work,
 ) -> io::Result<Took> {
-    let mut workers = workers(alloc, survey, seats)?;
     let threads = workers.len().max(1);
     let ended = AtomicU64::new(0);
     for_each_mut(
         rt,
-        workers.as_mut_slice(),
+        workers,
         threads,
         &|at, worker| { work_at(rt, at, worker, work, &ended) },
     );
-    let mut took = Took { nanos: 0, edits: 0 };
-    for worker in &workers {
-        let nanos = worker.nanos.ok_or(io::Error::from(ErrorKind::Unsupported))?;
-        took.nanos = took.nanos.max(nanos);
-        took.edits = took.edits.saturating_add(worker.edits);
-    }
-    Ok(took)
+    slowest(workers).ok_or(io::Error::from(ErrorKind::Unsupported))
 }
 
-// A worker at each place.
-fn workers<'a, J: Naming>(
-    alloc: Global,
-    survey: &'a Survey<J>,
-    seats: Vec<SurveySeat<J>>,
-) -> io::Result<Vec<Worker<'a, J>>> {
-    let mut workers = Vec::new(alloc);
-    for seat in seats {
-        let board = Shared::new(alloc, survey, seat);
-        let tile = leaf_tile(alloc, board.last().conf().shape(), 1)?;
-        workers.push(Worker {
-            board,
-            tile,
-            nanos: None,
-            edits: 0,
-        })?;
+// The time of the slowest, and the edits of all.
+fn slowest<'a, J: Naming>(workers: &[Worker<'a, J>]) -> Option<Took> {
+    let mut took = Took { nanos: 0, edits: 0 };
+    for worker in workers {
+        took.nanos = took.nanos.max(worker.nanos?);
+        took.edits = took.edits.saturating_add(worker.calls);
     }
-    Ok(workers)
+    Some(took)
 }
 
 // The part of one place: of pins the first place is that of the board that edits.
@@ -243,7 +245,7 @@ fn pin_all<B: Board, R: Clock>(rt: &R, board: &mut B) -> Option<u128> {
     for _ in 0..PINS {
         board.pin();
     }
-    Some(start.elapsed(rt).ok()?.as_nanos())
+    passed_since(rt, start).ok()
 }
 
 // The nanoseconds of many edits. How many were accepted is counted.
@@ -254,7 +256,7 @@ fn edit_all<'a, J: Naming, R: Clock + Wait>(rt: &R, worker: &mut Worker<'a, J>) 
             break;
         }
     }
-    Some(start.elapsed(rt).ok()?.as_nanos())
+    passed_since(rt, start).ok()
 }
 
 // Edits until so many others have ended, or the survey takes no more.
@@ -273,33 +275,11 @@ fn edit_until<'a, J: Naming, R: Wait>(
 
 // Puts a tile on the next leaf; whether that was accepted.
 fn edit_one<'a, J: Naming, R: Wait>(rt: &R, worker: &mut Worker<'a, J>) -> bool {
-    let leaf = u64::from(worker.edits).wrapping_mul(STEP) % DEEP_LEAVES;
+    let leaf = u64::from(worker.calls).wrapping_mul(STEP) % DEEP_LEAVES;
     let Ok(tile) = worker.tile.clone() else {
         return false;
     };
     let is_accepted = is_accepted(rt, &mut worker.board, Edit::Put { leaf, tile });
-    worker.edits = worker.edits.saturating_add(u32::from(is_accepted));
+    worker.calls = worker.calls.saturating_add(u32::from(is_accepted));
     is_accepted
-}
-
-/// Whether the board accepts the edit.
-pub fn is_accepted<B: Board, R: Wait>(rt: &R, board: &mut B, edit: Edit) -> bool {
-    if !fits(board, &edit) {
-        return false;
-    }
-    board.edit(rt, edit).is_ok()
-}
-
-// Whether the edit fits the board's survey.
-fn fits<B: Board>(board: &B, edit: &Edit) -> bool
-    ensures { IsTrue result → FitsEdit (B.content board.now).conf.shape (edit_of edit.now) }
-{
-    let shape = board.last().conf().shape();
-    if edit.leaf() >= cells(shape.top) {
-        return false;
-    }
-    match edit.tile() {
-        Some(tile) => tile.depth() == shape.depth && tile.n() == shape.n,
-        None => true,
-    }
 }

@@ -3,6 +3,7 @@ ghost use Rattle.std.specs.Prelude.{◌≡◌, ◌<◌, IfOk, All};
 ghost use Rattle.std.specs.Map.{keys_of};
 ghost use Rattle.healpix_nested.specs.Cells.{cell_count};
 
+use crate::clocks::spent_since;
 use crate::tiles::small_tile;
 use coverage_moc::Cover;
 use leaf_store::Store;
@@ -19,7 +20,7 @@ const ROUNDS: u32 = 20;
 const CELLS: u64 = 50331648;
 
 /// The least nanoseconds of processor time, and how many rows the cover has.
-#[derive(Drop)]
+#[derive(Clone, Copy)]
 pub struct CoverTimes {
     pub of: u128,
     pub add: u128,
@@ -34,6 +35,13 @@ pub struct CoverTimes {
 pub fn time_cover(rt: &HostRuntime, count: u64, apart: u64) -> io::Result<CoverTimes> {
     let alloc = rt.alloc();
     let store = leaves(alloc, count, apart)?;
+    time_rounds(rt, alloc, &store)
+}
+
+// The least of all rounds.
+fn time_rounds(rt: &HostRuntime, alloc: Global, store: &Store<Tile>) -> io::Result<CoverTimes>
+    requires { All (λ leaf. leaf < cell_count 11) (keys_of store.now) }
+{
     let mut times = CoverTimes {
         of: u128::MAX,
         add: u128::MAX,
@@ -41,19 +49,25 @@ pub fn time_cover(rt: &HostRuntime, count: u64, apart: u64) -> io::Result<CoverT
     };
     for _ in 0..ROUNDS {
         let start = rt.process_cpu_time()?;
-        let cover = Cover::of(alloc, 11, &store)?;
-        let made = rt.process_cpu_time()?;
-        let more = cover.add(alloc, 11, CELLS - 1)?;
-        let end = rt.process_cpu_time()?;
-        times.of = times
-            .of
-            .min(made.as_nanos().saturating_sub(start.as_nanos()));
-        times.add = times
-            .add
-            .min(end.as_nanos().saturating_sub(made.as_nanos()));
-        times.rows = more.len();
+        let cover = Cover::of(alloc, 11, store)?;
+        let of = spent_since(rt, start)?;
+        let (add, rows) = time_add(rt, alloc, &cover)?;
+        times.of = times.of.min(of);
+        times.add = times.add.min(add);
+        times.rows = rows;
     }
     Ok(times)
+}
+
+// The nanoseconds of adding the last leaf, and how many rows there are then.
+fn time_add(rt: &HostRuntime, alloc: Global, cover: &Cover) -> io::Result<(u128, usize)>
+    requires { cover.now.top ≡ 11 }
+{
+    let start = rt.process_cpu_time()?;
+    let more = cover.add(alloc, 11, CELLS - 1)?;
+    let rows = more.len();
+    let took = spent_since(rt, start)?;
+    Ok((took, rows))
 }
 
 // A store of so many leaves of order 11.

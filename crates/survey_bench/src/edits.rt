@@ -4,6 +4,7 @@ ghost use Rattle.std.specs.Arc.{arc_value};
 ghost use Rattle.healpix_nested.specs.Cells.{cell_count};
 ghost use Rattle.edit_journal.specs.Leaves.{FitsTile};
 
+use crate::clocks::spent_since;
 use crate::survey::{leaf_of, leaf_tile};
 use edit_journal::Edit;
 use generation::Generation;
@@ -33,20 +34,28 @@ const LEAVES: u64 = 65536;
 pub fn time_edits<R: CpuClock>(
     rt: &R,
     alloc: Global,
-    generation: Arc<Generation>,
+    generation: &Arc<Generation>,
 ) -> io::Result<u128>
-    requires { (arc_value generation).prefix ≡ 0 }
+    requires { (arc_value generation.now).prefix ≡ 0 }
 {
-    let shape = generation.conf().shape();
-    let tile = leaf_tile(alloc, shape, 1)?;
+    let tile = leaf_tile(alloc, generation.conf().shape(), 1, 1)?;
+    time_rounds(rt, alloc, generation, &tile)
+}
+
+// The least of all rounds.
+fn time_rounds<R: CpuClock>(
+    rt: &R,
+    alloc: Global,
+    generation: &Arc<Generation>,
+    tile: &Arc<Tile>,
+) -> io::Result<u128>
+    requires prefix { (arc_value generation.now).prefix ≡ 0 }
+    requires tile { FitsTile (arc_value generation.now).conf.shape (arc_value tile.now) }
+{
     let mut least = u128::MAX;
     for _ in 0..ROUNDS {
-        let state = opened(alloc, &generation)?;
-        let start = rt.process_cpu_time()?;
-        let newest = edited(state, &tile)?;
-        let end = rt.process_cpu_time()?;
-        least = least.min(end.as_nanos().saturating_sub(start.as_nanos()));
-        drop(newest);
+        let state = opened(alloc, generation)?;
+        least = least.min(time_edited(rt, state, tile)?);
     }
     Ok(least / u128::from(EDITS))
 }
@@ -66,6 +75,15 @@ pub fn opened(alloc: Global, generation: &Arc<Generation>) -> io::Result<State>
         Ok(state) => Ok(state),
         Err(_) => Err(io::Error::from(ErrorKind::OutOfMemory)),
     }
+}
+
+// The nanoseconds of many edits more.
+fn time_edited<R: CpuClock>(rt: &R, state: State, tile: &Arc<Tile>) -> io::Result<u128>
+    requires { FitsTile state.conf.shape (arc_value tile.now) }
+{
+    let start = rt.process_cpu_time()?;
+    let _newest = edited(state, tile)?;
+    spent_since(rt, start)
 }
 
 // The state after many edits more.

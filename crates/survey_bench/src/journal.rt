@@ -2,6 +2,7 @@
 ghost use Rattle.std.specs.Prelude.{◌≡◌, IfOk};
 ghost use Rattle.edit_journal.specs.Leaves.{FitsTile};
 
+use crate::clocks::spent_since;
 use crate::tiles::small_tile;
 use edit_journal::{Edit, Journal};
 use leaf_store::Store;
@@ -10,12 +11,12 @@ use pyramid_model::Shape;
 use std::alloc::Global;
 use std::io::ErrorKind;
 use std::sync::Arc;
-use std::time::CpuClock;
+use std::time::{CpuClock, Duration};
 use std::{fs, io};
 use tile_pixels::Tile;
 
 /// The nanoseconds of processor time of all edits, and the most memory that the process has held, in kilobytes.
-#[derive(Drop)]
+#[derive(Clone, Copy)]
 pub struct JournalTimes {
     pub processor: u128,
     pub held: u64,
@@ -36,15 +37,31 @@ pub fn time_journal(rt: &HostRuntime, edits: u32) -> io::Result<JournalTimes> {
         depth,
     };
     let tile = small_tile(alloc, depth)?;
+    time_edits(rt, alloc, shape, &tile, edits)
+}
+
+// Times so many edits of leaf 0 of a survey of that shape.
+fn time_edits(
+    rt: &HostRuntime,
+    alloc: Global,
+    shape: Shape,
+    tile: &Arc<Tile>,
+    edits: u32,
+) -> io::Result<JournalTimes>
+    requires { FitsTile shape tile.now.value }
+{
     let start = rt.process_cpu_time()?;
-    let journals = journals(alloc, shape, &tile, edits)?;
-    let end = rt.process_cpu_time()?;
-    let held = most_held(rt)?;
+    let journals = journals(alloc, shape, tile, edits)?;
+    let times = times_since(rt, start);
     drop(journals);
-    Ok(JournalTimes {
-        processor: end.as_nanos().saturating_sub(start.as_nanos()),
-        held,
-    })
+    times
+}
+
+// What the process took since the start, and has held.
+fn times_since(rt: &HostRuntime, start: Duration) -> io::Result<JournalTimes> {
+    let processor = spent_since(rt, start)?;
+    let held = most_held(rt)?;
+    Ok(JournalTimes { processor, held })
 }
 
 // The journal with no edit, and those after each edit.
@@ -89,14 +106,19 @@ fn after_one(journal: &Journal, tile: &Arc<Tile>) -> io::Result<Journal>
 // The most kilobytes that the process has held, as Linux tells it.
 fn most_held(rt: &HostRuntime) -> io::Result<u64> {
     let status = fs::read_to_string(rt, "/proc/self/status")?;
-    for line in status.as_str().lines() {
+    most_in(status.as_str()).ok_or(io::Error::from(ErrorKind::InvalidData))
+}
+
+// The number of the line of the most memory.
+fn most_in(status: &str) -> Option<u64> {
+    for line in status.lines() {
         if let Some(rest) = line.strip_prefix("VmHWM:") {
-            for word in rest.split_whitespace() {
-                if let Ok(kilobytes) = word.parse::<u64>() {
-                    return Ok(kilobytes);
-                }
-            }
+            return first_number(rest);
         }
     }
-    Err(io::Error::from(ErrorKind::InvalidData))
+    None
+}
+
+fn first_number(text: &str) -> Option<u64> {
+    text.split_whitespace().next()?.parse::<u64>().ok()
 }

@@ -2,22 +2,21 @@
 ghost use Rattle.std.specs.Prelude.{◌≡◌, IfOk, All, length, vec_len, vec_capacity};
 ghost use Rattle.rebuild_worker.specs.Level.{IsAboveLeaves, HaveShape};
 
-use crate::tiles::{N, child, sum_after};
+use crate::clocks::{Started, Took, passed_since};
+use crate::survey::{sky, sky_shape};
+use crate::tiles::sum_after;
 use leaf_store::Store;
 use parent_rule::{Depth, Permit, Steps};
 use pyramid_model::Shape;
 use rebuild_worker::{Named, level_parallel, level_serial};
 use std::alloc::{AllocError, Global};
 use std::io;
-use std::sync::Arc;
 use std::thread::Threads;
 use std::time::{Clock, CpuClock, Instant};
 use survey_link::OpenGate;
 use tile_pixels::Tile;
 
 const ROUNDS: u32 = 8;
-
-const CHILDREN: u64 = 768;
 
 const MERGES: u64 = 192;
 
@@ -26,7 +25,7 @@ pub const TILES: u128 = 192;
 
 /// The least nanoseconds that a level took, by the clock on the wall and of processor time, and a sum of the bytes of its
 /// tiles.
-#[derive(Drop)]
+#[derive(Clone, Copy)]
 pub struct LevelTimes {
     pub processor: u128,
     pub serial: u128,
@@ -45,8 +44,20 @@ pub fn time_level<R: Clock + CpuClock + Threads + Sync>(
     depth: Depth,
     blanks: u32,
 ) -> io::Result<LevelTimes> {
-    let shape = shape(depth);
-    let tiles = children(alloc, shape, blanks)?;
+    let tiles = sky(alloc, depth, blanks)?;
+    time_rounds(rt, alloc, sky_shape(depth), &tiles)
+}
+
+// The least of all rounds.
+fn time_rounds<R: Clock + CpuClock + Threads + Sync>(
+    rt: &R,
+    alloc: Global,
+    shape: Shape,
+    tiles: &Store<Tile>,
+) -> io::Result<LevelTimes>
+    requires top { shape.top ≡ 3 }
+    requires tiles { HaveShape shape tiles.now }
+{
     let mut times = LevelTimes {
         processor: u128::MAX,
         serial: u128::MAX,
@@ -54,59 +65,52 @@ pub fn time_level<R: Clock + CpuClock + Threads + Sync>(
         sum: 0,
     };
     for _ in 0..ROUNDS {
-        let spent = rt.process_cpu_time()?;
-        let start = Instant::now(rt)?;
-        let todo = permits(alloc, shape)?;
-        let level = level_serial(alloc, &OpenGate::new(), shape, &tiles, todo)?;
-        times.serial = times.serial.min(start.elapsed(rt)?.as_nanos());
-        let end = rt.process_cpu_time()?;
-        times.processor = times
-            .processor
-            .min(end.as_nanos().saturating_sub(spent.as_nanos()));
-        drop(level);
-        let start = Instant::now(rt)?;
-        let todo = permits(alloc, shape)?;
-        let level = level_parallel(rt, alloc, &OpenGate::new(), shape, &tiles, todo)?;
-        times.parallel = times.parallel.min(start.elapsed(rt)?.as_nanos());
-        times.sum = sum_of_level(&level);
+        let serial = time_serial(rt, alloc, shape, tiles)?;
+        times.processor = times.processor.min(serial.processor);
+        times.serial = times.serial.min(serial.wall);
+        let (parallel, sum) = time_parallel(rt, alloc, shape, tiles)?;
+        times.parallel = times.parallel.min(parallel);
+        times.sum = sum;
     }
     Ok(times)
 }
 
-// The shape of a survey whose leaves are of order 3.
-fn shape(depth: Depth) -> Shape
-    ensures top { result.top ≡ 3 }
-    ensures n { result.n ≡ 9 }
-    ensures depth { result.depth ≡ depth }
+// What a level takes by one worker.
+fn time_serial<R: Clock + CpuClock>(
+    rt: &R,
+    alloc: Global,
+    shape: Shape,
+    tiles: &Store<Tile>,
+) -> io::Result<Took>
+    requires top { shape.top ≡ 3 }
+    requires tiles { HaveShape shape tiles.now }
 {
-    Shape {
-        top: 3,
-        low: 0,
-        n: N,
-        depth,
-    }
+    let started = Started::now(rt)?;
+    let todo = permits(alloc, shape)?;
+    let _level = level_serial(alloc, &OpenGate::new(), shape, tiles, todo)?;
+    started.took(rt)
 }
 
-// A tile for each cell of order 3.
-fn children(alloc: Global, shape: Shape, blanks: u32) -> io::Result<Store<Tile>>
-    requires { shape.n ≡ 9 }
-    ensures { IfOk result (HaveShape shape) }
+// The nanoseconds of a level by many workers, by the clock on the wall, and a sum of its bytes.
+fn time_parallel<R: Clock + Threads + Sync>(
+    rt: &R,
+    alloc: Global,
+    shape: Shape,
+    tiles: &Store<Tile>,
+) -> io::Result<(u128, u32)>
+    requires top { shape.top ≡ 3 }
+    requires tiles { HaveShape shape tiles.now }
 {
-    let mut store = Store::new(alloc);
-    for npix in 0..CHILDREN {
-        let tile = shared_child(alloc, shape, blanks, npix as u32 + 1)?;
-        store.put(npix, tile)?;
-    }
-    Ok(store)
+    let start = Instant::now(rt)?;
+    let todo = permits(alloc, shape)?;
+    let level = level_parallel(rt, alloc, &OpenGate::new(), shape, tiles, todo)?;
+    measured(rt, start, &level)
 }
 
-// The tile of a seed, which a store can share.
-fn shared_child(alloc: Global, shape: Shape, blanks: u32, seed: u32) -> io::Result<Arc<Tile>>
-    requires { shape.n ≡ 9 }
-    ensures { IfOk result (λ tile. (tile.value.depth ≡ shape.depth) × (tile.value.n ≡ shape.n)) }
-{
-    let tile = child(alloc, shape.depth, blanks, seed)?;
-    Ok(Arc::new(alloc, tile)?)
+// The nanoseconds since the start, and a sum of the bytes of the level.
+fn measured<R: Clock>(rt: &R, start: Instant, level: &[Named]) -> io::Result<(u128, u32)> {
+    let took = passed_since(rt, start)?;
+    Ok((took, sum_of_level(level)))
 }
 
 // A permit for each cell of order 2.

@@ -26,27 +26,29 @@
 #![tactic(auto)]
 
 mod boards;
+mod clocks;
 mod cover;
 mod edits;
-mod hundredths;
 mod journal;
 mod level;
+mod line;
 mod merge;
 mod mosaic;
 mod publication;
 mod survey;
 mod tiles;
 mod waiting;
+mod workers;
 
-use boards::{EDITS, PINS, PinTimes, time_board_edits, time_pins};
+use boards::{EDITS, PINS, time_board_edits, time_pins};
 use cover::time_cover;
-use hundredths::Hundredths;
 use journal::time_journal;
-use level::{LevelTimes, TILES, time_level};
+use level::{TILES, time_level};
+use line::{Figure, print_line};
 use merge::{time_halve, time_merge};
-use mosaic::{MosaicTimes, NUMBERS, time_mosaic};
+use mosaic::{NUMBERS, time_mosaic};
 use parent_rule::Depth;
-use publication::{CALLS, DeepTimes, FullTimes, time_deep, time_full};
+use publication::{CALLS, time_deep, time_full};
 use std::alloc::Global;
 use std::io::Print;
 use std::sync::Wait;
@@ -54,7 +56,7 @@ use std::thread::Threads;
 use std::time::{Clock, CpuClock};
 use std::{env, io};
 use tiles::{PIXELS, depth, sixteenths};
-use waiting::{WaitTimes, time_waits};
+use waiting::time_waits;
 
 const USAGE: &str = "survey_bench merge|halve|level|mosaic 8|16|32|64 mean|median none|some|half
 survey_bench cover COUNT APART
@@ -92,16 +94,8 @@ fn is_timed(rt: &HostRuntime, words: &[String]) -> io::Result<bool> {
                 None => Ok(false),
             }
         }
-        [what, count, apart] => {
-            match (what.as_str(), count.parse::<u64>(), apart.parse::<u64>()) {
-                ("cover", Ok(count), Ok(apart)) => print_cover(rt, count, apart),
-                _ => Ok(false),
-            }
-        }
-        [what, count] => match (what.as_str(), count.parse::<u32>()) {
-            ("journal", Ok(count)) => print_journals(rt, count),
-            _ => Ok(false),
-        },
+        [what, count, apart] => of_cells(rt, what.as_str(), count.as_str(), apart.as_str()),
+        [what, count] => of_one_leaf(rt, what.as_str(), count.as_str()),
         _ => Ok(false),
     }
 }
@@ -138,6 +132,24 @@ fn of_tiles(rt: &HostRuntime, what: &str, depth: Depth, blanks: u32) -> io::Resu
     Ok(true)
 }
 
+// What is done with cells so far from one another.
+fn of_cells(rt: &HostRuntime, what: &str, count: &str, apart: &str) -> io::Result<bool> {
+    match (what, count.parse::<u64>(), apart.parse::<u64>()) {
+        ("cover", Ok(count), Ok(apart)) => print_cover(rt, count, apart)?,
+        _ => return Ok(false),
+    }
+    Ok(true)
+}
+
+// What is done with one leaf.
+fn of_one_leaf(rt: &HostRuntime, what: &str, count: &str) -> io::Result<bool> {
+    match (what, count.parse::<u32>()) {
+        ("journal", Ok(count)) => print_journals(rt, count)?,
+        _ => return Ok(false),
+    }
+    Ok(true)
+}
+
 // What is done with a full sky of them.
 fn of_skies<R: Clock + CpuClock + Threads + Print + Sync>(
     rt: &R,
@@ -147,8 +159,23 @@ fn of_skies<R: Clock + CpuClock + Threads + Print + Sync>(
     blanks: u32,
 ) -> io::Result<bool> {
     match what {
-        "level" => print_level(rt, time_level(rt, alloc, depth, blanks)?)?,
-        "mosaic" => print_mosaic(rt, time_mosaic(rt, alloc, depth, blanks)?)?,
+        "level" => print_level(rt, alloc, depth, blanks)?,
+        "mosaic" => print_mosaic(rt, alloc, depth, blanks)?,
+        _ => return Ok(false),
+    }
+    Ok(true)
+}
+
+// What boards do at once.
+fn of_boards<R: Clock + Threads + Wait + Print + Sync>(
+    rt: &R,
+    alloc: Global,
+    of: &str,
+    count: usize,
+) -> io::Result<bool> {
+    match of {
+        "pins" => print_pins(rt, alloc, count)?,
+        "edits" => print_edits(rt, alloc, count)?,
         _ => return Ok(false),
     }
     Ok(true)
@@ -162,9 +189,9 @@ fn of_surveys<R: Clock + CpuClock + Threads + Wait + Print + Sync>(
     of: &str,
 ) -> io::Result<bool> {
     match (what, of) {
-        ("generation", "full") => print_full(rt, time_full(rt, alloc)?)?,
-        ("generation", "deep") => print_deep(rt, time_deep(rt, alloc)?)?,
-        ("boards", "publication") => print_waits(rt, time_waits(rt, alloc)?)?,
+        ("generation", "full") => print_full(rt, alloc)?,
+        ("generation", "deep") => print_deep(rt, alloc)?,
+        ("boards", "publication") => print_waits(rt, alloc)?,
         _ => return Ok(false),
     }
     Ok(true)
@@ -172,94 +199,143 @@ fn of_surveys<R: Clock + CpuClock + Threads + Wait + Print + Sync>(
 
 fn print_merge(rt: &HostRuntime, depth: Depth, blanks: u32) -> io::Result<()> {
     let (least, sum) = time_merge(rt, depth, blanks)?;
-    println!(rt; "{} {sum}", Hundredths::of(least, PIXELS as u128))?;
-    Ok(())
+    let each = Figure::each(least, PIXELS as u128);
+    print_line(rt, &[each, Figure::Whole(u128::from(sum))])
 }
 
 fn print_halve(rt: &HostRuntime, depth: Depth, blanks: u32) -> io::Result<()> {
-    let (least, sum) = time_halve(rt, depth, blanks)?;
-    println!(rt; "{} {sum}", Hundredths::of(least, PIXELS as u128 / 4))?;
-    Ok(())
+    let least = time_halve(rt, depth, blanks)?;
+    let each = Figure::each(least, PIXELS as u128 / 4);
+    print_line(rt, &[each, Figure::Whole(0)])
 }
 
-fn print_level<R: Print>(rt: &R, times: LevelTimes) -> io::Result<()> {
-    let pixels = TILES * PIXELS as u128;
-    let processor = Hundredths::of(times.processor, pixels);
-    let serial = Hundredths::of(times.serial, pixels);
-    let parallel = Hundredths::of(times.parallel, pixels);
-    println!(rt; "{processor} {serial} {parallel} {}", times.sum)?;
-    Ok(())
-}
-
-fn print_cover(rt: &HostRuntime, count: u64, apart: u64) -> io::Result<bool> {
+fn print_cover(rt: &HostRuntime, count: u64, apart: u64) -> io::Result<()> {
     let times = time_cover(rt, count, apart)?;
-    let of = Hundredths::of(times.of, u128::from(count.max(1)));
-    println!(rt; "{of} {} {}", times.add, times.rows)?;
-    Ok(true)
+    let each = Figure::each(times.of, u128::from(count));
+    print_line(
+        rt,
+        &[
+            each,
+            Figure::Whole(times.add),
+            Figure::Whole(times.rows as u128),
+        ],
+    )
 }
 
-// What boards do at once.
-fn of_boards<R: Clock + Threads + Wait + Print + Sync>(
+fn print_journals(rt: &HostRuntime, count: u32) -> io::Result<()> {
+    let times = time_journal(rt, count)?;
+    let each = Figure::each(times.processor, u128::from(count));
+    print_line(rt, &[each, Figure::Whole(u128::from(times.held))])
+}
+
+fn print_level<R: Clock + CpuClock + Threads + Print + Sync>(
     rt: &R,
     alloc: Global,
-    of: &str,
-    count: usize,
-) -> io::Result<bool> {
-    match of {
-        "pins" => print_pins(rt, time_pins(rt, alloc, count)?)?,
-        "edits" => {
-            let took = time_board_edits(rt, alloc, count)?;
-            println!(rt; "{}", Hundredths::of(took, u128::from(EDITS)))?;
-        }
-        _ => return Ok(false),
-    }
-    Ok(true)
+    depth: Depth,
+    blanks: u32,
+) -> io::Result<()> {
+    let times = time_level(rt, alloc, depth, blanks)?;
+    let pixels = TILES * PIXELS as u128;
+    print_line(
+        rt,
+        &[
+            Figure::each(times.processor, pixels),
+            Figure::each(times.serial, pixels),
+            Figure::each(times.parallel, pixels),
+            Figure::Whole(u128::from(times.sum)),
+        ],
+    )
 }
 
-fn print_pins<R: Print>(rt: &R, times: PinTimes) -> io::Result<()> {
-    let quiet = Hundredths::of(times.quiet, u128::from(PINS));
-    let busy = Hundredths::of(times.busy, u128::from(PINS));
-    println!(rt; "{quiet} {busy} {}", times.edits)?;
-    Ok(())
+fn print_mosaic<R: Clock + CpuClock + Threads + Print + Sync>(
+    rt: &R,
+    alloc: Global,
+    depth: Depth,
+    blanks: u32,
+) -> io::Result<()> {
+    let times = time_mosaic(rt, alloc, depth, blanks)?;
+    print_line(
+        rt,
+        &[
+            Figure::each(times.processor, NUMBERS),
+            Figure::each(times.wall, NUMBERS),
+            Figure::each(times.patch, NUMBERS),
+            Figure::Whole(u128::from(times.sum)),
+        ],
+    )
 }
 
-fn print_waits<R: Print>(rt: &R, times: WaitTimes) -> io::Result<()> {
-    println!(rt;
-        "{} {} {} {} {}",
-        times.alone, times.beside, times.wait, times.call, times.calls
-    )?;
-    Ok(())
+fn print_pins<R: Clock + Threads + Wait + Print + Sync>(
+    rt: &R,
+    alloc: Global,
+    threads: usize,
+) -> io::Result<()> {
+    let times = time_pins(rt, alloc, threads)?;
+    print_line(
+        rt,
+        &[
+            Figure::each(times.quiet, u128::from(PINS)),
+            Figure::each(times.busy, u128::from(PINS)),
+            Figure::Whole(u128::from(times.edits)),
+        ],
+    )
 }
 
-fn print_mosaic<R: Print>(rt: &R, times: MosaicTimes) -> io::Result<()> {
-    let processor = Hundredths::of(times.processor, NUMBERS);
-    let wall = Hundredths::of(times.wall, NUMBERS);
-    let patch = Hundredths::of(times.patch, NUMBERS);
-    println!(rt; "{processor} {wall} {patch} {}", times.sum)?;
-    Ok(())
+fn print_edits<R: Clock + Threads + Wait + Print + Sync>(
+    rt: &R,
+    alloc: Global,
+    boards: usize,
+) -> io::Result<()> {
+    let took = time_board_edits(rt, alloc, boards)?;
+    print_line(rt, &[Figure::each(took, u128::from(EDITS))])
 }
 
-fn print_deep<R: Print>(rt: &R, times: DeepTimes) -> io::Result<()> {
-    println!(rt; "{} {} {}", times.start, times.one, times.edit)?;
-    Ok(())
-}
-
-fn print_journals(rt: &HostRuntime, count: u32) -> io::Result<bool> {
-    let times = time_journal(rt, count)?;
-    let edit = Hundredths::of(times.processor, u128::from(count.max(1)));
-    println!(rt; "{edit} {}", times.held)?;
-    Ok(true)
-}
-
-fn print_full<R: Print>(rt: &R, times: FullTimes) -> io::Result<()> {
+fn print_full<R: Clock + CpuClock + Threads + Print + Sync>(
+    rt: &R,
+    alloc: Global,
+) -> io::Result<()> {
+    let times = time_full(rt, alloc)?;
     let calls = CALLS as u128;
-    let tile = Hundredths::of(times.tile, calls);
-    let mosaic = Hundredths::of(times.mosaic, calls);
-    let properties = Hundredths::of(times.properties, calls);
-    print!(rt;
-        "{} {} {} {} ",
-        times.start, times.one, times.many, times.most
-    )?;
-    println!(rt; "{tile} {mosaic} {properties} {}", times.bytes)?;
-    Ok(())
+    print_line(
+        rt,
+        &[
+            Figure::Whole(times.start),
+            Figure::Whole(times.one),
+            Figure::Whole(times.many),
+            Figure::Whole(times.most),
+            Figure::each(times.tile, calls),
+            Figure::each(times.mosaic, calls),
+            Figure::each(times.properties, calls),
+            Figure::Whole(u128::from(times.bytes)),
+        ],
+    )
+}
+
+fn print_deep<R: Clock + CpuClock + Threads + Print + Sync>(
+    rt: &R,
+    alloc: Global,
+) -> io::Result<()> {
+    let times = time_deep(rt, alloc)?;
+    print_line(
+        rt,
+        &[
+            Figure::Whole(times.start),
+            Figure::Whole(times.one),
+            Figure::Whole(times.edit),
+        ],
+    )
+}
+
+fn print_waits<R: Clock + Threads + Wait + Print + Sync>(rt: &R, alloc: Global) -> io::Result<()> {
+    let times = time_waits(rt, alloc)?;
+    print_line(
+        rt,
+        &[
+            Figure::Whole(times.alone),
+            Figure::Whole(times.beside),
+            Figure::Whole(times.wait),
+            Figure::Whole(times.call),
+            Figure::Whole(u128::from(times.calls)),
+        ],
+    )
 }

@@ -1,9 +1,13 @@
 //! The mosaic of the 768 tiles of order 3, as a whole and where one tile has changed.
-ghost use Rattle.std.specs.Prelude.{IfOk};
-ghost use Rattle.tile_pixels.specs.Tile.{HasShape};
+ghost use Rattle.std.specs.Prelude.{IfOk, [], ◌∷◌};
+ghost use Rattle.std.specs.Arc.{arc_value};
+ghost use Rattle.allsky_mosaic.specs.Patch.{WasMosaic};
 ghost use Rattle.allsky_mosaic.specs.Tiles.{AreOfOrder3, IsMosaic, order_3, leaves_of};
+ghost use Rattle.tile_pixels.specs.Tile.{HasShape};
 
-use crate::tiles::{N, child, sum_after};
+use crate::clocks::{Started, spent_since};
+use crate::survey::{leaf_tile, sky, sky_shape};
+use crate::tiles::{N, sum_after};
 use allsky_mosaic::{patch, whole};
 use leaf_store::Store;
 use parent_rule::Depth;
@@ -12,12 +16,10 @@ use std::io;
 use std::io::ErrorKind;
 use std::sync::Arc;
 use std::thread::Threads;
-use std::time::{Clock, CpuClock, Instant};
+use std::time::{Clock, CpuClock, Duration};
 use tile_pixels::Tile;
 
 const ROUNDS: u32 = 5;
-
-const CELLS: u64 = 768;
 
 // The cell whose tile is replaced.
 const REPLACED: u64 = 400;
@@ -27,7 +29,7 @@ pub const NUMBERS: u128 = 3207168;
 
 /// The least nanoseconds that a mosaic took, of processor time and by the clock on the wall, those of one that is patched,
 /// and a sum of the bytes of both.
-#[derive(Drop)]
+#[derive(Clone, Copy)]
 pub struct MosaicTimes {
     pub processor: u128,
     pub wall: u128,
@@ -47,6 +49,19 @@ pub fn time_mosaic<R: Clock + CpuClock + Threads + Sync>(
     blanks: u32,
 ) -> io::Result<MosaicTimes> {
     let tiles = sky(alloc, depth, blanks)?;
+    time_rounds(rt, alloc, depth, blanks, &tiles)
+}
+
+// The least of all rounds.
+fn time_rounds<R: Clock + CpuClock + Threads + Sync>(
+    rt: &R,
+    alloc: Global,
+    depth: Depth,
+    blanks: u32,
+    tiles: &Store<Tile>,
+) -> io::Result<MosaicTimes>
+    requires { AreOfOrder3 depth 9 tiles.now }
+{
     let mut times = MosaicTimes {
         processor: u128::MAX,
         wall: u128::MAX,
@@ -54,41 +69,53 @@ pub fn time_mosaic<R: Clock + CpuClock + Threads + Sync>(
         sum: 0,
     };
     for _ in 0..ROUNDS {
-        let spent = rt.process_cpu_time()?;
-        let start = Instant::now(rt)?;
-        let raw = mosaic(rt, alloc, depth, &tiles)?;
-        times.wall = times.wall.min(start.elapsed(rt)?.as_nanos());
-        let end = rt.process_cpu_time()?;
-        times.processor = times
-            .processor
-            .min(end.as_nanos().saturating_sub(spent.as_nanos()));
-        times.sum = sum_after(0, &raw);
-        let tile = shared_child(alloc, depth, blanks, 1000)?;
-        let (took, sum) = time_patch(rt, alloc, depth, &raw, &tiles, tile)?;
-        times.patch = times.patch.min(took);
-        times.sum = times.sum.wrapping_add(sum);
+        let round = time_round(rt, alloc, depth, blanks, tiles)?;
+        times.processor = times.processor.min(round.processor);
+        times.wall = times.wall.min(round.wall);
+        times.patch = times.patch.min(round.patch);
+        times.sum = round.sum;
     }
     Ok(times)
 }
 
-// A tile for each cell of order 3.
-fn sky(alloc: Global, depth: Depth, blanks: u32) -> io::Result<Store<Tile>>
-    ensures { IfOk result (AreOfOrder3 depth 9) }
+// A mosaic as a whole, and one that is patched.
+fn time_round<R: Clock + CpuClock + Threads + Sync>(
+    rt: &R,
+    alloc: Global,
+    depth: Depth,
+    blanks: u32,
+    tiles: &Store<Tile>,
+) -> io::Result<MosaicTimes>
+    requires { AreOfOrder3 depth 9 tiles.now }
 {
-    let mut store = Store::new(alloc);
-    for npix in 0..CELLS {
-        let tile = shared_child(alloc, depth, blanks, npix as u32 + 1)?;
-        store.put(npix, tile)?;
-    }
-    Ok(store)
+    let started = Started::now(rt)?;
+    let raw = mosaic(rt, alloc, depth, tiles)?;
+    time_rest(rt, alloc, depth, blanks, tiles, started, &raw)
 }
 
-// The tile of a seed, which a store can share.
-fn shared_child(alloc: Global, depth: Depth, blanks: u32, seed: u32) -> io::Result<Arc<Tile>>
-    ensures { IfOk result (λ tile. HasShape tile.value depth 9) }
+// The times of the mosaic that was begun then, and of one that is patched.
+fn time_rest<R: Clock + CpuClock>(
+    rt: &R,
+    alloc: Global,
+    depth: Depth,
+    blanks: u32,
+    tiles: &Store<Tile>,
+    started: Started,
+    raw: &[u8],
+) -> io::Result<MosaicTimes>
+    requires tiles { AreOfOrder3 depth 9 tiles.now }
+    requires raw { IsMosaic depth 9 (order_3 depth 9) (leaves_of tiles.now) raw.now }
 {
-    let tile = child(alloc, depth, blanks, seed)?;
-    Ok(Arc::new(alloc, tile)?)
+    let took = started.took(rt)?;
+    let sum = sum_after(0, raw);
+    let tile = leaf_tile(alloc, sky_shape(depth), blanks, 1000)?;
+    let (patch, of_patch) = time_patch(rt, alloc, depth, raw, tiles, tile)?;
+    Ok(MosaicTimes {
+        processor: took.processor,
+        wall: took.wall,
+        patch,
+        sum: sum.wrapping_add(of_patch),
+    })
 }
 
 // The mosaic of some tiles.
@@ -118,16 +145,39 @@ fn time_patch<R: CpuClock>(
 ) -> io::Result<(u128, u32)>
     requires tiles { AreOfOrder3 depth 9 tiles.now }
     requires old { IsMosaic depth 9 (order_3 depth 9) (leaves_of tiles.now) old.now }
-    requires tile { HasShape tile.value depth 9 }
+    requires tile { HasShape (arc_value tile) depth 9 }
 {
     let mut now = tiles.share()?;
     now.put(REPLACED, tile)?;
+    time_patched(rt, alloc, depth, old, &now)
+}
+
+// The same, where the tile stands among the others.
+fn time_patched<R: CpuClock>(
+    rt: &R,
+    alloc: Global,
+    depth: Depth,
+    old: &[u8],
+    now: &Store<Tile>,
+) -> io::Result<(u128, u32)>
+    requires tiles { AreOfOrder3 depth 9 now.now }
+    requires old { WasMosaic depth 9 (400 ∷ []) now.now old.now }
+{
     let start = rt.process_cpu_time()?;
-    let patched = patch(alloc, depth, N, old, &[REPLACED], &now)?;
-    let end = rt.process_cpu_time()?;
-    let sum = match &patched {
+    let patched = patch(alloc, depth, N, old, &[REPLACED], now)?;
+    measured(rt, start, &patched)
+}
+
+// The nanoseconds of processor time since the start, and a sum of the mosaic's bytes.
+fn measured<R: CpuClock>(
+    rt: &R,
+    start: Duration,
+    patched: &Option<Vec<u8>>,
+) -> io::Result<(u128, u32)> {
+    let took = spent_since(rt, start)?;
+    let sum = match patched {
         Some(raw) => sum_after(0, raw),
         None => 0,
     };
-    Ok((end.as_nanos().saturating_sub(start.as_nanos()), sum))
+    Ok((took, sum))
 }

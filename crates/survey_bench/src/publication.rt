@@ -1,32 +1,23 @@
 //! A generation made at once, the next one after some leaves were replaced, and the files of it.
-ghost use Rattle.std.specs.Prelude.{◌≡◌, IfOk};
+ghost use Rattle.std.specs.Prelude.{◌≡◌};
 ghost use Rattle.std.specs.Arc.{arc_value};
-ghost use Rattle.edit_journal.specs.Leaves.{FitsLeaves};
 
+use crate::clocks::{passed_since, spent_since};
 use crate::edits::time_edits;
-use crate::survey::{DEEP, FULL, described, first_leaves, journal_of, replaced};
+use crate::survey::{DEEP, DEEP_LEAVES, FULL, FULL_LEAVES, first_generation, replaced};
 use edit_journal::Journal;
 use generation::Generation;
 use healpix_nested::Cell;
-use leaf_store::Store;
 use parent_rule::Steps;
 use std::alloc::{AllocError, Global};
 use std::io;
 use std::sync::Arc;
 use std::thread::Threads;
 use std::time::{Clock, CpuClock, Instant};
-use survey_conf::Conf;
 use survey_link::OpenGate;
 use tile_path::Path;
-use tile_pixels::Tile;
 
 const ROUNDS: u32 = 5;
-
-/// How many leaves a full sky of order 3 has.
-pub const FULL_LEAVES: u64 = 768;
-
-/// How many leaves the deep field has.
-pub const DEEP_LEAVES: u64 = 65536;
 
 /// How many times a file is asked for.
 pub const CALLS: usize = 65536;
@@ -34,7 +25,7 @@ pub const CALLS: usize = 65536;
 /// The least nanoseconds of a full sky: by the clock on the wall of the generation made at once, and of the next one after
 /// 1, 64 and 256 leaves were replaced; of processor time of so many calls for a tile, the mosaic and the properties; and how
 /// many bytes these have together.
-#[derive(Drop)]
+#[derive(Clone, Copy)]
 pub struct FullTimes {
     pub start: u128,
     pub one: u128,
@@ -47,7 +38,7 @@ pub struct FullTimes {
 }
 
 /// The same of a deep field: made at once, and after one leaf was replaced; and of processor time of an edit that is accepted.
-#[derive(Drop)]
+#[derive(Clone, Copy)]
 pub struct DeepTimes {
     pub start: u128,
     pub one: u128,
@@ -64,22 +55,19 @@ pub fn time_full<R: Clock + CpuClock + Threads + Sync>(
     rt: &R,
     alloc: Global,
 ) -> io::Result<FullTimes> {
-    let conf = described(alloc, FULL)?;
-    let leaves = first_leaves(alloc, conf.shape(), FULL_LEAVES)?;
-    let start = time_start(rt, alloc, &conf, &leaves)?;
-    let generation = started(rt, alloc, &conf, &leaves)?;
-    full_times(rt, alloc, &generation, start)
+    let generation = first_generation(rt, alloc, FULL, FULL_LEAVES)?;
+    full_times(rt, alloc, &generation)
 }
 
-// Times the full sky that was made in so many nanoseconds.
+// Times a full sky that is there.
 fn full_times<R: Clock + CpuClock + Threads + Sync>(
     rt: &R,
     alloc: Global,
     generation: &Generation,
-    start: u128,
 ) -> io::Result<FullTimes>
     requires { generation.now.prefix ≡ 0 }
 {
+    let start = time_starts(rt, alloc, generation)?;
     let (tile, of_tile) = time_tiles(rt, alloc, generation)?;
     let (mosaic, of_mosaic) = time_same(rt, alloc, generation, Path::Allsky)?;
     let (properties, of_properties) = time_same(rt, alloc, generation, Path::Properties)?;
@@ -126,52 +114,48 @@ pub fn time_deep<R: Clock + CpuClock + Threads + Sync>(
     rt: &R,
     alloc: Global,
 ) -> io::Result<DeepTimes> {
-    let conf = described(alloc, DEEP)?;
-    let leaves = first_leaves(alloc, conf.shape(), DEEP_LEAVES)?;
-    let start = time_start(rt, alloc, &conf, &leaves)?;
-    let generation = started(rt, alloc, &conf, &leaves)?;
-    let one = time_next(rt, alloc, &generation, 1)?;
-    let edit = time_edits(rt, alloc, Arc::new(alloc, generation)?)?;
+    let generation = first_generation(rt, alloc, DEEP, DEEP_LEAVES)?;
+    deep_times(rt, alloc, &generation)
+}
+
+// Times a deep field that is there.
+fn deep_times<R: Clock + CpuClock + Threads + Sync>(
+    rt: &R,
+    alloc: Global,
+    generation: &Arc<Generation>,
+) -> io::Result<DeepTimes>
+    requires { (arc_value generation.now).prefix ≡ 0 }
+{
+    let start = time_starts(rt, alloc, generation)?;
+    let one = time_next(rt, alloc, generation, 1)?;
+    let edit = time_edits(rt, alloc, generation)?;
     Ok(DeepTimes { start, one, edit })
 }
 
-// The least nanoseconds of the generation of these leaves.
-fn time_start<R: Clock + Threads + Sync>(
+// The least nanoseconds of the first generation of the same leaves.
+fn time_starts<R: Clock + Threads + Sync>(
     rt: &R,
     alloc: Global,
-    conf: &Arc<Conf>,
-    leaves: &Store<Tile>,
-) -> io::Result<u128>
-    requires { FitsLeaves (arc_value conf.now).shape leaves.now }
-{
+    generation: &Generation,
+) -> io::Result<u128> {
     let mut least = u128::MAX;
     for _ in 0..ROUNDS {
-        let start = Instant::now(rt)?;
-        let made = started(rt, alloc, conf, leaves)?;
-        least = least.min(start.elapsed(rt)?.as_nanos());
-        drop(made);
+        least = least.min(time_start(rt, alloc, generation)?);
     }
     Ok(least)
 }
 
-/// The generation of these leaves.
-///
-/// # Errors
-///
-/// Where there is no memory.
-pub fn started<R: Threads + Sync>(
+// The nanoseconds of the first generation of the same leaves.
+fn time_start<R: Clock + Threads + Sync>(
     rt: &R,
     alloc: Global,
-    conf: &Arc<Conf>,
-    leaves: &Store<Tile>,
-) -> io::Result<Generation>
-    requires { FitsLeaves (arc_value conf.now).shape leaves.now }
-    ensures { IfOk result (λ made. made.prefix ≡ 0) }
-{
-    let leaves = leaves.share()?;
-    let conf = conf.clone()?;
-    let made = Generation::start(rt, alloc, conf, leaves, &OpenGate::new(), &mut Steps::new())?;
-    Ok(made)
+    generation: &Generation,
+) -> io::Result<u128> {
+    let start = Instant::now(rt)?;
+    let leaves = generation.leaves().share()?;
+    let conf = generation.conf().clone()?;
+    let _made = Generation::start(rt, alloc, conf, leaves, &OpenGate::new(), &mut Steps::new())?;
+    passed_since(rt, start)
 }
 
 // The least nanoseconds of the next generation after so many of the 768 leaves were replaced.
@@ -183,41 +167,42 @@ fn time_next<R: Clock + Threads + Sync>(
 ) -> io::Result<u128>
     requires { generation.now.prefix ≡ 0 }
 {
-    let journal = replaced(
-        alloc,
-        journal_of(alloc, generation)?,
-        count,
-        FULL_LEAVES / count.max(1),
-    )?;
-    let mut least = u128::MAX;
-    for _ in 0..ROUNDS {
-        let start = Instant::now(rt)?;
-        let next = next_of(rt, generation, &journal)?;
-        least = least.min(start.elapsed(rt)?.as_nanos());
-        drop(next);
-    }
-    Ok(least)
+    let journal = replaced(alloc, generation, count, FULL_LEAVES / count.max(1))?;
+    time_steps(rt, generation, &journal)
 }
 
-// The generation after all edits of a journal of its leaves.
-#[tactic(auto, unfolding(edit_journal::specs::Leaves::leaves_of))]
-fn next_of<R: Threads + Sync>(
+// The least nanoseconds of the generation after all edits of a journal of its leaves.
+fn time_steps<R: Clock + Threads + Sync>(
     rt: &R,
     generation: &Generation,
     journal: &Journal,
-) -> io::Result<Generation>
+) -> io::Result<u128>
     requires prefix { generation.now.prefix ≡ 0 }
     requires shape { journal.now.shape ≡ generation.now.conf.shape }
     requires opening { journal.now.opening ≡ generation.now.leaves }
 {
-    let next = generation.next(
-        rt,
-        journal,
-        journal.len(),
-        &OpenGate::new(),
-        &mut Steps::new(),
-    )?;
-    Ok(next)
+    let mut least = u128::MAX;
+    for _ in 0..ROUNDS {
+        least = least.min(time_step(rt, generation, journal)?);
+    }
+    Ok(least)
+}
+
+// The nanoseconds of the generation after all edits of a journal of its leaves.
+#[tactic(auto, unfolding(edit_journal::specs::Leaves::leaves_of))]
+fn time_step<R: Clock + Threads + Sync>(
+    rt: &R,
+    generation: &Generation,
+    journal: &Journal,
+) -> io::Result<u128>
+    requires prefix { generation.now.prefix ≡ 0 }
+    requires shape { journal.now.shape ≡ generation.now.conf.shape }
+    requires opening { journal.now.opening ≡ generation.now.leaves }
+{
+    let start = Instant::now(rt)?;
+    let edits = journal.len();
+    let _next = generation.next(rt, journal, edits, &OpenGate::new(), &mut Steps::new())?;
+    passed_since(rt, start)
 }
 
 // The least nanoseconds of asking for the parts of these files, one after another, and how many bytes were handed out.
@@ -231,8 +216,7 @@ fn time_files<R: CpuClock>(
     for _ in 0..ROUNDS {
         let start = rt.process_cpu_time()?;
         bytes = bytes_of(generation, paths);
-        let end = rt.process_cpu_time()?;
-        least = least.min(end.as_nanos().saturating_sub(start.as_nanos()));
+        least = least.min(spent_since(rt, start)?);
     }
     Ok((least, bytes))
 }

@@ -1,9 +1,9 @@
 //! Tiles of 512 by 512 numbers that a linear congruence gives; bench/tiles.h makes the same.
-ghost use Rattle.std.specs.Prelude.{◌≡◌, ◌*◌, ◌^◌, ◌≤◌, IfOk};
+ghost use Rattle.std.specs.Prelude.{◌≡◌, ◌*◌, ◌^◌, ◌/◌, ◌≤◌, IfOk};
 ghost use Rattle.tile_pixels.specs.Tile.{HasShape};
 
 use parent_rule::{Combine, Depth, Steps};
-use std::alloc::Global;
+use std::alloc::{AllocError, Global};
 use std::io;
 use std::io::ErrorKind;
 use std::sync::Arc;
@@ -63,42 +63,71 @@ pub fn seeded(alloc: Global, depth: Depth, n: u8, blanks: u32, seed: u32) -> io:
     requires greatest { n ≤ 9 }
     ensures { IfOk result (λ tile. HasShape tile depth n) }
 {
-    let width = depth.bytes();
-    let pixels = 4usize.pow(u32::from(n));
-    let raw = numbers(alloc, width, pixels, blanks, seed)?;
-    if raw.len() != pixels * width {
-        return Err(io::Error::from(ErrorKind::InvalidData));
-    }
-    Ok(Tile::from_bytes(alloc, &raw, depth, n, &mut Steps::new())?)
+    let len = bytes_of_tile(depth, n);
+    let raw = numbers(alloc, depth.bytes(), len, blanks, seed)?;
+    tile_of(alloc, depth, n, &raw)
 }
 
-// The stored bytes of so many numbers, each so many bytes wide.
+// How many bytes a tile has.
+fn bytes_of_tile(depth: Depth, n: u8) -> usize
+    requires { n ≤ 9 }
+    ensures { result ≡ 4 ^ n * (depth.bitpix / 8) }
+{
+    4usize.pow(u32::from(n)) * depth.bytes()
+}
+
+// The tile of these bytes.
+fn tile_of(alloc: Global, depth: Depth, n: u8, raw: &[u8]) -> io::Result<Tile>
+    requires least { 1 ≤ n }
+    requires greatest { n ≤ 9 }
+    ensures { IfOk result (λ tile. HasShape tile depth n) }
+{
+    if raw.len() != bytes_of_tile(depth, n) {
+        return Err(io::Error::from(ErrorKind::InvalidData));
+    }
+    Ok(Tile::from_bytes(alloc, raw, depth, n, &mut Steps::new())?)
+}
+
+// The stored bytes of numbers, each so many bytes wide.
 fn numbers(
     alloc: Global,
     width: usize,
-    pixels: usize,
+    len: usize,
     blanks: u32,
     seed: u32,
-) -> io::Result<Vec<u8>> {
-    let blank = if width == 1 { 255 } else { 128 };
-    let mut raw = Vec::with_capacity(alloc, pixels.saturating_mul(width))?;
+) -> Result<Vec<u8>, AllocError> {
+    let mut raw = Vec::new(alloc);
+    raw.resize(len, 0)?;
     let mut state = seed;
-    for _ in 0..pixels {
-        state = state.wrapping_mul(1664525).wrapping_add(1013904223);
-        let is_blank = state >> 28 < blanks;
-        for place in 0..width {
-            state = state.wrapping_mul(1664525).wrapping_add(1013904223);
-            let byte = (state >> 24) as u8;
-            let byte = match (is_blank, place == 0) {
-                (true, true) => blank,
-                (true, false) => 0,
-                (false, true) if byte == blank => blank - 1,
-                (false, _) => byte,
-            };
-            raw.push(byte)?;
-        }
+    for number in raw.chunks_exact_mut(width.max(1)) {
+        state = following(state);
+        state = fill_number(number, state >> 28 < blanks, state);
     }
     Ok(raw)
+}
+
+// Writes the bytes of one number. What comes back is the state after it.
+fn fill_number(number: &mut [u8], is_blank: bool, mut state: u32) -> u32 {
+    let blank = if number.len() == 1 { 255 } else { 128 };
+    for (place, byte) in number.iter_mut().enumerate() {
+        state = following(state);
+        *byte = byte_of((state >> 24) as u8, blank, is_blank, place == 0);
+    }
+    state
+}
+
+fn following(state: u32) -> u32 {
+    state.wrapping_mul(1664525).wrapping_add(1013904223)
+}
+
+// A byte of a number that is blank, or isn't. A number that isn't begins with no byte that a blank one begins with.
+fn byte_of(byte: u8, blank: u8, is_blank: bool, is_first: bool) -> u8 {
+    match (is_blank, is_first) {
+        (true, true) => blank,
+        (true, false) => 0,
+        (false, true) if byte == blank => byte.wrapping_sub(1),
+        (false, _) => byte,
+    }
 }
 
 /// A tile of two columns and two lines of 16 bits.
@@ -109,16 +138,7 @@ fn numbers(
 pub fn small_tile(alloc: Global, depth: Depth) -> io::Result<Arc<Tile>>
     ensures { IfOk result (λ tile. HasShape tile.value depth 1) }
 {
-    if depth.bytes() != 2 {
-        return Err(io::Error::from(ErrorKind::InvalidData));
-    }
-    let tile = Tile::from_bytes(
-        alloc,
-        &[0, 1, 0, 2, 0, 3, 0, 4],
-        depth,
-        1,
-        &mut Steps::new(),
-    )?;
+    let tile = tile_of(alloc, depth, 1, &[0, 1, 0, 2, 0, 3, 0, 4])?;
     Ok(Arc::new(alloc, tile)?)
 }
 

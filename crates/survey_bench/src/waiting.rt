@@ -1,27 +1,26 @@
 //! How long a publication keeps the edits of another board waiting.
-ghost use Rattle.std.specs.Prelude.{◌≡◌, [], IfOk};
-ghost use Rattle.std.specs.Arc.{arc_value};
+ghost use Rattle.std.specs.Prelude.{◌≡◌, []};
+ghost use Rattle.pyramid_model.specs.Shape.{IsShape};
 
-use crate::boards::is_accepted;
+use crate::clocks::passed_since;
 use crate::edits::opened;
-use crate::publication::{FULL_LEAVES, started};
-use crate::survey::{FULL, described, first_leaves, leaf_tile};
+use crate::survey::{FULL, FULL_LEAVES, first_generation};
+use crate::workers::{Worker, is_accepted, workers};
 use edit_journal::Edit;
-use generation::Generation;
 use parent_rule::Steps;
-use reader_pin::{Board, Published, Shared, Survey, SurveyBook, SurveySeat, open_shared};
+use pyramid_model::Shape;
+use reader_pin::{Board, Published, Survey, SurveyBook, SurveySeat, open_shared};
 use shared_history::Naming;
 use std::alloc::Global;
 use std::io;
 use std::io::ErrorKind;
 use std::marker::Brand;
+use std::sync::Wait;
 use std::sync::atomic::{AtomicU64, Ordering};
-use std::sync::{Arc, Wait};
 use std::thread::{Threads, for_each_mut, yield_now};
 use std::time::{Clock, Instant};
 use survey_core::State;
 use survey_link::OpenGate;
-use tile_pixels::Tile;
 
 // A survey of 768 such leaves takes 256 edits; a round makes two.
 const ROUNDS: u64 = 24;
@@ -46,16 +45,6 @@ pub struct WaitTimes {
     pub calls: u32,
 }
 
-// A board, and what it measured last: of the one that publishes the nanoseconds of the publication, of the other one those of its
-// longest call, and how many calls it made.
-#[derive(Drop)]
-struct Caller<'a, J: Naming> {
-    board: Shared<'a, J>,
-    tile: Arc<Tile>,
-    nanos: Option<u128>,
-    calls: u32,
-}
-
 /// Times publications of one leaf in a full sky of order 3, of 768 leaves of 512 by 512. The calls of the other board are edits
 /// that add a leaf which is there: each takes the survey's lock, is refused, and makes no event.
 ///
@@ -66,21 +55,12 @@ pub fn time_waits<R: Clock + Threads + Wait + Sync>(
     rt: &R,
     alloc: Global,
 ) -> io::Result<WaitTimes> {
-    let state = opened(alloc, &full(rt, alloc)?)?;
+    let state = opened(alloc, &first_generation(rt, alloc, FULL, FULL_LEAVES)?)?;
     let times = waits::<Brand, R>(rt, alloc, SurveyBook::new(), state)?;
     if times.calls == 0 {
         return Err(io::Error::from(ErrorKind::TimedOut));
     }
     Ok(times)
-}
-
-// A full sky of order 3, of 768 leaves of 512 by 512.
-fn full<R: Threads + Sync>(rt: &R, alloc: Global) -> io::Result<Arc<Generation>>
-    ensures { IfOk result (λ made. (arc_value made).prefix ≡ 0) }
-{
-    let conf = described(alloc, FULL)?;
-    let leaves = first_leaves(alloc, conf.shape(), FULL_LEAVES)?;
-    Ok(Arc::new(alloc, started(rt, alloc, &conf, &leaves)?)?)
 }
 
 // Opens the survey with two places, and ends it.
@@ -93,23 +73,32 @@ fn waits<J: Naming + Send + Sync, R: Clock + Threads + Wait + Sync>(
     requires book { book ≡ J.book }
     requires first { state.batches ≡ [] }
 {
+    let shape = state.conf().shape();
     let (survey, seats): (Survey<J>, Vec<SurveySeat<J>>) = open_shared(rt, alloc, book, state, 2)?;
-    let times = rounds(rt, alloc, &survey, seats);
+    let times = at_places(rt, alloc, &survey, seats, shape);
     survey.close(rt);
     times
 }
 
-// All rounds.
-fn rounds<J: Naming + Send + Sync, R: Clock + Threads + Wait + Sync>(
+// The rounds of two places of a survey of that shape.
+fn at_places<J: Naming + Send + Sync, R: Clock + Threads + Wait + Sync>(
     rt: &R,
     alloc: Global,
     survey: &Survey<J>,
     seats: Vec<SurveySeat<J>>,
-) -> io::Result<WaitTimes> {
-    let mut callers = Vec::new(alloc);
-    for seat in seats {
-        callers.push(caller_at(alloc, survey, seat)?)?;
-    }
+    shape: Shape,
+) -> io::Result<WaitTimes>
+    requires { IsShape shape.top shape.low shape.n }
+{
+    let mut workers = workers(alloc, survey, seats, shape, 1000)?;
+    rounds(rt, workers.as_mut_slice()).ok_or(io::Error::from(ErrorKind::Unsupported))
+}
+
+// All rounds.
+fn rounds<'a, J: Naming + Send + Sync, R: Clock + Threads + Wait + Sync>(
+    rt: &R,
+    workers: &mut [Worker<'a, J>],
+) -> Option<WaitTimes> {
     let mut times = WaitTimes {
         alone: u128::MAX,
         beside: u128::MAX,
@@ -118,47 +107,47 @@ fn rounds<J: Naming + Send + Sync, R: Clock + Threads + Wait + Sync>(
         calls: 0,
     };
     for at in 0..ROUNDS {
-        round(rt, callers.as_mut_slice(), at, &mut times).ok_or(io::Error::from(
-            ErrorKind::Unsupported,
-        ))?;
+        round(rt, workers, at, &mut times)?;
     }
-    Ok(times)
-}
-
-fn caller_at<'a, J: Naming>(
-    alloc: Global,
-    survey: &'a Survey<J>,
-    seat: SurveySeat<J>,
-) -> io::Result<Caller<'a, J>> {
-    let board = Shared::new(alloc, survey, seat);
-    let tile = leaf_tile(alloc, board.last().conf().shape(), 1000)?;
-    Ok(Caller {
-        board,
-        tile,
-        nanos: None,
-        calls: 0,
-    })
+    Some(times)
 }
 
 // A publication alone, one beside the calls of the other board, and as many calls alone.
 fn round<'a, J: Naming + Send + Sync, R: Clock + Threads + Wait + Sync>(
     rt: &R,
-    callers: &mut [Caller<'a, J>],
+    workers: &mut [Worker<'a, J>],
     at: u64,
     times: &mut WaitTimes,
 ) -> Option<()> {
     let first = at.wrapping_mul(2);
-    let alone = publish(rt, callers.first_mut()?, first, &AtomicU64::new(0))?;
+    let alone = publish(rt, workers.first_mut()?, first, &AtomicU64::new(0))?;
     times.alone = times.alone.min(alone);
+    both_at_once(rt, workers, first.wrapping_add(1));
+    times.beside = times.beside.min(workers.first()?.nanos?);
+    calls_alone(rt, workers.last_mut()?, times)
+}
+
+// The first board publishes in a thread of its own, while the other one calls.
+fn both_at_once<'a, J: Naming + Send + Sync, R: Clock + Threads + Wait + Sync>(
+    rt: &R,
+    workers: &mut [Worker<'a, J>],
+    edit: u64,
+) {
     let stage = AtomicU64::new(0);
     for_each_mut(
         rt,
-        callers,
+        workers,
         2,
-        &|place, caller| { caller.nanos = part(rt, place, caller, first.wrapping_add(1), &stage) },
+        &|place, worker| { worker.nanos = part(rt, place, worker, edit, &stage) },
     );
-    times.beside = times.beside.min(callers.first()?.nanos?);
-    let other = callers.last_mut()?;
+}
+
+// As many calls alone as the other board has made beside the publication.
+fn calls_alone<'a, J: Naming, R: Clock + Wait>(
+    rt: &R,
+    other: &mut Worker<'a, J>,
+    times: &mut WaitTimes,
+) -> Option<()> {
     let (wait, calls) = (other.nanos?, other.calls);
     if calls > 0 && wait < times.wait {
         times.wait = wait;
@@ -175,12 +164,12 @@ fn round<'a, J: Naming + Send + Sync, R: Clock + Threads + Wait + Sync>(
 fn part<'a, J: Naming, R: Clock + Threads + Wait + Sync>(
     rt: &R,
     place: usize,
-    caller: &mut Caller<'a, J>,
+    worker: &mut Worker<'a, J>,
     edit: u64,
     stage: &AtomicU64,
 ) -> Option<u128> {
     if place == 0 {
-        return publish(rt, caller, edit, stage);
+        return publish(rt, worker, edit, stage);
     }
     for _ in 0..1u32 << 30 {
         if stage.load(Ordering::SeqCst) >= BEGUN {
@@ -188,21 +177,21 @@ fn part<'a, J: Naming, R: Clock + Threads + Wait + Sync>(
         }
         yield_now();
     }
-    longest(rt, caller, u32::MAX, stage)
+    longest(rt, worker, u32::MAX, stage)
 }
 
 // The nanoseconds of a publication, after an edit that replaces one leaf.
 fn publish<'a, J: Naming, R: Clock + Threads + Wait + Sync>(
     rt: &R,
-    caller: &mut Caller<'a, J>,
+    worker: &mut Worker<'a, J>,
     edit: u64,
     stage: &AtomicU64,
 ) -> Option<u128> {
     let leaf = edit.wrapping_mul(STEP) % FULL_LEAVES;
-    let tile = caller.tile.clone().ok()?;
-    let is_edited = is_accepted(rt, &mut caller.board, Edit::Replace { leaf, tile });
+    let tile = worker.tile.clone().ok()?;
+    let is_edited = is_accepted(rt, &mut worker.board, Edit::Replace { leaf, tile });
     stage.store(BEGUN, Ordering::SeqCst);
-    let nanos = published(rt, &mut caller.board);
+    let nanos = published(rt, &mut worker.board);
     stage.store(ENDED, Ordering::SeqCst);
     if is_edited { nanos } else { None }
 }
@@ -211,7 +200,7 @@ fn publish<'a, J: Naming, R: Clock + Threads + Wait + Sync>(
 fn published<B: Board, R: Clock + Threads + Wait + Sync>(rt: &R, board: &mut B) -> Option<u128> {
     let start = Instant::now(rt).ok()?;
     match board.publish(rt, &OpenGate::new(), &mut Steps::new()) {
-        Ok(Published::New(_)) => Some(start.elapsed(rt).ok()?.as_nanos()),
+        Ok(Published::New(_)) => passed_since(rt, start).ok(),
         Ok(Published::Already(_)) => None,
         Err(_) => None,
     }
@@ -220,7 +209,7 @@ fn published<B: Board, R: Clock + Threads + Wait + Sync>(rt: &R, board: &mut B) 
 // The nanoseconds of the longest of so many calls, of fewer where the publication ends before. They are counted.
 fn longest<'a, J: Naming, R: Clock + Wait>(
     rt: &R,
-    caller: &mut Caller<'a, J>,
+    worker: &mut Worker<'a, J>,
     most: u32,
     stage: &AtomicU64,
 ) -> Option<u128> {
@@ -231,8 +220,7 @@ fn longest<'a, J: Naming, R: Clock + Wait>(
         if stage.load(Ordering::SeqCst) == ENDED {
             break;
         }
-        let tile = caller.tile.clone().ok()?;
-        if is_accepted(rt, &mut caller.board, Edit::Add { leaf: 0, tile }) {
+        if !is_refused(rt, worker) {
             return None;
         }
         let after = Instant::now(rt).ok()?;
@@ -240,6 +228,14 @@ fn longest<'a, J: Naming, R: Clock + Wait>(
         before = after;
         calls = calls.saturating_add(1);
     }
-    caller.calls = calls;
+    worker.calls = calls;
     Some(longest)
+}
+
+// Adds a leaf that is there; whether that was refused.
+fn is_refused<'a, J: Naming, R: Wait>(rt: &R, worker: &mut Worker<'a, J>) -> bool {
+    match worker.tile.clone() {
+        Ok(tile) => !is_accepted(rt, &mut worker.board, Edit::Add { leaf: 0, tile }),
+        Err(_) => false,
+    }
 }

@@ -6,8 +6,8 @@ use Rattle.tile_pixels.specs.Tile.{PixelTile, HasShape}
 use Rattle.allsky_mosaic.specs.Tiles.{AreOfOrder3}
 use Rattle.survey_bench.proofs.mosaic.time_patch.Goals as goal
 
-pub patch-requires-clause-tiles : goal.patch-requires-clause-tiles
-patch-requires-clause-tiles g c =
+pub time_patched-requires-clause-tiles : goal.time_patched-requires-clause-tiles
+time_patched-requires-clause-tiles g c =
     let P : List (ℕ × PixelTile) → Type 0 = λ tiles. AreOfOrder3 c.args.depth 9 tiles in
     let before : AreOfOrder3 c.args.depth 9 c.in_ok-now.now = subst P (sym c.in_ok-now.ensures.same) c.requires.tiles in
     subst P (sym c.in_ok-put.ensures.put) (record {
@@ -15,8 +15,8 @@ patch-requires-clause-tiles g c =
       shapes = All-values-insert_entry nat_cmp _ _ (λ tile. HasShape tile c.args.depth 9) c.in_ok-now.now before.shapes c.requires.tile;
     })
 
-pub patch-requires-clause-old : goal.patch-requires-clause-old
-patch-requires-clause-old g c = (
+pub time_patched-requires-clause-old : goal.time_patched-requires-clause-old
+time_patched-requires-clause-old g c = (
   c.args.tiles.now,
   record {
     tiles = c.requires.tiles;

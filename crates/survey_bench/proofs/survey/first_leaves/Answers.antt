@@ -14,5 +14,5 @@ loop-i-preserved c =
     record {
       ascending = c.in_ok-put.ensures.ascending;
       cells = subst Cells (sym c.in_ok-put.ensures.put) (All-keys-insert_entry nat_cmp _ _ (λ leaf. leaf < cell_count c.args.shape.top) c.loop-i.store c.loop-i.invariant.cells c.in_ok-leaf.ensures);
-      tiles = subst Tiles (sym c.in_ok-put.ensures.put) (All-values-insert_entry nat_cmp _ _ (FitsTile c.args.shape) c.loop-i.store c.loop-i.invariant.tiles c.in_ok-leaf_tile.ensures);
+      tiles = subst Tiles (sym c.in_ok-put.ensures.put) (All-values-insert_entry nat_cmp _ _ (FitsTile c.args.shape) c.loop-i.store c.loop-i.invariant.tiles c.in_ok-tile.ensures);
     }

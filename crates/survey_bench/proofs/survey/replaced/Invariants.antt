@@ -3,6 +3,6 @@ use Rattle.survey_bench.proofs.survey.replaced.Given as goal
 
 abbrev pub invariant-loop-i : goal.invariant-loop-i
 invariant-loop-i l = record {
-  shape : l.newest.shape ≡ l.fn.journal.shape;
-  opening : l.newest.opening ≡ l.fn.journal.opening;
+  shape : l.newest.shape ≡ l.fn.generation.conf.shape;
+  opening : l.newest.opening ≡ l.fn.generation.leaves;
 }

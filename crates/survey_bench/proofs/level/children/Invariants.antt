@@ -1,5 +1,0 @@
-use Rattle.rebuild_worker.specs.Level.{HaveShape}
-use Rattle.survey_bench.proofs.level.children.Given as goal
-
-abbrev pub invariant-loop-npix : goal.invariant-loop-npix
-invariant-loop-npix l = HaveShape l.shape l.store

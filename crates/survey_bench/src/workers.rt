@@ -1,0 +1,90 @@
+//! The boards of a survey, each of which is to work in a thread of its own.
+ghost use Rattle.std.specs.Prelude.{IsTrue};
+ghost use Rattle.edit_journal.specs.Edit.{edit_of};
+ghost use Rattle.edit_journal.specs.Leaves.{FitsEdit};
+ghost use Rattle.pyramid_model.specs.Shape.{IsShape};
+
+use crate::survey::leaf_tile;
+use edit_journal::Edit;
+use healpix_nested::cells;
+use pyramid_model::Shape;
+use reader_pin::{Board, Shared, Survey, SurveySeat};
+use shared_history::Naming;
+use std::alloc::Global;
+use std::io;
+use std::sync::{Arc, Wait};
+use tile_pixels::Tile;
+
+/// A board, and what it measured last.
+#[derive(Drop)]
+pub struct Worker<'a, J: Naming> {
+    pub board: Shared<'a, J>,
+    /// The tile of its edits.
+    pub tile: Arc<Tile>,
+    /// The nanoseconds of its work; `None` where it had no clock.
+    pub nanos: Option<u128>,
+    /// How many calls of `edit` it made that count.
+    pub calls: u32,
+}
+
+/// A worker at each place of a survey of that shape; the tile of its edits has this seed.
+///
+/// # Errors
+///
+/// Where there is no memory.
+pub fn workers<'a, J: Naming>(
+    alloc: Global,
+    survey: &'a Survey<J>,
+    seats: Vec<SurveySeat<J>>,
+    shape: Shape,
+    seed: u64,
+) -> io::Result<Vec<Worker<'a, J>>>
+    requires { IsShape shape.top shape.low shape.n }
+{
+    let mut workers = Vec::new(alloc);
+    for seat in seats {
+        workers.push(worker_at(alloc, survey, seat, shape, seed)?)?;
+    }
+    Ok(workers)
+}
+
+// The worker at a place.
+fn worker_at<'a, J: Naming>(
+    alloc: Global,
+    survey: &'a Survey<J>,
+    seat: SurveySeat<J>,
+    shape: Shape,
+    seed: u64,
+) -> io::Result<Worker<'a, J>>
+    requires { IsShape shape.top shape.low shape.n }
+{
+    let tile = leaf_tile(alloc, shape, 1, seed)?;
+    Ok(Worker {
+        board: Shared::new(alloc, survey, seat),
+        tile,
+        nanos: None,
+        calls: 0,
+    })
+}
+
+/// Whether the board accepts the edit.
+pub fn is_accepted<B: Board, R: Wait>(rt: &R, board: &mut B, edit: Edit) -> bool {
+    if !fits(board, &edit) {
+        return false;
+    }
+    board.edit(rt, edit).is_ok()
+}
+
+// Whether the edit fits the board's survey.
+fn fits<B: Board>(board: &B, edit: &Edit) -> bool
+    ensures { IsTrue result → FitsEdit (B.content board.now).conf.shape (edit_of edit.now) }
+{
+    let shape = board.last().conf().shape();
+    if edit.leaf() >= cells(shape.top) {
+        return false;
+    }
+    match edit.tile() {
+        Some(tile) => tile.depth() == shape.depth && tile.n() == shape.n,
+        None => true,
+    }
+}
