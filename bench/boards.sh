@@ -3,7 +3,8 @@
 #
 # - Pins: how long one `pin` takes in 1, 2 and 4 threads at once, each with a board of its own: while nobody changes the survey,
 #   and while another thread edits all the time. Each thread makes 2^18 pins; the time is that of the slowest thread, on the wall.
-#   `edits` is how many edits were accepted meanwhile: where it is 65,536, the most that a survey takes, the writer had ended
+#   After that it makes as many again, 64 at a time, and of these times the middle one is shown for one pin: what a pin takes that
+#   meets nothing new. `edits` is how many edits were accepted meanwhile: where it is 65,536, the most that a survey takes, the writer had ended
 #   before the others. Beside both stands the first again, while a shell that has nothing to do with the survey counts on another
 #   processor: what a pin takes longer there is the machine's, and not the writer's.
 # - Edits: how many a second one board makes, and two at once, of 2^15 edits each, on the wall. Each puts a tile of 32 by 32 on
@@ -53,16 +54,18 @@ while [ "$run" -lt "$runs" ]; do
 done
 
 echo "boards of one survey, $(nproc) processors:"
-# THREADS QUIET BUSY EDITS, in nanoseconds for each pin; then the same beside a stranger, of which only QUIET counts
+# THREADS QUIET BUSY EDITS QUIET_MIDDLE BUSY_MIDDLE, in nanoseconds for each pin; then the same beside a stranger, of which only QUIET counts
 awk '
     FILENAME ~ /beside$/ { if (!($1 in stranger) || $2 < stranger[$1]) stranger[$1] = $2; next }
     !($1 in quiet) || $2 < quiet[$1] { quiet[$1] = $2 }
     !($1 in busy) || $3 < busy[$1] { busy[$1] = $3; edits[$1] = $4 }
+    !($1 in quiet_middle) || $5 < quiet_middle[$1] { quiet_middle[$1] = $5 }
+    !($1 in busy_middle) || $6 < busy_middle[$1] { busy_middle[$1] = $6 }
     END {
         split("1 2 4", order)
         for (i = 1; i <= 3; i++) {
             t = order[i]
-            printf "  pins in %d thread(s): %.1f ns, %.1f million a second; beside a writer %.1f ns, %.1f million a second, ratio %.2f, %d edits meanwhile; beside a stranger %.1f ns (goal: under 200 ns, no slower beside a writer)\n", t, quiet[t], t * 1000 / quiet[t], busy[t], t * 1000 / busy[t], busy[t] / quiet[t], edits[t], stranger[t]
+            printf "  pins in %d thread(s): %.1f ns, %.1f million a second; beside a writer %.1f ns, %.1f million a second, ratio %.2f, %d edits meanwhile; the middle one %.1f and %.1f ns, ratio %.2f; beside a stranger %.1f ns (goal: under 200 ns, no slower beside a writer)\n", t, quiet[t], t * 1000 / quiet[t], busy[t], t * 1000 / busy[t], busy[t] / quiet[t], edits[t], quiet_middle[t], busy_middle[t], busy_middle[t] / quiet_middle[t], stranger[t]
         }
     }' "$work/pins" "$work/beside"
 # BOARDS EACH, in nanoseconds for each edit of one board

@@ -33,13 +33,18 @@ pub const EDITS: u32 = 1 << 15;
 // Leaf numbers below 2^16, each far from the one before.
 const STEP: u64 = 40503;
 
-/// The least nanoseconds, of the slowest thread, of so many pins: with no other board, and beside one that edits all the time; and
-/// how many edits that one made then.
+/// How many pins are timed at once, where half of the times are to be less than one.
+pub const BLOCK: u32 = 64;
+
+/// The least nanoseconds, of the slowest thread, of so many pins: with no other board, and beside one that edits all the time; how
+/// many edits that one made then; and of a block of pins, the time than which half of a thread's blocks took less.
 #[derive(Clone, Copy)]
 pub struct PinTimes {
     pub quiet: u128,
     pub busy: u128,
     pub edits: u32,
+    pub quiet_block: u128,
+    pub busy_block: u128,
 }
 
 // What the boards of a survey do at once.
@@ -51,10 +56,11 @@ enum Work {
     Edits(usize),
 }
 
-// What it took, in nanoseconds of the slowest thread, and how many edits were made.
+// What it took, in nanoseconds of the slowest thread, as a whole and for a block of pins, and how many edits were made.
 #[derive(Clone, Copy)]
 struct Took {
     nanos: u128,
+    block: u128,
     edits: u32,
 }
 
@@ -85,11 +91,15 @@ fn time_pin_rounds<R: Clock + Threads + Wait + Sync>(
         quiet: u128::MAX,
         busy: u128::MAX,
         edits: 0,
+        quiet_block: u128::MAX,
+        busy_block: u128::MAX,
     };
     for _ in 0..ROUNDS {
         let quiet = round(rt, alloc, generation, Work::Pins(threads, false))?;
         times.quiet = times.quiet.min(quiet.nanos);
+        times.quiet_block = times.quiet_block.min(quiet.block);
         let busy = round(rt, alloc, generation, Work::Pins(threads, true))?;
+        times.busy_block = times.busy_block.min(busy.block);
         if busy.nanos < times.busy {
             times.busy = busy.nanos;
             times.edits = busy.edits;
@@ -187,12 +197,13 @@ fn at_places<J: Naming + Send + Sync, R: Clock + Threads + Wait + Sync>(
     requires { IsShape shape.top shape.low shape.n }
 {
     let mut workers = workers(alloc, survey, seats, shape, 1)?;
-    at_once(rt, workers.as_mut_slice(), work)
+    at_once(rt, alloc, workers.as_mut_slice(), work)
 }
 
 // All work at once, each in a thread of its own.
 fn at_once<'a, J: Naming + Send + Sync, R: Clock + Threads + Wait + Sync>(
     rt: &R,
+    alloc: Global,
     workers: &mut [Worker<'a, J>],
     work: Work,
 ) -> io::Result<Took> {
@@ -202,16 +213,21 @@ fn at_once<'a, J: Naming + Send + Sync, R: Clock + Threads + Wait + Sync>(
         rt,
         workers,
         threads,
-        &|at, worker| { work_at(rt, at, worker, work, &ended) },
+        &|at, worker| { work_at(rt, alloc, at, worker, work, &ended) },
     );
     slowest(workers).ok_or(io::Error::from(ErrorKind::Unsupported))
 }
 
 // The time of the slowest, and the edits of all.
 fn slowest<'a, J: Naming>(workers: &[Worker<'a, J>]) -> Option<Took> {
-    let mut took = Took { nanos: 0, edits: 0 };
+    let mut took = Took {
+        nanos: 0,
+        block: 0,
+        edits: 0,
+    };
     for worker in workers {
         took.nanos = took.nanos.max(worker.nanos?);
+        took.block = took.block.max(worker.block);
         took.edits = took.edits.saturating_add(worker.calls);
     }
     Some(took)
@@ -220,6 +236,7 @@ fn slowest<'a, J: Naming>(workers: &[Worker<'a, J>]) -> Option<Took> {
 // The part of one place: of pins the first place is that of the board that edits.
 fn work_at<'a, J: Naming, R: Clock + Wait>(
     rt: &R,
+    alloc: Global,
     at: usize,
     worker: &mut Worker<'a, J>,
     work: Work,
@@ -234,6 +251,7 @@ fn work_at<'a, J: Naming, R: Clock + Wait>(
         Work::Pins(_, false) if at == 0 => worker.nanos = Some(0),
         Work::Pins(_, _) => {
             worker.nanos = pin_all(rt, &mut worker.board);
+            worker.block = usual_block(rt, alloc, &mut worker.board).unwrap_or(u128::MAX);
             ended.fetch_add(1, Ordering::SeqCst);
         }
     }
@@ -243,6 +261,25 @@ fn work_at<'a, J: Naming, R: Clock + Wait>(
 fn pin_all<B: Board, R: Clock>(rt: &R, board: &mut B) -> Option<u128> {
     let start = Instant::now(rt).ok()?;
     for _ in 0..PINS {
+        board.pin();
+    }
+    passed_since(rt, start).ok()
+}
+
+// The nanoseconds than which half of many blocks of pins take less.
+fn usual_block<B: Board, R: Clock>(rt: &R, alloc: Global, board: &mut B) -> Option<u128> {
+    let mut blocks = Vec::new(alloc);
+    for _ in 0..PINS / BLOCK {
+        blocks.push(pin_block(rt, board)?).ok()?;
+    }
+    blocks.sort_unstable();
+    blocks.get(blocks.len() / 2).copied()
+}
+
+// The nanoseconds of a block of pins.
+fn pin_block<B: Board, R: Clock>(rt: &R, board: &mut B) -> Option<u128> {
+    let start = Instant::now(rt).ok()?;
+    for _ in 0..BLOCK {
         board.pin();
     }
     passed_since(rt, start).ok()

@@ -17,8 +17,9 @@
 //! - `generation deep` is 65,536 leaves of order 11, of 32 by 32: the times of `start`, and of `next` after one leaf was replaced;
 //!   and the processor time of one `State::accept` of an edit.
 //! - `boards pins THREADS` is so many threads that pin boards of one survey at once, of 65,536 leaves of order 11: the time by the
-//!   clock on the wall of one pin, of the slowest thread, while nobody edits and while another thread does; and how many edits that
-//!   one made meanwhile. `boards edits BOARDS` is so many boards that edit at once: the time of one edit of one board.
+//!   clock on the wall of one pin, of the slowest thread, while nobody edits and while another thread does; how many edits that one
+//!   made meanwhile; and, of pins in blocks of 64, the time for one than which half of the blocks took less, again without and with
+//!   edits. `boards edits BOARDS` is so many boards that edit at once: the time of one edit of one board.
 //! - `boards publication` is a publication of one leaf of a full sky: its time, alone and while another board calls `edit`; the
 //!   time of the longest of these calls, and of as many with no publication; and how many calls there were.
 //! - `journal COUNT` is so many edits of one leaf, where each journal on the way is kept: the processor time for each edit, and
@@ -40,7 +41,7 @@ mod tiles;
 mod waiting;
 mod workers;
 
-use boards::{EDITS, PINS, time_board_edits, time_pins};
+use boards::{BLOCK, EDITS, PINS, time_board_edits, time_pins};
 use cover::time_cover;
 use journal::time_journal;
 use level::{TILES, time_level};
@@ -277,6 +278,8 @@ fn print_pins<R: Clock + Threads + Wait + Print + Sync>(
             Figure::each(times.quiet, u128::from(PINS)),
             Figure::each(times.busy, u128::from(PINS)),
             Figure::Whole(u128::from(times.edits)),
+            Figure::each(times.quiet_block, u128::from(BLOCK)),
+            Figure::each(times.busy_block, u128::from(BLOCK)),
         ],
     )
 }

@@ -23,6 +23,8 @@ pub struct Worker<'a, J: Naming> {
     pub tile: Arc<Tile>,
     /// The nanoseconds of its work; `None` where it had no clock.
     pub nanos: Option<u128>,
+    /// The nanoseconds of a block of its pins; 0 where they weren't asked for.
+    pub block: u128,
     /// How many calls of `edit` it made that count.
     pub calls: u32,
 }
@@ -63,6 +65,7 @@ fn worker_at<'a, J: Naming>(
         board: Shared::new(alloc, survey, seat),
         tile,
         nanos: None,
+        block: 0,
         calls: 0,
     })
 }
