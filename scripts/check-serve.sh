@@ -1,12 +1,12 @@
 #!/bin/bash
 # Tries `hipsd serve` over real sockets as clients use it: with curl, with many connections of Python's standard library that
-# edit, publish and read at once, and with astropy and stilts where they are installed. It starts the built program on a free
+# edit, publish and read at once, behind nginx, and with astropy and stilts. It starts the built program on a free
 # port of the loopback, over a survey of its own, and ends the server that it started.
 #
 #     scripts/check-serve.sh [PROGRAM [SECONDS]]
 #
 # PROGRAM is crates/hipsd/out/hipsd if none is named, which `rt run` leaves there (check-statuses.sh has it built). SECONDS is how
-# long the many connections go on, 20 if not said. Where curl or Python is missing this fails if CI=true, and else says so.
+# long the many connections go on, 20 if not said. Where a tool is missing this fails if CI=true, and else says what it left out.
 PATH=$PATH:/usr/sbin
 cd "$(dirname "$0")/.." || exit 1
 program=$(realpath -e "${1:-crates/hipsd/out/hipsd}") || { echo "check-serve: there is no built hipsd" >&2; exit 1; }
@@ -35,6 +35,11 @@ wrong=0
 blame() {
     echo "check-serve: $*" >&2
     wrong=1
+}
+# A tool isn't there.
+leaves_out() {
+    echo "check-serve: left out, since it isn't installed here: $1"
+    [ "${CI:-}" = true ] && blame "$1 isn't installed"
 }
 
 mkdir "$folder/survey" && cd "$folder/survey" || exit 1
@@ -153,13 +158,13 @@ with fits.open(io.BytesIO(urlopen(sys.argv[1] + "/Moc.fits").read())) as file:
     assert [int(row[0]) for row in file[1].data] == [4 * 4**5 + 7], "the coverage"
 PYTHON
 else
-    echo "check-serve: left out: python3-astropy"
+    leaves_out python3-astropy
 fi
 if command -v stilts >/dev/null 2>&1; then
     rows=$(stilts tpipe ifmt=fits in="$base/Moc.fits" omode=out ofmt=csv out=- 2>/dev/null | tail -1)
     [ "$rows" = 4103 ] || blame "stilts reads '$rows' in the coverage"
 else
-    echo "check-serve: left out: stilts"
+    leaves_out stilts
 fi
 
 # ---- the examples: edits by curl, and a proxy
@@ -206,7 +211,7 @@ if command -v nginx >/dev/null 2>&1; then
         blame "nginx: $(cat "$folder/refused")"
     fi
 else
-    echo "check-serve: left out: nginx"
+    leaves_out nginx
 fi
 
 # ---- an address in use
