@@ -12,7 +12,7 @@
 #include <time.h>
 
 enum { STATES = 4096, PINS = 1 << 18, ROUNDS = 101 };
-// Each on a line of its own, and on the one beside it.
+// Each has two lines of memory to itself, since a processor may fetch them in pairs.
 static struct { _Alignas(128) atomic_ulong owners; } state[STATES];
 static _Alignas(128) atomic_ulong shown;
 static _Alignas(128) atomic_ulong inside;
