@@ -4,4 +4,5 @@ pub mod Cuts
 pub mod LookUps
 pub mod Pages
 pub mod Roots
+pub mod Shown
 pub mod Slots

@@ -5,7 +5,7 @@ use Rattle.std.specs.Arc.{arc_value}
 use Rattle.std.specs.declared.sync.Arc.{Arc}
 use Rattle.std.specs.List.Sorted.{IsStrictlySortedBy}
 use Rattle.leaf_store.specs.Store.{IsAscending, value_at, with_value, without_key}
-use Rattle.leaf_store.specs.Tree.{root_pairs, IsRoot, IsTree}
+use Rattle.leaf_store.specs.Tree.{root_entries, IsRoot, IsTree}
 use Rattle.leaf_store.proofs.Changed.{value-with_same, value-with_other, length-with, length-without}
 
 ascending_none : (T : Type 0) → IsAscending {T = T} []
@@ -14,7 +14,7 @@ ascending_none T = tt
 
 -- no root is the empty store
 pub tree_none : {T : Type 0} → IsTree {T = T} None
-unfolding root_pairs IsRoot
+unfolding root_entries IsRoot
 tree_none {T} = record { ascending = ascending_none T; right = tt }
 
 abbrev pairs_more : {T : Type 0} → Option T → ℕ

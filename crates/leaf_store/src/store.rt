@@ -35,7 +35,7 @@ impl<T> Model for Store<T> {
     ghost invariant = { λ s. IsTree s.root };
 }
 
-#[tactic(auto, unfolding(crate::specs::Tree::root_pairs, crate::specs::Tree::IsRoot))]
+#[tactic(auto, using(crate::proofs::Shown::root_shown), unfolding(crate::specs::Tree::root_entries, crate::specs::Tree::IsRoot))]
 impl<T> Store<T> {
     /// The empty store, which takes its memory from `alloc` as it grows.
     pub fn new(alloc: Global) -> Store<T>
@@ -99,7 +99,7 @@ impl<T> Store<T> {
     }
 }
 
-#[tactic(auto, unfolding(crate::specs::Tree::root_pairs, crate::specs::Tree::IsRoot))]
+#[tactic(auto, using(crate::proofs::Shown::root_shown), unfolding(crate::specs::Tree::root_entries, crate::specs::Tree::IsRoot))]
 impl<T: Drop> Store<T> {
     /// Gives the key this value, and answers the key's old value, if it had one. All other pairs stay.
     ///
