@@ -3,13 +3,17 @@
 # pixels of 16 bits, and 65,536 leaves of order 11, of 32 by 32.
 #
 # Of each: the bytes of all pixels of one generation; seconds from the start of the program until it answers; its resident set
-# then, after the first publication, and after all; microseconds of a PUT and milliseconds of a publication, as one client over a
-# connection that stays open sees them (median). There are 1,000 PUTs and 10 publications, or, of the full sky, 240 PUTs: a survey
-# takes no more than 2^29 bytes of tiles with all its edits.
+# then and after publications; microseconds of a PUT and milliseconds of a publication, as one client over a connection that stays
+# open sees them (median). There are 1,000 PUTs and 10 publications, or, of the full sky, 240 PUTs: a survey takes no more than
+# 2^29 bytes of tiles with all its edits. Then the 65,536 leaves once more, with 20,000 PUTs and 200 publications.
+#
+# The server has one place, so that nobody holds an old state: a place keeps the state that it last saw until its next request,
+# also while it waits for a connection. With PLACES=4 three places keep the first one.
 #
 #   bench/scale.sh         (HIPSD=PROGRAM: another program than crates/hipsd/out/hipsd)
 set -u
 here=$(cd "$(dirname "$0")" && pwd)
+places=${PLACES:-1}
 hipsd=$(realpath -e "${HIPSD:-$here/../crates/hipsd/out/hipsd}") || { echo "scale.sh: hipsd isn't built"; exit 1; }
 command -v python3 >/dev/null 2>&1 || { echo "scale.sh: there is no python3 here"; exit 0; }
 work=$(mktemp -d) || exit 1
@@ -46,11 +50,11 @@ print(f"order {order}, {leaves} leaves of {width} by {width}: pixels of one gene
 PYTHON
 }
 
-# measure ORDER WIDTH LEAVES EDITS
+# measure ORDER WIDTH LEAVES EDITS PUBLICATIONS
 measure() {
     make "$1" "$2" "$3"
     port=$(python3 -c 'import socket; s = socket.socket(); s.bind(("127.0.0.1", 0)); print(s.getsockname()[1])')
-    "$hipsd" serve "127.0.0.1:$port" 65536 4 2>"$work/log" &
+    "$hipsd" serve "127.0.0.1:$port" 65536 "$places" 2>"$work/log" &
     server=$!
     python3 - "$here/../scripts" "$server" "$port" "$@" <<'PYTHON' || { cat "$work/log"; exit 1; }
 import http.client
@@ -64,7 +68,7 @@ from pathlib import Path
 sys.path.insert(0, sys.argv[1])
 from survey_files import image, tile_path
 
-server, port, order, width, leaves, edits = (int(word) for word in sys.argv[2:])
+server, port, order, width, leaves, edits, count = (int(word) for word in sys.argv[2:])
 
 
 def resident():
@@ -101,12 +105,13 @@ puts, publications, sizes = [], [], []
 for i in range(edits):
     file = image(width, width, [i % 4096] * (width * width))
     puts.append(ask("PUT", "/" + tile_path(order, chance.randrange(leaves)), file))
-    if (i + 1) % (edits // 10) == 0:
+    if (i + 1) % (edits // count) == 0:
         publications.append(ask("POST", "/publish", b""))
         sizes.append(resident())
-print(f"  answers after {loaded:.2f} s; resident {opened:.1f} MB, after the first publication {sizes[0]:.1f}, after "
-      f"{edits} edits and {len(sizes)} publications {sizes[-1]:.1f}; the edits' own tiles {edits * width * width * 2 / 1e6:.1f} MB")
-print(f"  a PUT {statistics.median(puts) * 1e6:.0f} microseconds, a publication of {edits // 10} edits "
+told = ", ".join(f"after {n} {sizes[n - 1]:.1f}" for n in (1, 10, 50, 100, 150, 200) if n <= count)
+print(f"  answers after {loaded:.2f} s; resident {opened:.1f} MB, {told} publications of {edits // count} edits; "
+      f"the tiles of all {edits} edits {edits * width * width * 2 / 1e6:.1f} MB")
+print(f"  a PUT {statistics.median(puts) * 1e6:.0f} microseconds, a publication of {edits // count} edits "
       f"{statistics.median(publications) * 1e3:.1f} ms")
 one = []
 for i in range(10):
@@ -118,5 +123,6 @@ PYTHON
     wait "$server" 2>/dev/null
     server=
 }
-measure 3 512 768 240
-measure 11 32 65536 1000
+measure 3 512 768 240 10
+measure 11 32 65536 1000 10
+measure 11 32 65536 20000 200
