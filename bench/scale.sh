@@ -108,8 +108,8 @@ for i in range(edits):
     if (i + 1) % (edits // count) == 0:
         publications.append(ask("POST", "/publish", b""))
         sizes.append(resident())
-told = ", ".join(f"after {n} {sizes[n - 1]:.1f}" for n in (1, 10, 50, 100, 150, 200) if n <= count)
-print(f"  answers after {loaded:.2f} s; resident {opened:.1f} MB, {told} publications of {edits // count} edits; "
+told = ", ".join(f"{sizes[n - 1]:.1f} ({n})" for n in (1, 10, 50, 100, 150, 200) if n <= count)
+print(f"  answers after {loaded:.2f} s; resident {opened:.1f} MB; after so many publications of {edits // count} edits {told}; "
       f"the tiles of all {edits} edits {edits * width * width * 2 / 1e6:.1f} MB")
 print(f"  a PUT {statistics.median(puts) * 1e6:.0f} microseconds, a publication of {edits // count} edits "
       f"{statistics.median(publications) * 1e3:.1f} ms")
