@@ -1,7 +1,7 @@
 //! The all-sky mosaic of a survey: one image of its tiles of order 3, each with at most 64 columns and lines.
 //!
-//! `whole` makes it of all tiles by as many threads as repay, `patch` of the mosaic that there was before some tiles changed.
-//! Both answer the stored bytes of the image, bottom line first.
+//! `whole` makes it of all tiles by as many threads as repay, `patch` of the mosaic that there was before some tiles changed, and
+//! `patch_in_place` does so in that mosaic's own bytes: the stored bytes of the image, bottom line first.
 #![tactic(auto)]
 
 mod bands;
@@ -10,4 +10,4 @@ mod patching;
 mod square;
 
 pub use making::whole;
-pub use patching::patch;
+pub use patching::{patch, patch_in_place};

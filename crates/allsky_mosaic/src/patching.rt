@@ -1,5 +1,5 @@
 //! A mosaic after some tiles of order 3 have changed.
-ghost use Rattle.std.specs.Prelude.{◌≡◌, ◌≢◌, ℕ, ◌+◌, ◌-◌, ◌*◌, ◌/◌, ◌<◌, ◌≤◌, ◌↔◌, [], length, All, Contains, IfOk, IfSome, IsNone};
+ghost use Rattle.std.specs.Prelude.{◌≡◌, ◌≢◌, ℕ, ◌+◌, ◌-◌, ◌*◌, ◌/◌, ◌<◌, ◌≤◌, ◌↔◌, [], length, All, Contains, IfOk, OnOk, IfSome, IsNone};
 ghost use Rattle.pyramid_model.specs.Shape.{PyramidShape, LeafMap};
 ghost use Rattle.tile_pixels.specs.Stored.{stored_at};
 ghost use Rattle.allsky_mosaic.specs.Mosaic.{side_of, place_pixel};
@@ -42,12 +42,39 @@ pub fn patch(
     if tiles.len() == 0 {
         return Ok(None);
     }
-    let side = side(n);
-    let blank = blank_lines(alloc, depth, side, side)?;
     let mut raw = Vec::with_capacity(alloc, old.len())?;
     raw.extend_from_slice(old)?;
-    patch_cells(alloc, depth, n, touched, tiles, &blank, &mut raw)?;
+    patch_in_place(alloc, depth, n, touched, tiles, &mut raw)?;
     Ok(Some(raw))
+}
+
+/// Makes the mosaic that there was before some tiles of order 3 changed that of the tiles that there are now, as `patch` does,
+/// in its own place. It is the mosaic of no tiles too. After an error it is neither.
+///
+/// # Errors
+///
+/// `AllocError` where there is no memory for a square.
+pub fn patch_in_place(
+    alloc: Global,
+    depth: Depth,
+    n: u8,
+    touched: &[u64],
+    tiles: &Store<Tile>,
+    raw: &mut [u8],
+) -> Result<(), AllocError>
+    requires least_n { 1 ≤ n }
+    requires greatest_n { n ≤ 9 }
+    requires touched { All (λ cell. cell < 768) touched.now }
+    requires tiles { AreOfOrder3 depth n tiles.now }
+    requires old { WasMosaic depth n touched.now tiles.now raw.old }
+    ensures mosaic { OnOk result (IsMosaic depth n (order_3 depth n) (leaves_of tiles.now) raw.new) }
+    ensures survey { OnOk result ((shape : PyramidShape) (leaves : LeafMap) → IsSurvey depth n shape
+        → ((cell : ℕ) → cell < 768 → ShowsCell shape leaves tiles.now cell) → IsMosaic depth n shape leaves raw.new) }
+{
+    let side = side(n);
+    let blank = blank_lines(alloc, depth, side, side)?;
+    patch_cells(alloc, depth, n, touched, tiles, &blank, raw)?;
+    Ok(())
 }
 
 // Makes the squares of the touched cells anew.

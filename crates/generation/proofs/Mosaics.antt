@@ -1,18 +1,18 @@
 -- The mosaic of a survey, from its tiles of order 3.
-use Rattle.std.proofs.Common.{◌≡◌, ℕ, ◌+◌, ◌-◌, ◌/◌, ◌^◌, ◌<◌, ◌≤◌, true, false, map, filter, List, [], ◌∷◌, Option, Some, None, refl, sym, ap, ◌∙◌, subst, arith, length, get_or, take, drop, ◌++◌, option_map, ◌↔◌, Result, Ok, Err, Vec, Global, replicate}
+use Rattle.std.proofs.Common.{◌≡◌, ℕ, ◌+◌, ◌-◌, ◌*◌, ◌/◌, ◌^◌, ◌<◌, ◌≤◌, true, false, map, filter, List, [], ◌∷◌, Option, Some, None, refl, sym, ap, ◌∙◌, subst, arith, length, get_or, take, drop, ◌++◌, option_map, ◌↔◌, Result, Ok, Err, Vec, Global, replicate}
 use Rattle.std.specs.Prelude.{All, IsTrue, IsNone, IfSome, IfOk}
 use Rattle.std.specs.List.{range_with_len}
 use Rattle.std.specs.Map.{keys_of}
 use Rattle.std.proofs.lemmas.Bool.{or_left}
 use Rattle.std.proofs.lemmas.List.Elements.{All-filter}
-use Rattle.std.proofs.lemmas.List.FromFn.{length-range_with_len, get_or-range_with_len}
+use Rattle.std.proofs.lemmas.List.FromFn.{length-range_with_len, length-map-range_with_len, get_or-range_with_len}
 use Rattle.healpix_nested.specs.Cells.{cell_count, lies_under}
 use Rattle.healpix_nested.specs.CellLaws.{under_ancestor}
 use Rattle.pyramid_model.specs.Shape.{PyramidShape, LeafMap, FitsShape, IsShape}
 use Rattle.pyramid_model.specs.Tile.{exists}
 use Rattle.tile_pixels.specs.Tile.{PixelTile}
 use Rattle.tile_pixels.specs.Stored.{numbers_from, stored_bytes}
-use Rattle.tile_pixels.specs.StoredLaws.{AreBytes, stored_bytes-numbers_from}
+use Rattle.tile_pixels.specs.StoredLaws.{AreBytes, AreBytes-take, AreBytes-drop, length-stored_bytes, stored_bytes-numbers_from}
 use Rattle.fits_header.specs.Cards.{whole_blocks}
 use Rattle.fits_header.specs.FitsFile.{fits_file, header_text}
 use Rattle.fits_header.specs.WrittenCards.{end_card}
@@ -20,13 +20,14 @@ use Rattle.parent_rule.specs.Depth.{PixelDepth, is_bitpix}
 use Rattle.leaf_store.specs.Store.{value_at}
 use Rattle.survey_conf.specs.Description.{Description}
 use Rattle.fits_tile.specs.TileFile.{image_file, image_cards}
-use Rattle.allsky_mosaic.specs.Mosaic.{mosaic_count, width_of, height_of}
+use Rattle.allsky_mosaic.specs.Mosaic.{mosaic, mosaic_count, mosaic_number, width_of, height_of}
 use Rattle.allsky_mosaic.specs.Tiles.{AreOfOrder3, IsSurvey, IsMosaic, ShowsCell, order_3, leaves_of}
 use Rattle.allsky_mosaic.specs.Patch.{WasMosaic}
-use Rattle.std.proofs.lemmas.List.{length-append, length-replicate, drop_at}
+use Rattle.std.proofs.lemmas.List.{length-append, length-replicate, take_at, drop_at}
 use Rattle.std.proofs.Math.Seq.{take-append_seam}
 use Rattle.generation.specs.Files.{existing}
 use Rattle.generation.specs.Kept.{tiles_of, pixel_len, file_pixels, ArePixels, ShowsBoth, IsMosaicFile, KeepsMosaic, WasMosaicFile}
+use borrow.Rule.Slice.PartMut.{put_mid}
 use Rattle.generation.proofs.Orders.{exists_in_order, keys_of-tiles, tiles_have_shape, tile_shows, value_there}
 
 pub existing_in : (shape : PyramidShape) (leaves : LeafMap) (k : ℕ) → All (λ cell. cell < cell_count k) (existing shape leaves k)
@@ -97,6 +98,9 @@ pub kept_file : {E : Type 0} (d : Description) (tiles : List (ℕ × PixelTile))
 kept_file d tiles found (Ok file) known made kept = λ leaves fits is. kept leaves (are_pixels d leaves tiles known fits is found made)
 kept_file d tiles found (Err e) known made kept = tt
 
+pub no_file : (d : Description) (tiles : List (ℕ × PixelTile)) → IsShape d.shape.top d.shape.low d.shape.n → tiles ≡ [] → (leaves : LeafMap) → FitsShape d.shape leaves → tiles ≡ tiles_of d.shape leaves 3 → leaves ≡ []
+no_file d tiles known none leaves fits is = empty_leaves d leaves tiles known fits is none
+
 -- ---- the pixels in a file
 
 file_end : (file head pixels : List ℕ) (wide total : ℕ) → length pixels ≡ wide → wide ≤ total → file ≡ head ++ (pixels ++ replicate (total - wide) 0)
@@ -128,6 +132,50 @@ image_kept d leaves raw file shows made long pixels = record {
   long = long;
   pixels = subst (λ bytes. IsMosaic d.shape.depth d.shape.n (order_3 d.shape.depth d.shape.n) (leaves_of (tiles_of d.shape leaves 3)) bytes) (sym pixels) shows.order_3;
 }
+
+-- a part of a list between a head and an end is put in the place of another
+put_between : (file head old pad pixels : List ℕ) (start size : ℕ) → file ≡ head ++ (old ++ pad) → length head ≡ start → length old ≡ size → put_mid start size file pixels ≡ head ++ (pixels ++ pad)
+put_between file head old pad pixels start size is start_is size_is =
+    let front : take start file ≡ head = ap (take start) is ∙ take_at head (old ++ pad) start start_is in
+    let rest : drop start file ≡ old ++ pad = ap (drop start) is ∙ drop_at head (old ++ pad) start start_is in
+    let behind : drop size (drop start file) ≡ pad = ap (drop size) rest ∙ drop_at old pad size size_is in
+    ap (λ xs. xs ++ (pixels ++ drop size (drop start file))) front ∙ ap (λ xs. head ++ (pixels ++ xs)) behind
+
+-- the file of a mosaic of other leaves, in which the pixels were made those of these leaves
+head_at : (head whole start total wide old rest : ℕ) → whole ≡ head + rest → rest ≡ old + (total - wide) → old ≡ wide → wide ≤ total → start ≡ whole - total → head ≡ start
+head_at head whole start total wide old rest whole_is rest_is old_is fits start_is = omega arith
+
+-- and what was put is bytes where the whole is
+part_bytes : (file head pixels pad : List ℕ) → file ≡ head ++ (pixels ++ pad) → AreBytes file → AreBytes pixels
+part_bytes file head pixels pad is bytes =
+    let rest : drop (length head) file ≡ pixels ++ pad = ap (drop (length head)) is ∙ drop_at head (pixels ++ pad) (length head) refl in
+    let part : take (length pixels) (drop (length head) file) ≡ pixels = ap (take (length pixels)) rest ∙ take-append_seam pixels pad in
+    subst AreBytes part (AreBytes-take (length pixels) (drop (length head) file) (AreBytes-drop (length head) file bytes))
+
+pub image_patched : (d : Description) (before leaves : LeafMap) (file pixels : List ℕ) (start size : ℕ) → IsTrue (is_bitpix d.shape.depth.bitpix) → AreBytes (put_mid start size file pixels) → IsMosaicFile d before file
+    → start ≡ length file - whole_blocks (pixel_len d) → size ≡ pixel_len d → ShowsBoth d leaves pixels → IsMosaicFile d leaves (put_mid start size file pixels)
+unfolding mosaic
+image_patched d before leaves file pixels start size known bytes was start_is size_is shows =
+    let bits = d.shape.depth.bitpix in
+    let cards = image_cards d (width_of d.shape.n) (height_of d.shape.n) ++ end_card ∷ [] in
+    let head : List ℕ = header_text cards in
+    let old : List ℕ = stored_bytes bits (mosaic d.shape before) in
+    let pad : List ℕ = replicate (whole_blocks (pixel_len d) - pixel_len d) 0 in
+    let count : length (mosaic d.shape before) ≡ mosaic_count d.shape.n = length-map-range_with_len (mosaic_number d.shape before) 0 (mosaic_count d.shape.n) in
+    let old_long : length old ≡ pixel_len d = length-stored_bytes bits (mosaic d.shape before) known ∙ ap (λ (k : ℕ). k * (bits / 8)) count in
+    let long : length pixels ≡ pixel_len d = shows.survey.long in
+    let file_is : file ≡ head ++ (old ++ pad) = was.file_is ∙ ap (λ n. head ++ (old ++ replicate (whole_blocks n - n) 0)) old_long in
+    let end_long : length (old ++ pad) ≡ length old + (whole_blocks (pixel_len d) - pixel_len d) = length-append old pad ∙ ap (λ n. length old + n) (length-replicate (whole_blocks (pixel_len d) - pixel_len d) 0) in
+    let file_long : length file ≡ length head + length (old ++ pad) = ap length file_is ∙ length-append head (old ++ pad) in
+    let at : length head ≡ start =
+    head_at (length head) (length file) start (whole_blocks (pixel_len d)) (pixel_len d) (length old) (length (old ++ pad)) file_long end_long old_long (omega arith) start_is in
+    let put : put_mid start size file pixels ≡ head ++ (pixels ++ pad) = put_between file head old pad pixels start size file_is at (old_long ∙ sym size_is) in
+    let raw : AreBytes pixels = part_bytes (put_mid start size file pixels) head pixels pad put bytes in
+    let stored : stored_bytes bits (numbers_from bits (mosaic_count d.shape.n) pixels) ≡ pixels = stored_bytes-numbers_from bits (mosaic_count d.shape.n) pixels known long raw in
+    let made : put_mid start size file pixels ≡ image_file d (width_of d.shape.n) (height_of d.shape.n) (numbers_from bits (mosaic_count d.shape.n) pixels) =
+    put ∙ ap (λ n. head ++ (pixels ++ replicate (whole_blocks n - n) 0)) (sym long) ∙ sym (ap (fits_file cards) stored) in
+    let ends = image_end d pixels (put_mid start size file pixels) known raw long made in
+    image_kept d leaves pixels (put_mid start size file pixels) shows made ends.0 ends.1
 
 pub was_mosaic : (d : Description) (touched : List ℕ) (tiles : List (ℕ × PixelTile)) (file raw : List ℕ) → WasMosaicFile d touched tiles file → raw ≡ file_pixels d file
     → WasMosaic d.shape.depth d.shape.n touched tiles raw

@@ -1,5 +1,5 @@
 -- Files as they are handed out.
-use Rattle.std.specs.Prelude.{ℕ, List, ◌++◌, take}
+use Rattle.std.specs.Prelude.{◌≡◌, ℕ, List, ◌++◌, take, drop}
 use Rattle.tile_path.specs.declared.path.Path.{Path}
 use Rattle.tile_path.specs.declared.path.Path.TheVariants.{Properties, Moc, Allsky, Tile}
 use Rattle.generation.specs.declared.files.Body.{Body}
@@ -18,6 +18,10 @@ body_len (Kept bytes) = 0
 -- the parts one after another
 abbrev pub parts_bytes : Parts → List ℕ → List ℕ
 parts_bytes parts out = take parts.front out ++ parts.kept.now ++ parts.zeros.now
+
+-- behind so many bytes at its front a buffer holds what it held
+abbrev pub HoldsBehind : ℕ → List ℕ → List ℕ → Type 0
+HoldsBehind count old new = drop count new ≡ drop count old
 
 -- a file that is no tile's is kept whole
 abbrev pub IsKeptWhole : Path → Type 0

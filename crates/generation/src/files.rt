@@ -1,12 +1,12 @@
 //! Files as they are handed out.
-ghost use Rattle.std.specs.Prelude.{◌≡◌, ◌+◌, ◌^◌, ◌<◌, ◌≤◌, [], ◌++◌, length, replicate, option_map, IfSome};
+ghost use Rattle.std.specs.Prelude.{◌≡◌, ◌+◌, ◌^◌, ◌<◌, ◌≤◌, [], ◌++◌, length, replicate, option_map, IfSome, MatchOption};
 ghost use Rattle.std.specs.FinMap.{get};
 ghost use Rattle.fits_header.specs.Cards.{whole_blocks};
 ghost use Rattle.fits_tile.specs.TileFile.{data_len, tile_file};
 ghost use Rattle.tile_path.specs.declared.path.Path.TheVariants.{Tile as TilePath};
 ghost use Rattle.tile_path.specs.Spelling.{spelling};
 ghost use Rattle.generation.specs.Files.{files_in};
-ghost use Rattle.generation.specs.Served.{body_bytes, body_len, parts_bytes, IsKeptWhole};
+ghost use Rattle.generation.specs.Served.{body_bytes, body_len, parts_bytes, HoldsBehind, IsKeptWhole};
 
 use crate::generation::Generation;
 use fits_header::BLOCK_LEN;
@@ -42,11 +42,12 @@ pub struct Parts<'a> {
 
 impl Generation {
     /// The file at a path: written at the front of `out`, or kept; `None` exactly where there is no such file. `out` has
-    /// room for `room` bytes. It takes no memory.
+    /// room for `room` bytes, and holds behind those that are written what it held. It takes no memory.
     pub fn file(&self, path: &Path, out: &mut [u8]) -> Option<Body<'_>>
         requires room { 2880 + whole_blocks (data_len self.now.conf.shape) ≤ length out.old }
         ensures file { option_map (λ body. body_bytes body out.new) result ≡ get (files_in self.now) (spelling path.now) }
         ensures written { IfSome result (λ body. body_len body ≤ length out.new) }
+        ensures rest { MatchOption result (out.new ≡ out.old) (λ body. HoldsBehind (body_len body) out.old out.new) }
     {
         match path {
             Path::Tile(cell) => self.tile_body(*cell, out),
@@ -58,12 +59,14 @@ impl Generation {
     }
 
     /// The file at a path in three parts, of which the first is written at the front of `out`; `None` exactly where there
-    /// is no such file. `out` has room for 2,880 bytes. The pixels of a tile stay where they lie. It takes no memory.
+    /// is no such file. `out` has room for 2,880 bytes, and holds behind those that are written what it held. The pixels of a
+    /// tile stay where they lie. It takes no memory.
     pub fn file_parts<'a>(&'a self, path: &Path, out: &mut [u8]) -> Option<Parts<'a>>
         requires room { 2880 ≤ length out.old }
         ensures file { option_map (λ parts. parts_bytes parts out.new) result ≡ get (files_in self.now) (spelling path.now) }
         ensures front { IfSome result (λ parts. parts.front ≤ 2880) }
         ensures length { IfSome result (λ parts. parts.front + length parts.kept.now + length parts.zeros.now < 2 ^ 64) }
+        ensures rest { MatchOption result (out.new ≡ out.old) (λ parts. HoldsBehind parts.front out.old out.new) }
     {
         match path {
             Path::Tile(cell) => self.tile_parts(*cell, out),
@@ -100,6 +103,7 @@ impl Generation {
         requires room { 2880 + whole_blocks (data_len self.now.conf.shape) ≤ length out.old }
         ensures file { option_map (λ body. body_bytes body out.new) result ≡ get (files_in self.now) (spelling (TilePath cell)) }
         ensures written { IfSome result (λ body. body_len body ≤ length out.new) }
+        ensures rest { MatchOption result (out.new ≡ out.old) (λ body. HoldsBehind (body_len body) out.old out.new) }
     {
         spellings_differ();
         deep_tiles_are_no_paths();
@@ -116,6 +120,7 @@ impl Generation {
         ensures file { option_map (λ parts. parts_bytes parts out.new) result ≡ get (files_in self.now) (spelling (TilePath cell)) }
         ensures front { IfSome result (λ parts. parts.front ≤ 2880) }
         ensures length { IfSome result (λ parts. parts.front + length parts.kept.now + length parts.zeros.now < 2 ^ 64) }
+        ensures rest { MatchOption result (out.new ≡ out.old) (λ parts. HoldsBehind parts.front out.old out.new) }
     {
         spellings_differ();
         deep_tiles_are_no_paths();
@@ -135,6 +140,7 @@ fn parts_of<'a>(tile: &'a Tile, cell: Cell, conf: &Conf, out: &mut [u8]) -> Part
     ensures file { parts_bytes result out.new ≡ tile_file conf.now cell.order cell.npix tile.now.numbers }
     ensures front { result.front ≤ 2880 }
     ensures length { result.front + length result.kept.now + length result.zeros.now < 2 ^ 64 }
+    ensures rest { HoldsBehind result.front out.old out.new }
 {
     let front = encode_cards(cell, conf, out);
     let kept = tile.raw();

@@ -1,14 +1,14 @@
 //! The file of the all-sky mosaic.
-ghost use Rattle.std.specs.Prelude.{◌≡◌, ◌*◌, ◌/◌, ◌<◌, ◌≤◌, ◌^◌, All, length, option_map, IfOk, IfSome};
+ghost use Rattle.std.specs.Prelude.{◌≡◌, ◌≢◌, ◌*◌, ◌/◌, ◌<◌, ◌≤◌, ◌^◌, [], All, length, option_map, IfOk, IfSome, OnOk};
 ghost use Rattle.fits_header.specs.Cards.{whole_blocks};
 ghost use Rattle.pyramid_model.specs.Shape.{LeafMap, FitsShape};
 ghost use Rattle.tile_pixels.specs.Stored.{numbers_from};
 ghost use Rattle.fits_tile.specs.TileFile.{image_file};
 ghost use Rattle.allsky_mosaic.specs.Mosaic.{mosaic_count, side_of, width_of, height_of};
 ghost use Rattle.allsky_mosaic.specs.Tiles.{AreOfOrder3};
-ghost use Rattle.generation.specs.Kept.{tiles_of, pixel_len, file_pixels, ArePixels, KeepsMosaic, WasMosaicFile};
+ghost use Rattle.generation.specs.Kept.{tiles_of, pixel_len, file_pixels, ArePixels, IsMosaicFile, KeepsMosaic, WasMosaicFile};
 
-use allsky_mosaic::{patch, whole};
+use allsky_mosaic::{patch_in_place, whole};
 use fits_header::whole_blocks;
 use fits_tile::encode_image;
 use leaf_store::Store;
@@ -34,7 +34,8 @@ pub(crate) fn mosaic_file<R: Threads + Sync>(
     file_of(alloc, conf, pixels)
 }
 
-/// The same, made from the file of the mosaic that there was before the tiles of the touched cells changed.
+/// The same, made from the file of the mosaic that there was before the tiles of the touched cells changed: a copy of it, in
+/// which their squares are made anew.
 pub(crate) fn patched_file(
     alloc: Global,
     conf: &Conf,
@@ -48,20 +49,37 @@ pub(crate) fn patched_file(
     ensures { IfOk result (λ found. (leaves : LeafMap) → FitsShape conf.now.shape leaves → tiles.now ≡ tiles_of conf.now.shape leaves 3
         → KeepsMosaic conf.now leaves (option_map (λ file. file.items) found)) }
 {
-    let shape = conf.shape();
-    let before = pixels_in(conf, old);
-    let pixels = patch(alloc, shape.depth, shape.n, before, touched, tiles)?;
-    file_of(alloc, conf, pixels)
+    // Its contract says what a description is.
+    let _shape = conf.shape();
+    if tiles.len() == 0 {
+        return Ok(None);
+    }
+    let mut file = Vec::with_capacity(alloc, old.len())?;
+    file.extend_from_slice(old)?;
+    patch_pixels(alloc, conf, touched, tiles, &mut file)?;
+    Ok(Some(file))
 }
 
-// The pixels in the file of a mosaic. Its last blocks are theirs, filled up with zero bytes.
-fn pixels_in<'a>(conf: &Conf, file: &'a [u8]) -> &'a [u8]
-    requires { whole_blocks (pixel_len conf.now) ≤ length file.now }
-    ensures { result.now ≡ file_pixels conf.now file.now }
+// Makes the file of the mosaic that there was before that of these tiles. The pixels stand first in the blocks at its end.
+fn patch_pixels(
+    alloc: Global,
+    conf: &Conf,
+    touched: &[u64],
+    tiles: &Store<Tile>,
+    file: &mut [u8],
+) -> Result<(), AllocError>
+    requires tiles { AreOfOrder3 conf.now.shape.depth conf.now.shape.n tiles.now }
+    requires touched { All (λ cell. cell < 768) touched.now }
+    requires old { WasMosaicFile conf.now touched.now tiles.now file.old }
+    ensures { OnOk result ((leaves : LeafMap) → leaves ≢ [] → FitsShape conf.now.shape leaves → tiles.now ≡ tiles_of conf.now.shape leaves 3
+        → IsMosaicFile conf.now leaves file.new) }
 {
-    let len = pixel_bytes(conf.shape());
+    let shape = conf.shape();
+    let len = pixel_bytes(shape);
     let start = file.len() - whole_blocks(len);
-    &file[start..start + len]
+    let pixels = &mut file[start..start + len];
+    patch_in_place(alloc, shape.depth, shape.n, touched, tiles, pixels)?;
+    Ok(())
 }
 
 // How many bytes the pixels of the mosaic of a survey of that shape are.

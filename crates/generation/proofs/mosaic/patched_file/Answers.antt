@@ -1,18 +1,16 @@
-use Rattle.std.proofs.Common.{◌∙◌, sym, subst}
-use Rattle.pyramid_model.specs.Shape.{PyramidShape}
-use Rattle.allsky_mosaic.specs.Patch.{WasMosaic}
-use Rattle.generation.proofs.Mosaics.{IsMade, kept_file, was_mosaic}
+use Rattle.std.proofs.Common.{◌≡◌, List, ℕ, length, drop, sym, ap, subst, ◌∙◌}
+use Rattle.std.proofs.lemmas.List.{nil_from_length, take_at}
+use Rattle.generation.specs.Kept.{IsMosaicFile}
+use Rattle.generation.proofs.Mosaics.{no_file, empty_tiles}
 use Rattle.generation.proofs.mosaic.patched_file.Goals as goal
 
-pub patch-requires-clause-old : goal.patch-requires-clause-old
-patch-requires-clause-old c =
-    let same = c.shape.view_is ∙ c.shape-shape.ensures.shape in
-    subst (λ (s : PyramidShape). WasMosaic s.depth s.n c.args.touched.now c.args.tiles.now c.pixels_in-before.result.now) (sym same)
-    (was_mosaic c.args.conf.now c.args.touched.now c.args.tiles.now c.args.old.now c.pixels_in-before.result.now c.requires.old c.pixels_in-before.ensures)
+pub returns-then-len-eq0 : goal.returns-then-len-eq0
+returns-then-len-eq0 c = no_file c.args.conf.now c.args.tiles.now c.shape-shape.ensures.kept.shape (nil_from_length c.args.tiles.now (sym c.len.ensures.pairs ∙ c.if-len-eq0.true))
 
 pub returns : goal.returns
-returns c =
-    let same = c.shape.view_is ∙ c.shape-shape.ensures.shape in
-    kept_file c.args.conf.now c.args.tiles.now c.in_ok-pixels.pixels c.file_of.result c.shape-shape.ensures.kept.shape
-    (subst (λ (s : PyramidShape). IsMade s.depth s.n c.args.tiles.now c.in_ok-pixels.pixels) same
-    (record { none = c.in_ok-pixels.ensures.none; mosaic = c.in_ok-pixels.ensures.mosaic; survey = c.in_ok-pixels.ensures.survey })) c.file_of.ensures
+returns c leaves fits is =
+    let new : List ℕ = c.patch_pixels.new.file in
+    let kept : length new ≡ c.extend_from_slice.new.self.len = c.patch_pixels.auto.file ∙ c.deref_mut.ensures.len in
+    subst (IsMosaicFile c.args.conf.now leaves) (sym (take_at new (drop (length new) c.extend_from_slice.new.self.items) c.extend_from_slice.new.self.len kept))
+    (c.in_ok-patch_pixels.ensures leaves
+    (λ none. c.if-len-eq0.false (c.len.ensures.pairs ∙ ap length (empty_tiles c.args.conf.now leaves c.args.tiles.now c.shape-shape.ensures.kept.shape fits is none))) fits is)
