@@ -71,5 +71,8 @@ pub new_same : EditsTouchTheirLeaves → (old new : LeafTiles) (edits : List Lea
 new_same law old new edits i k kept is leaves leaf apart =
     ap (value_at leaf) is ∙ law leaf old (edits_between edits i k) (other_edits leaf (edits_between edits i k) (λ there. apart (All-contains (Contains kept) (touched edits i k) leaf leaves.each there)))
 
-pub new_work : MoreTouchedIsMoreWork → (top low : ℕ) (all kept : List ℕ) → AreLeavesOf all kept → work top low kept ≤ work top low all
-new_work law top low all kept leaves = law top low kept all leaves.only
+pub new_work : MoreTouchedIsMoreWork → (top low : ℕ) (all kept : List ℕ) → AreLeavesOf all kept → work top low kept ≡ work top low all
+new_work law top low all kept leaves =
+    let less : work top low kept ≤ work top low all = law top low kept all leaves.only in
+    let more : work top low all ≤ work top low kept = law top low all kept leaves.each in
+    omega arith

@@ -1,4 +1,4 @@
--- How many tiles a generation merges at most.
+-- How many tiles a generation merges.
 use Rattle.std.specs.Prelude.{ℕ, ◌-◌, List, map, length, take, drop, sum_by}
 use Rattle.pyramid_model.specs.Shape.{PyramidShape, LeafMap}
 use Rattle.dirty_plan.specs.Dirty.{orders_down}

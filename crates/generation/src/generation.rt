@@ -68,8 +68,8 @@ impl Model for Generation {
 }
 
 impl Generation {
-    /// The files of the survey of that description with these leaves; no edit is in it. The steps rise by one for each tile
-    /// that is merged: at most the tiles that exist above the leaves, and at a refusal too.
+    /// The files of the survey of that description with these leaves; no edit is in it. The steps rise by the number of tiles
+    /// that exist above the leaves, since each of them is merged once, and at a refusal by at most that number.
     ///
     /// # Errors
     ///
@@ -84,6 +84,7 @@ impl Generation {
     ) -> Result<Generation, AllocError>
         requires fits { FitsLeaves (arc_value conf).shape leaves }
         ensures made { IfOk result (λ made. made ≡ record { conf = arc_value conf; prefix = 0; leaves = leaves }) }
+        ensures counted { OnOk result (steps.new ≡ steps_after steps.old (tiles_above (arc_value conf).shape (leaf_map leaves))) }
         ensures steps { steps.new ≤ steps_after steps.old (tiles_above (arc_value conf).shape (leaf_map leaves)) }
         ensures never_falls { steps.old ≤ steps.new }
     {
@@ -95,8 +96,8 @@ impl Generation {
     }
 
     /// The generation of the same survey after the first `k` edits of the journal, made from this one by the edits between.
-    /// The steps rise by one for each tile that is merged: at most the cells above the leaves under which an edit between
-    /// touched a leaf, and at a refusal too. This generation stays as it is.
+    /// The steps rise by the number of cells above the leaves under which an edit between touched a leaf, since each of them is
+    /// merged once, and at a refusal by at most that number. This generation stays as it is.
     ///
     /// # Errors
     ///
@@ -118,6 +119,8 @@ impl Generation {
           prefix = k;
           leaves = leaves_of journal.now.opening (take k (journal_edits journal.now));
         }) }
+        ensures counted { OnOk result (steps.new ≡ steps_after steps.old (
+            work self.now.conf.shape.top self.now.conf.shape.low (touched (journal_edits journal.now) self.now.prefix k))) }
         ensures steps { steps.new ≤ steps_after steps.old (
             work self.now.conf.shape.top self.now.conf.shape.low (touched (journal_edits journal.now) self.now.prefix k)) }
         ensures never_falls { steps.old ≤ steps.new }
@@ -145,7 +148,7 @@ impl Generation {
         ensures cells { IfOk result (λ changes. All (λ leaf. leaf < cell_count self.now.conf.shape.top) changes.touched.items) }
         ensures same { IfOk result (λ changes. SameBut changes.touched.items self.now.leaves changes.leaves) }
         ensures work { IfOk result (λ changes. work self.now.conf.shape.top self.now.conf.shape.low changes.touched.items
-            ≤ work self.now.conf.shape.top self.now.conf.shape.low (touched (journal_edits journal.now) self.now.prefix k)) }
+            ≡ work self.now.conf.shape.top self.now.conf.shape.low (touched (journal_edits journal.now) self.now.prefix k)) }
     {
         // What is known of edits, and that those of a journal fit its shape.
         edits_go_on();

@@ -43,6 +43,7 @@ pub(crate) fn levels_above<R: Threads + Sync, G: Gate + Sync>(
     requires before { AllKept shape (leaf_map leaves.now) touched.now before.now }
     ensures levels { IfOk result (λ levels. levels.items ≡ levels_of shape (leaf_map leaves.now)) }
     ensures known { IsShape shape.top shape.low shape.n }
+    ensures counted { OnOk result (steps.new ≡ steps_after steps.old (work shape.top shape.low touched.now)) }
     ensures steps { steps.new ≤ steps_after steps.old (work shape.top shape.low touched.now) }
     ensures never_falls { steps.old ≤ steps.new }
 {

@@ -60,6 +60,7 @@ impl Pyramid {
     ) -> Result<Pyramid, AllocError>
         requires { FitsLeaves shape leaves }
         ensures made { IfOk result (λ made. made ≡ record { shape = shape; leaves = leaves }) }
+        ensures counted { OnOk result (steps.new ≡ steps_after steps.old (tiles_above shape (leaf_map leaves))) }
         ensures steps { steps.new ≤ steps_after steps.old (tiles_above shape (leaf_map leaves)) }
         ensures never_falls { steps.old ≤ steps.new }
     {
@@ -89,6 +90,7 @@ impl Pyramid {
         requires cells { All (λ leaf. leaf < cell_count self.now.shape.top) changes.touched.items }
         requires same { SameBut changes.touched.items self.now.leaves changes.leaves }
         ensures made { IfOk result (λ made. made ≡ record { shape = self.now.shape; leaves = changes.leaves }) }
+        ensures counted { OnOk result (steps.new ≡ steps_after steps.old (work self.now.shape.top self.now.shape.low changes.touched.items)) }
         ensures steps { steps.new ≤ steps_after steps.old (work self.now.shape.top self.now.shape.low changes.touched.items) }
         ensures never_falls { steps.old ≤ steps.new }
     {

@@ -1,4 +1,4 @@
-use Rattle.std.proofs.Common.{◌≤◌, ◌<◌, subst, sym, ◌∙◌}
+use Rattle.std.proofs.Common.{◌≡◌, ◌≤◌, ◌<◌, subst, sym, ◌∙◌}
 use Rattle.std.specs.Prelude.{All}
 use Rattle.healpix_nested.specs.Cells.{cell_count}
 use Rattle.dirty_plan.specs.Dirty.{steps_after}
@@ -15,6 +15,10 @@ levels_above-requires-clause-cells g c κs within =
 pub levels_above-requires-clause-before : goal.levels_above-requires-clause-before
 levels_above-requires-clause-before g c κs within =
     kept_none c.args.shape c.args.leaves c.deref.result.now (c.deref.ensures.value ∙ c.in_ok-numbers.ensures.numbers)
+
+pub returns-clause-counted : goal.returns-clause-counted
+returns-clause-counted g c =
+    subst (λ n. c.levels_above.new.steps ≡ steps_after c.args.steps.now n) (work_of_all c.args.shape c.args.leaves c.deref.result.now (c.deref.ensures.value ∙ c.in_ok-numbers.ensures.numbers)) c.in_ok-levels.ensures.counted
 
 pub returns-clause-steps : goal.returns-clause-steps
 returns-clause-steps g c =
