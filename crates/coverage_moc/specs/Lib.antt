@@ -2,3 +2,4 @@ pub mod Cover
 pub mod CoverFile
 pub mod Rows
 pub mod Laws
+pub mod Texts

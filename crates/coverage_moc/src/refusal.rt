@@ -1,17 +1,32 @@
 //! Why no cover was read.
-use std::alloc::AllocError;
-use thiserror::Error;
+ghost use Rattle.std.specs.Prelude.{Some};
+ghost use Rattle.coverage_moc.specs.Texts.{refusal_text};
 
-/// Why no cover was read.
-#[derive(Clone, Copy, Debug, PartialEq, Eq, Error)]
+use std::alloc::AllocError;
+use std::error::Error;
+use std::fmt;
+
+/// Why no cover was read. It is shown as `not a coverage file` or as `out of memory`.
+#[derive(Clone, Copy, Debug, PartialEq, Eq)]
 pub enum CoverRefusal {
     /// The bytes are not the coverage file of any leaves of that order.
-    #[error("not a coverage file")]
     NotCover,
     /// A growth of memory was refused.
-    #[error("out of memory")]
     OutOfMemory,
 }
+
+impl fmt::Display for CoverRefusal {
+    ghost output = { λ refusal. Some (refusal_text refusal) };
+
+    fn fmt<W: fmt::Write>(&self, f: &mut fmt::Formatter<W>) -> fmt::Result {
+        match self {
+            CoverRefusal::NotCover => f.write_str("not a coverage file"),
+            CoverRefusal::OutOfMemory => f.write_str("out of memory"),
+        }
+    }
+}
+
+impl Error for CoverRefusal {}
 
 impl From<AllocError> for CoverRefusal {
     ghost use Rattle.std.specs.Prelude.{◌≡◌};

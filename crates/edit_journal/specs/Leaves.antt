@@ -26,6 +26,10 @@ leaves_of opening edits = fold leaves_after opening edits
 abbrev pub tile_charge : PixelTile → ℕ
 tile_charge tile = max 1024 (4 ^ tile.n * (tile.depth.bitpix / 8))
 
+-- so each tile of a shape with as much
+abbrev pub leaf_charge : PyramidShape → ℕ
+leaf_charge shape = max 1024 (4 ^ shape.n * (shape.depth.bitpix / 8))
+
 -- an edit with its tile; a Remove has none
 abbrev pub edit_charge : LeafEdit → ℕ
 edit_charge (put leaf tile) = tile_charge tile

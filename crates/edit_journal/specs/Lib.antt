@@ -6,4 +6,5 @@ pub mod Journal
 pub mod Kept
 pub mod Chunks
 pub mod Refusal
+pub mod Texts
 pub mod Laws

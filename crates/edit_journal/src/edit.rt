@@ -2,8 +2,9 @@
 ghost use Rattle.std.specs.Prelude.{◌≡◌, option_map};
 ghost use Rattle.std.specs.Arc.{arc_value};
 ghost use Rattle.edit_journal.specs.Edit.{edit_of, leaf_of, tile_of};
-ghost use Rattle.edit_journal.specs.Leaves.{tile_charge, edit_charge};
+ghost use Rattle.edit_journal.specs.Leaves.{edit_charge};
 
+use crate::charge::charge_of_tile;
 use std::alloc::AllocError;
 use std::sync::Arc;
 use tile_pixels::Tile;
@@ -78,11 +79,4 @@ impl Edit {
             None => 0,
         }
     }
-}
-
-// A tile is charged with its stored bytes, and with 1,024 at least.
-fn charge_of_tile(tile: &Tile) -> u64
-    ensures { result ≡ tile_charge tile.now }
-{
-    (tile.raw().len() as u64).max(1024)
 }

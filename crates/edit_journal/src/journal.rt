@@ -2,17 +2,17 @@
 ghost use Rattle.std.specs.Prelude.{◌≡◌, ℕ, ◌+◌, ◌<◌, ◌≤◌, ◌↔◌, [], ◌∷◌, ◌++◌, map, length, All, Contains, slice_get, option_map, Some, None, IsTrue, IfOk, IfErr, OnOk, OnErr};
 ghost use Rattle.std.specs.Result.{result_err};
 ghost use Rattle.std.specs.Arc.{arc_value};
-ghost use Rattle.tile_pixels.specs.Tile.{PixelTile};
 ghost use Rattle.edit_journal.specs.Edit.{edit_of, leaf_of};
-ghost use Rattle.edit_journal.specs.Leaves.{leaves_of, charge_of, tile_charge, FitsTile, FitsLeaves, FitsEdit};
+ghost use Rattle.edit_journal.specs.Leaves.{leaves_of, charge_of, FitsLeaves, FitsEdit};
 ghost use Rattle.edit_journal.specs.Faults.{edit_fault, batch_fault, edit_refused, batch_refused, has_leaf, most_charge};
 ghost use Rattle.edit_journal.specs.Batches.{ends};
 ghost use Rattle.edit_journal.specs.Journal.{JournalContent, IsJournal, journal_edits};
 ghost use Rattle.edit_journal.specs.Refusal.{TellsStartRefusal};
 
+use crate::charge::{MOST_CHARGE, leaf_charge};
 use crate::edit::Edit;
 use crate::fault::{BatchFault, BatchRefusal, EditFault, EditRefusal, StartRefusal};
-use crate::judge::{MOST_CHARGE, judge};
+use crate::judge::judge;
 use crate::newest::Newest;
 use crate::notes::Notes;
 use leaf_store::Store;
@@ -60,7 +60,7 @@ impl Journal {
         ensures charge { OnOk result (charge_of leaves [] ≤ most_charge) }
         ensures refused { IfErr result (TellsStartRefusal leaves) }
     {
-        let charge = (leaves.len() as u64).saturating_mul(leaf_charge(&shape));
+        let charge = (leaves.len() as u64).saturating_mul(leaf_charge(shape));
         if charge > MOST_CHARGE {
             return Err(StartRefusal::TooMany {
                 leaves: leaves.len() as u64,
@@ -267,14 +267,6 @@ impl Journal {
     {
         self.newest.charge
     }
-}
-
-// What is charged for each leaf of the shape: its stored bytes, and 1,024 at least.
-fn leaf_charge(shape: &Shape) -> u64
-    ensures { (tile : PixelTile) → FitsTile shape.now tile → tile_charge tile ≡ result }
-{
-    let numbers = 4u64.pow(u32::from(shape.n));
-    (numbers * u64::from(shape.depth.bitpix() / 8)).max(1024)
 }
 
 // The store, so that several own it.

@@ -5,14 +5,12 @@ ghost use Rattle.std.specs.Result.{result_err};
 ghost use Rattle.edit_journal.specs.Edit.{edit_of};
 ghost use Rattle.edit_journal.specs.Faults.{leaf_fault, limit_fault, most_edits, most_charge};
 
+use crate::charge::MOST_CHARGE;
 use crate::edit::Edit;
 use crate::fault::EditFault;
 
 /// How many edits a journal accepts.
 pub(crate) const MOST_EDITS: u32 = 65_536;
-
-/// The greatest charge of a journal, in bytes.
-pub(crate) const MOST_CHARGE: u64 = 1 << 29;
 
 // Judges an edit whose leaf is there or isn't, as one more than so many edits, with which the charge is that.
 pub(crate) fn judge(edit: &Edit, there: bool, count: u32, charge: u64) -> Result<(), EditFault>

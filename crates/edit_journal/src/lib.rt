@@ -4,6 +4,7 @@
 //! `append` answers a new journal, which shares all it can with the old one.
 #![tactic(auto)]
 
+mod charge;
 mod edit;
 mod fault;
 mod journal;
@@ -12,6 +13,7 @@ pub mod laws;
 mod newest;
 mod notes;
 
+pub use charge::{MOST_CHARGE, leaf_charge};
 pub use edit::Edit;
 pub use fault::{BatchFault, BatchRefusal, EditFault, EditRefusal, StartRefusal};
 pub use journal::Journal;

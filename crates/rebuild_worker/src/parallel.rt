@@ -1,8 +1,9 @@
 //! The merges of one order, by as many workers as there are processors.
-ghost use Rattle.std.specs.Prelude.{◌≡◌, ◌+◌, ◌*◌, ◌<◌, ◌≤◌, ◌^◌, ◌++◌, IfOk, All};
+ghost use Rattle.std.specs.Prelude.{◌≡◌, ◌+◌, ◌*◌, ◌/◌, ◌<◌, ◌≤◌, ◌^◌, ◌++◌, max, IfOk, All};
 ghost use Rattle.std.specs.Thread.{IsSync};
 ghost use Rattle.rebuild_worker.specs.Level.{merges_of, IsAboveLeaves, HaveShape, ShowsItsCell};
 ghost use Rattle.rebuild_worker.specs.Shown.{all_shown};
+ghost use Rattle.rebuild_worker.specs.Workers.{merges_of_a_worker, workers_on};
 
 use crate::named::Named;
 use crate::permits::Permits;
@@ -50,9 +51,12 @@ pub fn level_parallel<R: Threads + Sync, G: Gate + Sync>(
     )
 }
 
-// How many workers a number of merges repays.
+// How many workers make so many merges of tiles of 4^n pixels.
 fn workers_for(rt: &impl Threads, merges: usize, n: u8) -> usize
     requires { n ≤ 9 }
+    ensures some { 0 < result }
+    ensures repaid { result ≤ max 2 (merges / merges_of_a_worker n) }
+    ensures within { result ≤ max 1 merges }
 {
     if merges < 2 {
         return 1;
@@ -61,9 +65,17 @@ fn workers_for(rt: &impl Threads, merges: usize, n: u8) -> usize
         Ok(count) => count.get(),
         Err(_) => 2,
     };
-    let pixels = merges.saturating_mul(1 << (2 * n));
-    let repaid = pixels / PIXELS_OF_A_WORKER;
-    processors.min(repaid).max(2).min(merges)
+    workers_on(processors, merges, n)
+}
+
+// How many workers make so many merges of tiles of 4^n pixels, on so many processors.
+fn workers_on(processors: usize, merges: usize, n: u8) -> usize
+    requires n { n ≤ 9 }
+    requires two { 2 ≤ merges }
+    ensures { result ≡ workers_on processors merges n }
+{
+    let each = (PIXELS_OF_A_WORKER >> (2 * n)).max(1);
+    processors.min(merges / each).max(2).min(merges)
 }
 
 // The workers are halved at each step, and the back half goes to a new thread, so the stack grows as the logarithm of their

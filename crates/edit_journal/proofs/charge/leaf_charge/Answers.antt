@@ -2,7 +2,7 @@ use Rattle.std.proofs.Common.{◌≤◌, ◌*◌, ◌^◌, arith}
 use Rattle.std.proofs.Math.Nat.{mul-le-mul}
 use Rattle.std.proofs.lemmas.Bool.Decides.{nat_tests}
 use Rattle.healpix_nested.specs.CellLaws.{four_pow_mono}
-use Rattle.edit_journal.proofs.journal.leaf_charge.Goals as goal
+use Rattle.edit_journal.proofs.charge.leaf_charge.Goals as goal
 
 pub pow-numbers-requires : goal.pow-numbers-requires
 pow-numbers-requires c =
