@@ -1,5 +1,5 @@
 -- What is seen of a history that only grows.
-use Rattle.std.specs.Prelude.{◌≡◌, ◌-◌, List, [], ◌∷◌, ◌++◌, length, slice_get, Option, Some, None}
+use Rattle.std.specs.Prelude.{◌≡◌, ◌-◌, ◌<◌, List, [], ◌∷◌, ◌++◌, length, slice_get, Option, Some, None}
 use mathlib.Core.List.{IsPrefix}
 
 -- the states that were seen, from the first one on, and the last of them
@@ -20,7 +20,12 @@ one_state state = record { states = state ∷ []; last = state }
 abbrev pub and_then : {S : Type 0} → SeenHistory S → S → SeenHistory S
 and_then seen next = record { states = seen.states ++ next ∷ []; last = next }
 
--- what another has seen more: its history, which goes on from this one; or nothing, where both have seen the same
+-- another has seen more: its states begin with these, and go on
+pub record GoesOn {S : Type 0} (mine other : SeenHistory S) : Type 0 where
+  pub begins : IsPrefix mine.states other.states
+  pub more : length mine.states < length other.states
+
+-- what another has seen more: its history, which goes on from this one; or nothing, exactly where both have seen the same
 abbrev pub TellsMore : {S : Type 0} → SeenHistory S → SeenHistory S → Option (SeenHistory S) → Type 0
-TellsMore mine other (Some more) = (more ≡ other) × IsPrefix mine.states other.states
+TellsMore mine other (Some more) = (more ≡ other) × GoesOn mine other
 TellsMore mine other None = other ≡ mine

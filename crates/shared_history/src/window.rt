@@ -1,45 +1,54 @@
 //! What a reader looks through.
 ghost use Rattle.std.specs.Prelude.{IfSome};
-ghost use mathlib.Core.List.{IsPrefix};
+ghost use Rattle.shared_history.specs.Histories.{GoesOn};
 
 use crate::book::{Law, Naming};
 use crate::page::Page;
 use crate::showing::{Finds, Named};
 use crate::shown::Shown;
+use core::mem::replace_with;
 use left_right::reader::Reader;
 
-/// A place from which what is shown of a history is seen, without waiting.
+/// A place from which what is shown of a history is seen, without waiting. It has its reader for as long as it lives.
 #[derive(Drop)]
 pub struct Window<S: Drop, L: Law<S>, J: Naming> {
-    // It is away only within a call.
-    reader: Option<Reader<Page<S, L>, (), Named<J>>>,
+    reader: Reader<Page<S, L>, (), Named<J>>,
 }
 
 impl<S: Drop, L: Law<S>, J: Naming> Window<S, L, J> {
     /// The place of a reader.
     pub(crate) fn of(reader: Reader<Page<S, L>, (), Named<J>>) -> Window<S, L, J> {
-        Window {
-            reader: Some(reader),
-        }
+        Window { reader }
     }
 
-    /// A copy of what is shown, where it goes on from what was seen before.
+    /// A copy of what is shown, where that goes on from what was seen before. `None` where what is shown is no more, where
+    /// its count of owners is full, and once the history is closed.
     pub fn look(&mut self, seen: &Shown<S, L, J>) -> Option<Shown<S, L, J>>
-        ensures { IfSome result (λ more. IsPrefix seen.now.states more.states) }
+        ensures { IfSome result (GoesOn seen.now) }
     {
-        match self.reader.take()?.enter_as::<Finds<J>>() {
-            Ok(reading) => {
-                let more = seen.newer_page(reading.get());
-                self.reader = Some(reading.leave());
-                match more {
-                    Ok(more) => more,
-                    Err(_) => None,
-                }
-            }
-            Err(reader) => {
-                self.reader = Some(reader);
-                None
+        replace_with(&mut self.reader, seen, |reader, seen| looked(reader, seen))
+    }
+}
+
+// The reader, and what it finds.
+fn looked<S: Drop, L: Law<S>, J: Naming>(
+    reader: Reader<Page<S, L>, (), Named<J>>,
+    seen: &Shown<S, L, J>,
+) -> (
+    Reader<Page<S, L>, (), Named<J>>,
+    Option<Shown<S, L, J>>,
+)
+    ensures { IfSome result.1 (GoesOn seen.now) }
+{
+    match reader.enter_as::<Finds<J>>() {
+        Ok(reading) => {
+            let more = seen.newer_page(reading.get());
+            let reader = reading.leave();
+            match more {
+                Ok(more) => (reader, more),
+                Err(_) => (reader, None),
             }
         }
+        Err(reader) => (reader, None),
     }
 }

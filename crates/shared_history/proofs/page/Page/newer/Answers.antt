@@ -1,4 +1,4 @@
-use Rattle.std.proofs.Common.{◌≡◌, ◌≤◌, ap, subst, arith, length, List}
+use Rattle.std.proofs.Common.{◌≡◌, ◌<◌, ◌≤◌, ap, subst, arith, length, List}
 use mathlib.Core.List.{IsPrefix}
 use Rattle.shared_history.proofs.Beginnings.{prefix_shorter, prefix_whole, same_seen}
 use Rattle.shared_history.proofs.page.Page.newer.Goals as goal
@@ -19,5 +19,6 @@ returns-clause-more g c =
     let theirs = c.other.inside.past.log in
     let both = c.learn.new.self.log in
     let this : IsPrefix mine both = subst (λ (l : List g.row.S.Denot). IsPrefix l both) (ap (λ s. s.log) c.again-both.ensures) c.learn.ensures.2 in
-    let less : length mine ≤ length theirs = omega (arith, c.self.invariant.count, c.other.invariant.count) in
-    (ap (λ page. page.history) c.in_ok-again.ensures, rw (← c.self.view_is, ← c.other.view_is) (prefix_shorter mine theirs both this c.learn.ensures.3 less))
+    let fewer : length mine < length theirs = omega (arith, c.self.invariant.count, c.other.invariant.count) in
+    let less : length mine ≤ length theirs = omega (arith, fewer) in
+    (ap (λ page. page.history) c.in_ok-again.ensures, rw (← c.self.view_is, ← c.other.view_is) (record { begins = prefix_shorter mine theirs both this c.learn.ensures.3 less; more = fewer }))
