@@ -2,7 +2,9 @@
 
 import { border, centre, fromDegrees } from "./healpix.js";
 
-const INK = "rgba(255, 255, 255, 0.30)";
+const INK = "rgba(255, 255, 255, 0.45)";
+const SHADE = "rgba(16, 19, 28, 0.22)";
+const MARGIN_INK = "#5b5f6b";
 const NUMBERS = "rgba(255, 255, 255, 0.78)";
 const CELLS = "rgba(140, 190, 255, 0.75)";
 const CHANGED = "#ff7a1a";
@@ -38,12 +40,12 @@ export class Lines {
         const height = (dec) => Math.sin((dec * Math.PI) / 180);
         const decs = range(-90, 90, 2);
         for (let east = -180; east <= 180; east += step) {
-            this.path(decs.map((dec) => projection.at(east, height(dec))), INK, 1);
+            this.gridLine(decs.map((dec) => projection.at(east, height(dec))));
         }
         for (let dec = -90 + step; dec < 90; dec += step) {
-            this.path([-180, 180].map((east) => projection.at(east, height(dec))), INK, 1);
+            this.gridLine(range(-180, 180, step).map((east) => projection.at(east, height(dec))));
             const [column, line] = projection.at(180, height(dec));
-            this.number(`${signed(dec, 0)}°`, column - 6 * this.density, line, "right", "#5b5f6b");
+            this.number(`${signed(dec, 0)}°`, column - 6 * this.density, line, "right", MARGIN_INK);
         }
         this.edge();
         for (let ra = 0; ra < 360; ra += step) {
@@ -70,15 +72,21 @@ export class Lines {
         for (let dec = Math.ceil(lowest / step) * step; dec <= highest + 1e-9; dec += step) {
             if (Math.abs(dec) > 90 - 1e-9) continue;
             const line = range(view.ra - wide, view.ra + wide, wide / 60).map((ra) => this.point(ra, dec));
-            this.path(line, INK, 1);
+            this.gridLine(line);
             this.numberAtEdge(line, `${signed(dec, places)}°`, "left");
         }
         const first = Math.ceil((view.ra - wide) / across) * across;
         for (let ra = first; ra < view.ra + wide; ra += across) {
             const line = range(lowest, highest, (highest - lowest) / 60).map((dec) => this.point(ra, dec));
-            this.path(line, INK, 1);
+            this.gridLine(line);
             this.numberAtEdge(line, `${(((ra % 360) + 360) % 360).toFixed(Math.max(0, Math.ceil(-Math.log10(across))))}°`, "bottom");
         }
+    }
+
+    /** A line that is seen on dark and on light pixels. */
+    gridLine(points) {
+        this.path(points, SHADE, 2.5);
+        this.path(points, INK, 1);
     }
 
     point(ra, dec) {
@@ -140,7 +148,7 @@ export class Lines {
     number(text, column, line, align, colour) {
         this.brush.textAlign = align;
         this.brush.textBaseline = "middle";
-        if (colour !== "#5b5f6b") {
+        if (colour !== MARGIN_INK) {
             this.brush.lineWidth = 3 * this.density;
             this.brush.strokeStyle = "rgba(15, 18, 28, 0.6)";
             this.brush.strokeText(text, column, line);
@@ -155,7 +163,8 @@ function range(first, last, step) {
 }
 
 function signed(degrees, places) {
-    return `${degrees < -1e-9 ? "−" : "+"}${Math.abs(degrees).toFixed(places)}`;
+    if (Math.abs(degrees) < 1e-9) return "0";
+    return `${degrees < 0 ? "−" : "+"}${Math.abs(degrees).toFixed(places)}`;
 }
 
 function shifted([column, line], right, down, density) {

@@ -5,7 +5,7 @@ import { fromDegrees, toDegrees } from "./healpix.js";
 
 export const WHOLE_SKY = 360;
 const WIDEST_PART = 180;
-const MARGIN = 26;
+const MARGIN = 36;
 
 /** The projection of a view ({ra, dec, width}, in degrees) into a picture of so many pixels. */
 export function projectionOf(view, width, height) {
