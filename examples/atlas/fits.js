@@ -1,0 +1,122 @@
+// FITS files as hipsd writes them (FITS 4.0; MOC 1.1): images of 8, 16, 32 and 64 bits, and the table of a coverage file.
+
+const CARD = 80;
+const BLOCK = 2880;
+const COLUMNS_OF_MOSAIC = 27;
+const CELLS_OF_MOSAIC = 768;
+
+/** Why a file can't be read. */
+export class FitsFault extends Error {}
+
+/** How the stored numbers of each BITPIX are kept and read; those of 64 bits stay exact. */
+const DEPTHS = new Map([
+    [8, { size: 1, Numbers: Uint8Array, read: (view, at) => view.getUint8(at), number: Number }],
+    [16, { size: 2, Numbers: Int16Array, read: (view, at) => view.getInt16(at), number: Number }],
+    [32, { size: 4, Numbers: Int32Array, read: (view, at) => view.getInt32(at), number: Number }],
+    [64, { size: 8, Numbers: BigInt64Array, read: (view, at) => view.getBigInt64(at), number: BigInt }],
+]);
+
+/** A square or a mosaic of stored numbers, the bottom line first, with what turns them into values. */
+export class Image {
+    constructor(width, height, numbers, { scale, zero, blank }) {
+        Object.assign(this, { width, height, numbers, scale, zero, blank });
+    }
+
+    /** The value of a stored number by its place in the file; NaN where it is blank. */
+    value(place) {
+        const number = this.numbers[place];
+        return number === this.blank ? NaN : this.zero + this.scale * Number(number);
+    }
+
+    /** Whether two images show the same numbers. */
+    equals(other) {
+        const { numbers } = this;
+        return numbers.length === other.numbers.length && numbers.every((number, place) => number === other.numbers[place]);
+    }
+
+    isBlank() {
+        return this.numbers.every((number) => number === this.blank);
+    }
+}
+
+/** The image of a file of one header and its data. */
+export function readImage(buffer) {
+    const { cards, end } = readHeader(buffer, 0);
+    const depth = DEPTHS.get(wholeCard(cards, "BITPIX"));
+    if (!depth) throw new FitsFault(`its BITPIX is ${cards.get("BITPIX")}, and this page reads 8, 16, 32 and 64`);
+    if (wholeCard(cards, "NAXIS") !== 2) throw new FitsFault(`its NAXIS is ${cards.get("NAXIS")}, and an image has 2`);
+    const width = wholeCard(cards, "NAXIS1");
+    const height = wholeCard(cards, "NAXIS2");
+    if (buffer.byteLength < end + width * height * depth.size) throw new FitsFault("its data are cut short");
+    const view = new DataView(buffer, end);
+    const numbers = new depth.Numbers(width * height);
+    for (let place = 0; place < numbers.length; place++) numbers[place] = depth.read(view, place * depth.size);
+    return new Image(width, height, numbers, {
+        scale: realCard(cards, "BSCALE", 1),
+        zero: realCard(cards, "BZERO", 0),
+        blank: cards.has("BLANK") ? depth.number(cards.get("BLANK")) : undefined,
+    });
+}
+
+/** The cells of order 3 of the all-sky mosaic, as a map from their numbers to images. */
+export function cutMosaic(mosaic) {
+    const side = mosaic.width / COLUMNS_OF_MOSAIC;
+    const cells = new Map();
+    for (let cell = 0; cell < CELLS_OF_MOSAIC; cell++) {
+        const column = (cell % COLUMNS_OF_MOSAIC) * side;
+        const bottom = mosaic.height - (Math.floor(cell / COLUMNS_OF_MOSAIC) + 1) * side;
+        const numbers = new mosaic.numbers.constructor(side * side);
+        for (let line = 0; line < side; line++) {
+            const from = (bottom + line) * mosaic.width + column;
+            numbers.set(mosaic.numbers.subarray(from, from + side), line * side);
+        }
+        cells.set(cell, new Image(side, side, numbers, mosaic));
+    }
+    return cells;
+}
+
+/** The rows of a coverage file: the numbers 4·4^order + cell, and the order of the leaves. */
+export function readCoverage(buffer) {
+    const first = readHeader(buffer, 0);
+    const { cards, end } = readHeader(buffer, first.end);
+    if (cards.get("ORDERING") !== "NUNIQ" || cards.get("TFORM1") !== "1K") throw new FitsFault("its table isn't one of NUNIQ numbers");
+    const rows = wholeCard(cards, "NAXIS2");
+    if (buffer.byteLength < end + rows * 8) throw new FitsFault("its table is cut short");
+    const view = new DataView(buffer, end);
+    return {
+        order: wholeCard(cards, "MOCORDER"),
+        rows: Array.from({ length: rows }, (_, row) => Number(view.getBigInt64(row * 8))),
+    };
+}
+
+/** The values of the cards of the header that begins there, and where its last block ends. */
+function readHeader(buffer, start) {
+    const bytes = new Uint8Array(buffer);
+    const cards = new Map();
+    for (let at = start; at + CARD <= bytes.length; at += CARD) {
+        const card = String.fromCharCode(...bytes.subarray(at, at + CARD));
+        const keyword = card.slice(0, 8).trimEnd();
+        if (keyword === "END") return { cards, end: start + Math.ceil((at + CARD - start) / BLOCK) * BLOCK };
+        if (card.slice(8, 10) === "= ") cards.set(keyword, valueText(card.slice(10)));
+    }
+    throw new FitsFault("its header has no end");
+}
+
+/** The value of a card: what stands between quotes, or else before a comment. */
+function valueText(text) {
+    const quoted = /^ *'([^']*)'/.exec(text);
+    return (quoted ? quoted[1] : text.split("/")[0]).trim();
+}
+
+function wholeCard(cards, keyword) {
+    const text = cards.get(keyword) ?? "";
+    if (!/^[+-]?\d+$/.test(text)) throw new FitsFault(`its ${keyword} is no whole number`);
+    return Number(text);
+}
+
+function realCard(cards, keyword, absent) {
+    if (!cards.has(keyword)) return absent;
+    const number = Number(cards.get(keyword).replace(/d/i, "E"));
+    if (Number.isNaN(number)) throw new FitsFault(`its ${keyword} is no number`);
+    return number;
+}

@@ -1,0 +1,172 @@
+// What is drawn over the pixels: the equatorial grid and its numbers, the borders of cells, and those that changed.
+
+import { border, centre, fromDegrees } from "./healpix.js";
+
+const INK = "rgba(255, 255, 255, 0.45)";
+const SHADE = "rgba(16, 19, 28, 0.22)";
+const MARGIN_INK = "#5b5f6b";
+const NUMBERS = "rgba(255, 255, 255, 0.78)";
+const CELLS = "rgba(140, 190, 255, 0.75)";
+const CHANGED = "#ff7a1a";
+const STEPS = [30, 15, 10, 5, 2, 1, 0.5, 0.2, 0.1, 0.05, 0.02, 0.01, 0.005, 0.002, 0.001];
+const LINES_WANTED = 6;
+const POINTS_OF_A_SIDE = 12;
+const MOST_NUMBERED = 80;
+
+export class Lines {
+    constructor(canvas) {
+        this.canvas = canvas;
+        this.brush = canvas.getContext("2d");
+    }
+
+    /** Clears the picture's lines; widths and letters are for a screen with so many pixels to a point. */
+    begin(projection, width, height, density) {
+        this.canvas.width = width;
+        this.canvas.height = height;
+        Object.assign(this, { projection, width, height, density });
+        this.brush.font = `${11 * density}px system-ui, "DejaVu Sans", sans-serif`;
+        this.brush.lineJoin = "round";
+    }
+
+    /** Meridians and parallels, with their degrees. */
+    grid(view) {
+        const step = this.projection.isWhole ? 30 : STEPS.find((degrees) => view.width / degrees >= LINES_WANTED) ?? STEPS.at(-1);
+        if (this.projection.isWhole) this.wholeGrid(step);
+        else this.partGrid(view, step);
+    }
+
+    wholeGrid(step) {
+        const { projection } = this;
+        const height = (dec) => Math.sin((dec * Math.PI) / 180);
+        const decs = range(-90, 90, 2);
+        for (let east = -180; east <= 180; east += step) {
+            this.gridLine(decs.map((dec) => projection.at(east, height(dec))));
+        }
+        for (let dec = -90 + step; dec < 90; dec += step) {
+            this.gridLine(range(-180, 180, step).map((east) => projection.at(east, height(dec))));
+            const [column, line] = projection.at(180, height(dec));
+            this.number(`${signed(dec, 0)}°`, column - 6 * this.density, line, "right", MARGIN_INK);
+        }
+        this.edge();
+        for (let ra = 0; ra < 360; ra += step) {
+            const east = ((ra - projection.ra + 540) % 360) - 180;
+            if (Math.abs(east) < 179) this.number(`${ra}°`, ...shifted(projection.at(east, 0), 3, -7, this.density), "left", NUMBERS);
+        }
+    }
+
+    /** The border of the ellipse. */
+    edge() {
+        const { projection } = this;
+        const heights = range(-90, 90, 1).map((dec) => Math.sin((dec * Math.PI) / 180));
+        const around = [...heights.map((z) => projection.at(180, z)), ...heights.reverse().map((z) => projection.at(-180, z))];
+        this.path(around, "#33384a", 1.5);
+    }
+
+    partGrid(view, step) {
+        const places = Math.max(0, Math.ceil(-Math.log10(step)));
+        const reach = view.width * 0.75;
+        const [lowest, highest] = [Math.max(-90, view.dec - reach), Math.min(90, view.dec + reach)];
+        const isPole = lowest <= -88 || highest >= 88;
+        const wide = isPole ? 180 : Math.min(180, reach / Math.cos((Math.max(-lowest, highest) * Math.PI) / 180));
+        const across = isPole ? Math.max(step, 15) : STEPS.find((degrees) => (2 * wide) / 1.5 / degrees >= LINES_WANTED) ?? step;
+        for (let dec = Math.ceil(lowest / step) * step; dec <= highest + 1e-9; dec += step) {
+            if (Math.abs(dec) > 90 - 1e-9) continue;
+            const line = range(view.ra - wide, view.ra + wide, wide / 60).map((ra) => this.point(ra, dec));
+            this.gridLine(line);
+            this.numberAtEdge(line, `${signed(dec, places)}°`, "left");
+        }
+        const first = Math.ceil((view.ra - wide) / across) * across;
+        for (let ra = first; ra < view.ra + wide; ra += across) {
+            const line = range(lowest, highest, (highest - lowest) / 60).map((dec) => this.point(ra, dec));
+            this.gridLine(line);
+            this.numberAtEdge(line, `${(((ra % 360) + 360) % 360).toFixed(Math.max(0, Math.ceil(-Math.log10(across))))}°`, "bottom");
+        }
+    }
+
+    /** A line that is seen on dark and on light pixels. */
+    gridLine(points) {
+        this.path(points, SHADE, 2.5);
+        this.path(points, INK, 1);
+    }
+
+    point(ra, dec) {
+        return this.projection.toScreen(fromDegrees(ra, dec));
+    }
+
+    /** A number where a line crosses the left or the bottom edge of the picture. */
+    numberAtEdge(points, text, edge) {
+        const inset = 8 * this.density;
+        const [axis, level] = edge === "left" ? [0, inset] : [1, this.height - inset];
+        for (let at = 1; at < points.length; at++) {
+            const [one, other] = [points[at - 1], points[at]];
+            if (!one || !other || one[axis] < level === other[axis] < level) continue;
+            const part = (level - one[axis]) / (other[axis] - one[axis]);
+            const [column, line] = one.map((from, which) => from + (other[which] - from) * part);
+            if (edge === "left") this.number(text, column, line - 7 * this.density, "left", NUMBERS);
+            else this.number(text, column + 4 * this.density, line, "left", NUMBERS);
+            return;
+        }
+    }
+
+    /** The borders of cells, with their numbers where there is room. */
+    cells(order, cells) {
+        for (const cell of cells) this.cell(order, cell, CELLS, 1);
+        if (cells.length > MOST_NUMBERED) return;
+        for (const cell of cells) {
+            const at = this.projection.toScreen(centre(order, cell));
+            if (at) this.number(`${order}/${cell}`, ...at, "center", "rgba(205, 226, 255, 0.95)");
+        }
+    }
+
+    /** The cells that the last publication changed; those of order 3 only where it isn't known which of their parts did. */
+    changed({ ofSky, order, inView }, shownOrder) {
+        const isFiner = order !== null && order === shownOrder;
+        const known = new Set(isFiner ? inView.map((cell) => Math.floor(cell / 4 ** (order - 3))) : []);
+        if (isFiner) for (const cell of inView) this.cell(order, cell, CHANGED, 2.5);
+        for (const cell of ofSky) if (!known.has(cell)) this.cell(3, cell, CHANGED, shownOrder === null ? 2.5 : 1);
+    }
+
+    cell(order, cell, colour, width) {
+        const points = border(order, cell, POINTS_OF_A_SIDE).map((direction) => this.projection.toScreen(direction));
+        this.path([...points, points[0]], colour, width);
+    }
+
+    /** A line through points; it is lifted where a point is missing or far from the one before. */
+    path(points, colour, width) {
+        this.brush.strokeStyle = colour;
+        this.brush.lineWidth = width * this.density;
+        this.brush.beginPath();
+        let last = null;
+        for (const point of points) {
+            if (point && last && Math.abs(point[0] - last[0]) < this.width / 2) this.brush.lineTo(...point);
+            else if (point) this.brush.moveTo(...point);
+            last = point;
+        }
+        this.brush.stroke();
+    }
+
+    number(text, column, line, align, colour) {
+        this.brush.textAlign = align;
+        this.brush.textBaseline = "middle";
+        if (colour !== MARGIN_INK) {
+            this.brush.lineWidth = 3 * this.density;
+            this.brush.strokeStyle = "rgba(15, 18, 28, 0.6)";
+            this.brush.strokeText(text, column, line);
+        }
+        this.brush.fillStyle = colour;
+        this.brush.fillText(text, column, line);
+    }
+}
+
+function range(first, last, step) {
+    return Array.from({ length: Math.round((last - first) / step) + 1 }, (_, at) => first + at * step);
+}
+
+function signed(degrees, places) {
+    if (Math.abs(degrees) < 1e-9) return "0";
+    return `${degrees < 0 ? "−" : "+"}${Math.abs(degrees).toFixed(places)}`;
+}
+
+function shifted([column, line], right, down, density) {
+    return [column + right * density, line + down * density];
+}

@@ -1,0 +1,111 @@
+// Where a direction stands in the picture, and back. Both projections keep areas; north is up and east to the left. Points of the
+// picture are counted in its pixels from the top left corner.
+
+import { fromDegrees, toDegrees } from "./healpix.js";
+
+export const WHOLE_SKY = 360;
+const WIDEST_PART = 180;
+const MARGIN = 36;
+
+/** The projection of a view ({ra, dec, width}, in degrees) into a picture of so many pixels. */
+export function projectionOf(view, width, height) {
+    return view.width > WIDEST_PART ? new Mollweide(view, width, height) : new EqualArea(view, width, height);
+}
+
+/** The view with that width nearest to the wanted one: the whole sky, or a part of it. */
+export function boundedWidth(width, least) {
+    return width > WIDEST_PART ? WHOLE_SKY : Math.max(width, least);
+}
+
+/** The whole sky as an ellipse, around a meridian. */
+class Mollweide {
+    constructor(view, width, height) {
+        this.middle = [width / 2, height / 2];
+        this.half = Math.max(1, Math.min(width / 2 - MARGIN, height - 2 * MARGIN));
+        this.ra = view.ra;
+        this.isWhole = true;
+    }
+
+    /** Degrees along the equator that a pixel shows. */
+    get pixel() {
+        return 180 / this.half;
+    }
+
+    /** The share of the sphere in the picture. */
+    get share() {
+        return 1;
+    }
+
+    toSky(column, line) {
+        const x = (this.middle[0] - column) / this.half;
+        const y = (2 * (this.middle[1] - line)) / this.half;
+        if (x * x + y * y > 1) return null;
+        const slope = Math.asin(y);
+        const z = (2 * slope + Math.sin(2 * slope)) / Math.PI;
+        const angle = (this.ra * Math.PI) / 180 + (Math.PI * x) / Math.cos(slope);
+        const sine = Math.sqrt(Math.max(0, 1 - z * z));
+        return [sine * Math.cos(angle), sine * Math.sin(angle), z];
+    }
+
+    toScreen(direction) {
+        const [ra] = toDegrees(direction);
+        const east = ((((ra - this.ra + 180) % 360) + 360) % 360) - 180;
+        return this.at(east, direction[2]);
+    }
+
+    /** The point of a direction so many degrees to the east of the middle one, -180 to 180: both ends are told apart. */
+    at(east, z) {
+        const slope = slopeOf(z);
+        return [this.middle[0] - (this.half * east * Math.cos(slope)) / 180, this.middle[1] - (this.half * Math.sin(slope)) / 2];
+    }
+}
+
+/** The angle t with 2t + sin 2t = π z, by Newton's steps from a start that is near at the poles too. */
+function slopeOf(z) {
+    if (Math.abs(z) >= 1) return (Math.sign(z) * Math.PI) / 2;
+    let slope = Math.sign(z) * (Math.PI / 2 - Math.cbrt((3 * Math.PI * (1 - Math.abs(z))) / 4));
+    for (let step = 0; step < 8; step++) {
+        slope -= (2 * slope + Math.sin(2 * slope) - Math.PI * z) / (2 + 2 * Math.cos(2 * slope));
+    }
+    return slope;
+}
+
+/** A part of the sky around a direction: Lambert's azimuthal projection. */
+class EqualArea {
+    constructor(view, width, height) {
+        this.middle = [width / 2, height / 2];
+        this.scale = width / 4 / Math.sin((view.width * Math.PI) / 720);
+        this.centre = fromDegrees(view.ra, view.dec);
+        this.east = fromDegrees(view.ra + 90, 0);
+        this.north = fromDegrees(view.ra, view.dec + 90);
+        this.isWhole = false;
+        this.share = Math.min(1, (width * height) / (4 * Math.PI * this.scale * this.scale));
+    }
+
+    get pixel() {
+        return 180 / Math.PI / this.scale;
+    }
+
+    toSky(column, line) {
+        const x = (this.middle[0] - column) / this.scale;
+        const y = (this.middle[1] - line) / this.scale;
+        const square = x * x + y * y;
+        if (square > 4) return null;
+        const cosine = 1 - square / 2;
+        const length = Math.sqrt(1 - square / 4);
+        const along = (axis) => cosine * this.centre[axis] + length * (x * this.east[axis] + y * this.north[axis]);
+        return [along(0), along(1), along(2)];
+    }
+
+    /** No point where the direction is far behind the sky's edge: a line there would cross the picture. */
+    toScreen(direction) {
+        const cosine = dot(direction, this.centre);
+        if (cosine < -0.9) return null;
+        const length = this.scale * Math.sqrt(2 / (1 + cosine));
+        return [this.middle[0] - length * dot(direction, this.east), this.middle[1] - length * dot(direction, this.north)];
+    }
+}
+
+function dot([a, b, c], [x, y, z]) {
+    return a * x + b * y + c * z;
+}

@@ -1,0 +1,407 @@
+#!/usr/bin/python3
+"""Tries the atlas page in Debian's chromium: atlas-client.py PROGRAM [PICTURES].
+
+hipsd serves surveys of each depth with known numbers (gradient_survey.py); examples/atlas/look.py serves the page, and the browser
+runs without a window. Pixels of screenshots are compared with the numbers that healpy and astropy's WCS (wcslib) say are there: which
+direction a pixel of the picture shows, which cell that is, and which number this has.
+
+- Each survey as a whole and near, at the order of its leaves; where the picture ends, and what is blank; what is said under the pointer.
+- An edit changes nothing that is seen, its publication does, and the cells that changed are marked, those and no others.
+- While 16 leaves in view are published together over and over, through a proxy that delays each reply at random, each picture shows
+  one generation, that which the page names.
+- A server that goes away is told of in words, and the picture stays; when it is back over its folder, that is shown.
+- A cell of the mosaic and a tile without leaves; an address without hipsd, in words.
+
+With PICTURES, a folder, two screenshots for the documents are written there. Ends with status 1 and says what is wrong.
+"""
+
+import io
+import os
+import random
+import shutil
+import socket
+import subprocess
+import sys
+import tempfile
+import threading
+import time
+from http.client import HTTPConnection
+from pathlib import Path
+
+import healpy
+import numpy
+from astropy.wcs import WCS
+from PIL import Image
+from selenium import webdriver
+from selenium.webdriver.chrome.options import Options
+from selenium.webdriver.chrome.service import Service
+from selenium.webdriver.common.action_chains import ActionChains
+from selenium.webdriver.common.by import By
+
+from gradient_survey import SURVEYS
+from survey_files import tile_path
+
+sys.path.insert(0, str(Path(__file__).parent.parent / "examples/atlas"))
+from look import Handler, page_server  # noqa: E402
+
+GROUND = (0x17, 0x1B, 0x26)
+CHANGED = (0xFF, 0x7A, 0x1A)
+PAPER = (0xF6, 0xF4, 0xEE)
+MARGIN = 36
+PATIENCE = 30
+PLAIN = "grid=0&coverage=0&cells=0&changes=0&colours=grey&bend=0"
+
+
+class Delayed(Handler):
+    """Replies come in another order than they were asked for."""
+
+    most = 0.0
+
+    def pass_on(self, path):
+        time.sleep(random.uniform(0, self.most))
+        super().pass_on(path)
+
+
+class Trial:
+    """A server of a survey, a server of the page, and what was found wrong."""
+
+    def __init__(self, program, folder, browser):
+        self.program, self.folder, self.browser = program, folder, browser
+        self.wrong = []
+        self.compared = 0
+        self.hipsd = self.page = None
+
+    def blame(self, *words):
+        self.wrong.append(" ".join(str(word) for word in words))
+        print("check-atlas:", self.wrong[-1], file=sys.stderr)
+
+    # ---- servers
+
+    def serve(self, depth):
+        """hipsd over the survey of that depth, and the page before it."""
+        self.survey = SURVEYS[depth]
+        self.place = self.folder / str(depth)
+        if not self.place.exists():
+            self.survey.write(self.place)
+        with socket.socket() as free:
+            free.bind(("127.0.0.1", 0))
+            self.address = f"127.0.0.1:{free.getsockname()[1]}"
+        self.start()
+        self.page = page_server(self.address, handler=Delayed)
+        threading.Thread(target=self.page.serve_forever, daemon=True).start()
+        self.base = f"http://127.0.0.1:{self.page.server_port}"
+
+    def start(self):
+        self.hipsd = subprocess.Popen([self.program, "serve", self.address, "65536", "24"], cwd=self.place,
+                                      env={**os.environ, "HIPSD_LOG": "off"})
+        until = time.monotonic() + 120
+        while time.monotonic() < until and self.hipsd.poll() is None:
+            try:
+                socket.create_connection(self.address.split(":"), timeout=1).close()
+                return
+            except OSError:
+                time.sleep(0.05)
+        raise AssertionError("hipsd doesn't listen")
+
+    def stop(self):
+        """Ends the server of the survey."""
+        if self.hipsd:
+            self.hipsd.terminate()
+            self.hipsd.wait()
+        self.hipsd = None
+
+    def end(self):
+        self.stop()
+        if self.page:
+            self.page.shutdown()
+            self.page.server_close()
+        self.page = None
+
+    def ask(self, method, path, body=b""):
+        http = HTTPConnection(self.address, timeout=20)
+        http.request(method, path, body, {"Connection": "close"})
+        reply = http.getresponse()
+        text = reply.read()
+        http.close()
+        if reply.status not in (200, 201, 204):
+            self.blame(method, path, "is answered", reply.status, text)
+        return text
+
+    # ---- the page
+
+    def open(self, words, wait="whole"):
+        self.browser.get("about:blank")
+        self.browser.get(f"{self.base}/atlas/{words}")
+        self.wait(wait)
+
+    def state(self):
+        body = self.browser.find_element(By.TAG_NAME, "body")
+        return body.get_attribute("data-state"), body.get_attribute("data-generation")
+
+    def wait(self, state, generation=None):
+        """Waits until the page says so, and has drawn it."""
+        until = time.monotonic() + PATIENCE
+        while time.monotonic() < until:
+            now = self.state()
+            if now[0] == state and generation in (None, now[1]):
+                self.browser.execute_async_script("const done = arguments[0]; requestAnimationFrame(() => requestAnimationFrame(done))")
+                return
+            time.sleep(0.05)
+        self.blame("the page is", self.state(), "and not", state, generation or "", "and says:", self.text("message"))
+
+    def text(self, name):
+        return self.browser.find_element(By.ID, name).text
+
+    def shot(self):
+        """The picture as the browser shows it, red, green and blue, line by line from the top."""
+        box = self.browser.find_element(By.ID, "lines").rect
+        page = Image.open(io.BytesIO(self.browser.get_screenshot_as_png())).convert("RGB")
+        left, top = round(box["x"]), round(box["y"])
+        return numpy.asarray(page.crop((left, top, left + round(box["width"]), top + round(box["height"]))))
+
+    # ---- what the numbers say
+
+    def wcs(self, shape, ra, dec, width):
+        """The picture's projection by wcslib."""
+        height, columns = shape
+        found = WCS(naxis=2)
+        found.wcs.crpix = [columns / 2 + 0.5, height / 2 + 0.5]
+        if width > 180:
+            degrees = 360 * numpy.sqrt(2) / numpy.pi / min(columns / 2 - MARGIN, height - 2 * MARGIN)
+            found.wcs.ctype = ["RA---MOL", "DEC--MOL"]
+            found.wcs.crval = [ra, 0]
+        else:
+            degrees = numpy.degrees(4 * numpy.sin(numpy.radians(width) / 4) / columns)
+            found.wcs.ctype = ["RA---ZEA", "DEC--ZEA"]
+            found.wcs.crval = [ra, dec]
+        # Lines are counted downward.
+        found.wcs.cdelt = [-degrees, -degrees]
+        return found
+
+    def compare(self, what, view, order, least=0.997):
+        """Compares a screenshot with the numbers of that order's pixels, whose grey is that of the page."""
+        picture = self.shot()
+        survey, step = self.survey, 2
+        lines, columns = (axis.ravel() for axis in numpy.mgrid[1:picture.shape[0] - 1:step, 1:picture.shape[1] - 1:step])
+        ra, dec = self.wcs(picture.shape[:2], *view).all_pix2world(columns, lines, 0)
+        inside = numpy.isfinite(ra) & numpy.isfinite(dec)
+        shown = picture[lines, columns].astype(int)
+        if view[2] > 180:
+            self.judge(f"{what}, outside of the sky", (shown[~inside] == PAPER).all(axis=1), least)
+        pixels = healpy.ang2pix(2**order, ra[inside], dec[inside], nest=True, lonlat=True)
+        known, where = numpy.unique(pixels, return_inverse=True)
+        values = survey.value(survey.numbers(order, known)[where])
+        low, high = self.levels()
+        grey = numpy.round(255 * numpy.clip((values - low) / (high - low), 0, 1))
+        wanted = numpy.where(numpy.isnan(grey)[:, None], GROUND, grey[:, None])
+        agree = (abs(shown[inside] - wanted) <= 1).all(axis=1)
+        self.judge(what, agree, least)
+        present = ~numpy.isnan(values)
+        if len(set(grey[present])) < 4 and not survey.edited:
+            self.blame(what, "has too few shades to tell")
+
+    def judge(self, what, agree, least):
+        self.compared += len(agree)
+        if len(agree) == 0 or agree.mean() < least:
+            self.blame(f"{what}: {(~agree).sum()} of {len(agree)} pixels aren't what the numbers say")
+
+    def levels(self):
+        survey = self.survey
+        return survey.value(float(survey.low)), survey.value(float(survey.low + survey.rise))
+
+    def hash(self, view, switches=PLAIN):
+        low, high = self.levels()
+        return f"#ra={view[0]}&dec={view[1]}&width={view[2]}&low={low!r}&high={high!r}&{switches}"
+
+
+# The middle of a picture of each survey near its leaves, and its width in degrees.
+NEAR = {8: (200, -35, 12), 16: (83, 21, 9), 32: (84, 21, 3), 64: (20, 83, 6)}
+
+
+def looks_at_each(trial):
+    for depth, survey in SURVEYS.items():
+        trial.serve(depth)
+        whole, near = (40, 0, 360), NEAR[depth]
+        trial.open(trial.hash(whole))
+        trial.compare(f"{depth} bits, the whole sky", whole, 3 + survey.bits)
+        trial.open(trial.hash(near))
+        expected = f"tiles of order {survey.top}" if survey.top > 3 else "all-sky mosaic"
+        if trial.text("shown") != expected:
+            trial.blame(f"{depth} bits near: {trial.text('shown')} in place of {expected}")
+        trial.compare(f"{depth} bits, near", near, survey.deep)
+        points_at(trial, depth, near)
+        trial.end()
+
+
+def points_at(trial, depth, view):
+    """The cell, the pixel and the exact number under the pointer."""
+    survey = trial.survey
+    canvas = trial.browser.find_element(By.ID, "lines")
+    columns, lines = round(canvas.rect["width"]), round(canvas.rect["height"])
+    for right, down in ((0, 0), (101, 57), (-133, 88)):
+        ActionChains(trial.browser).move_to_element_with_offset(canvas, right, down).perform()
+        at = (columns // 2 + right - 0.5, lines // 2 + down - 0.5)
+        ra, dec = trial.wcs((lines, columns), *view).all_pix2world([at[0]], [at[1]], 0)
+        pixel = int(healpy.ang2pix(2**survey.deep, ra[0], dec[0], nest=True, lonlat=True))
+        number = int(survey.stored(numpy.array([pixel]))[0])
+        cell = f"cell {survey.top}/{pixel // 4**survey.bits}, pixel {survey.deep}/{pixel}:"
+        said = trial.text("value")
+        if not said.startswith(cell) or str("blank" if number == survey.blank else number) not in said:
+            trial.blame(f"{depth} bits: under the pointer stands '{said}' in place of '{cell} {number}'")
+
+
+def is_orange(picture):
+    return (abs(picture.astype(int) - CHANGED).max(axis=2) < 60)
+
+
+def publishes(trial):
+    """An edit and its publication while the page is open."""
+    survey, view = trial.survey, NEAR[16]
+    trial.open(trial.hash(view))
+    leaf = int(healpy.ang2pix(2**survey.top, view[0], view[1], nest=True, lonlat=True))
+    trial.ask("PUT", "/" + tile_path(survey.top, leaf), survey.file(leaf, 15000))
+    time.sleep(1.5)
+    trial.wait("whole", "0")
+    trial.compare("an edit that isn't published", view, survey.deep)
+    trial.ask("POST", "/publish")
+    trial.wait("whole", "1")
+    survey.edited[leaf] = 15000
+    trial.compare("an edit that is published", view, survey.deep)
+    trial.browser.execute_script("document.getElementById('changes').click()")
+    trial.wait("whole", "1")
+    marks_are_at(trial, view, leaf)
+    # The same on the sky as a whole, for which the page is opened anew, and a second publication.
+    whole = (40, 0, 360)
+    trial.open(trial.hash(whole))
+    trial.compare("the whole sky after it", whole, 3 + survey.bits)
+    trial.ask("DELETE", "/" + tile_path(survey.top, leaf))
+    trial.ask("POST", "/publish")
+    trial.wait("whole", "2")
+    kept, survey.leaves = survey.leaves, survey.leaves[survey.leaves != leaf]
+    del survey.edited[leaf]
+    trial.compare("a leaf that was taken away", whole, 3 + survey.bits)
+    survey.leaves = kept
+
+
+def marks_are_at(trial, view, leaf):
+    """The border of the changed cell is orange, and nothing else is."""
+    survey, picture = trial.survey, trial.shot()
+    ra, dec = healpy.vec2ang(healpy.boundaries(2**survey.top, leaf, step=400, nest=True).T, lonlat=True)
+    columns, lines = numpy.round(trial.wcs(picture.shape[:2], *view).all_world2pix(ra, dec, 0)).astype(int)
+    inside = (columns >= 0) & (columns < picture.shape[1]) & (lines >= 0) & (lines < picture.shape[0])
+    orange = is_orange(picture)
+    trial.judge("the mark of the changed cell", orange[lines[inside], columns[inside]], 0.99)
+    near = numpy.zeros_like(orange)
+    for column, line in zip(columns[inside], lines[inside]):
+        near[max(0, line - 3):line + 4, max(0, column - 3):column + 4] = True
+    if inside.sum() < 100 or (orange & ~near).any():
+        trial.blame("cells are marked that didn't change")
+
+
+def storms(trial, seconds=10):
+    """Publications of all leaves in view together, over and over; no picture shows two of them."""
+    survey = trial.survey
+    cell = int(healpy.ang2pix(4, *NEAR[16][:2], nest=True, lonlat=True))
+    ra, dec = (float(angle) for angle in healpy.pix2ang(4, cell, nest=True, lonlat=True))
+    view = (ra, dec, 10)
+    leaves = range(16 * cell, 16 * cell + 16)
+    trial.open(trial.hash(view))
+    first = int(trial.state()[1])
+    numbers = {first: None}
+    until = time.monotonic() + seconds
+    Delayed.most = 0.08
+
+    def publish():
+        while time.monotonic() < until:
+            number = random.randrange(-16000, 16000)
+            files = {leaf: survey.file(leaf, number) for leaf in leaves}
+            body = b"".join(b"put %d %d\n" % (leaf, len(file)) + file for leaf, file in files.items())
+            numbers[max(numbers) + 16] = number
+            trial.ask("POST", "/batch", body)
+            trial.ask("POST", "/publish")
+            time.sleep(0.5)
+
+    publisher = threading.Thread(target=publish)
+    publisher.start()
+    seen, pictures = set(), 0
+    while time.monotonic() < until + 1.5:
+        before = int(trial.state()[1])
+        picture = trial.shot()
+        middle = picture[::4, ::4].reshape(-1, 3)
+        if int(trial.state()[1]) != before or numbers.get(before) is None:
+            continue
+        pictures += 1
+        seen.add(before)
+        grey = round(255 * (numbers[before] + 16000) / 32000)
+        trial.judge(f"generation {before} in a storm", (abs(middle.astype(int) - grey) <= 1).all(axis=1), 1.0)
+    publisher.join()
+    Delayed.most = 0.0
+    if len(seen) < 4:
+        trial.blame(f"a storm of {len(numbers) - 1} publications, and the page showed {len(seen)} of them")
+    trial.wait("whole", str(max(numbers)))
+    print(f"check-atlas: a storm of {len(numbers) - 1} publications: {pictures} pictures of {len(seen)} generations, each of one")
+
+
+def goes_away(trial):
+    """The server ends, and comes back over its folder, without the edits."""
+    view = NEAR[16]
+    trial.open(trial.hash(view))
+    before = trial.shot()
+    trial.stop()
+    trial.wait("away")
+    if "The server answers properties by 502" not in trial.text("message"):
+        trial.blame("a server that is gone is told of as:", trial.text("message"))
+    told = trial.browser.find_element(By.ID, "message").rect
+    after = trial.shot()
+    below = round(told["y"] + told["height"] - trial.browser.find_element(By.ID, "lines").rect["y"]) + 10
+    if not (before[below:] == after[below:]).all():
+        trial.blame("a server that is gone takes the picture with it")
+    trial.start()
+    trial.wait("whole", "0")
+    trial.compare("a server that came back", view, trial.survey.deep)
+    if trial.text("message"):
+        trial.blame("a server that came back, and still:", trial.text("message"))
+
+
+def says_what_is_wrong(trial):
+    trial.open("?survey=/atlas/nowhere", wait="away")
+    if "there is no hipsd" not in trial.text("message"):
+        trial.blame("an address without hipsd is told of as:", trial.text("message"))
+
+
+def browser(width=900, height=640):
+    options = Options()
+    for word in ("headless=new", "no-sandbox", "disable-gpu", "disable-dev-shm-usage", "hide-scrollbars",
+                 "force-device-scale-factor=1", "force-color-profile=srgb", f"window-size={width},{height}"):
+        options.add_argument(f"--{word}")
+    options.set_capability("goog:loggingPrefs", {"browser": "ALL"})
+    return webdriver.Chrome(service=Service(shutil.which("chromedriver")), options=options)
+
+
+def main():
+    program = os.path.realpath(sys.argv[1])
+    begun = time.monotonic()
+    with tempfile.TemporaryDirectory() as folder:
+        window = browser()
+        trial = Trial(program, Path(folder), window)
+        try:
+            looks_at_each(trial)
+            trial.serve(16)
+            publishes(trial)
+            storms(trial)
+            goes_away(trial)
+            says_what_is_wrong(trial)
+            for line in window.get_log("browser"):
+                if "TypeError" in line["message"] or "Uncaught" in line["message"]:
+                    trial.blame("the browser says:", line["message"])
+        finally:
+            trial.end()
+            window.quit()
+    if trial.wrong:
+        sys.exit(1)
+    print(f"check-atlas: the page shows what the numbers say: {trial.compared} pixels of pictures compared, "
+          f"{round(time.monotonic() - begun)} seconds")
+
+
+if __name__ == "__main__":
+    main()
