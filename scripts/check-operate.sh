@@ -1,0 +1,220 @@
+#!/bin/bash
+# Tries what an operator and an editor use beside the program, as they do: examples/nginx.conf (with openssl, for TLS), edit.sh with
+# its journal, import-hipsgen.py, the service of systemd (by systemd's own verifiers, since systemd isn't running here), the man
+# page (mandoc) and scripts/install.sh. What it starts it ends, and nothing is written outside a folder of its own.
+#
+#     scripts/check-operate.sh [PROGRAM]
+#
+# PROGRAM is crates/hipsd/out/hipsd if none is named. Where a tool is missing this fails if CI=true, and else says what it left out.
+PATH=$PATH:/usr/sbin
+cd "$(dirname "$0")/.." || exit 1
+program=$(realpath -e "${1:-crates/hipsd/out/hipsd}") || { echo "check-operate: there is no built hipsd" >&2; exit 1; }
+python=/usr/bin/python3
+top=$PWD
+scripts=$top/scripts
+examples=$top/examples
+missing=
+command -v curl >/dev/null 2>&1 || missing="$missing curl"
+[ -x "$python" ] || missing="$missing python3"
+if [ -n "$missing" ]; then
+    echo "check-operate: LEFT OUT, nothing was tried: not installed here:$missing"
+    [ "${CI:-}" = true ] && exit 1
+    exit 0
+fi
+
+folder=$(mktemp -d) || exit 1
+server=
+web=
+# shellcheck disable=SC2317 # it is called by the trap
+end() {
+    [ -n "$web" ] && kill "$web" 2>/dev/null && wait "$web" 2>/dev/null
+    [ -n "$server" ] && kill "$server" 2>/dev/null && wait "$server" 2>/dev/null
+    rm -rf "$folder"
+}
+trap end EXIT
+wrong=0
+blame() {
+    echo "check-operate: $*" >&2
+    wrong=1
+}
+# leaves_out PACKAGE: a tool isn't there.
+leaves_out() {
+    echo "check-operate: left out, since it isn't installed here: $1"
+    [ "${CI:-}" = true ] && blame "$1 isn't installed"
+}
+free_port() {
+    "$python" -c 'import socket; s = socket.socket(); s.bind(("127.0.0.1", 0)); print(s.getsockname()[1])'
+}
+# listens PORT PROCESS: once somebody listens there; fails where the process has ended.
+listens() {
+    for _ in $(seq 600); do
+        (exec 3<>"/dev/tcp/127.0.0.1/$1") 2>/dev/null && return
+        kill -0 "$2" 2>/dev/null || return
+        sleep 0.05
+    done
+    return 1
+}
+
+# start: hipsd over the survey in $folder/survey, at $port, once it answers.
+start() {
+    cd "$folder/survey" || exit 1
+    "$program" serve "127.0.0.1:$port" 65536 64 >"$folder/output" 2>"$folder/log" &
+    server=$!
+    listens "$port" "$server" || { cat "$folder/log" >&2; echo "check-operate: hipsd doesn't listen" >&2; exit 1; }
+}
+# stop: ends it.
+stop() {
+    kill "$server" 2>/dev/null
+    wait "$server" 2>/dev/null
+    server=
+}
+
+# asks CODE WORD ..: curl's WORDs, and the code of the reply.
+asks() {
+    code=$1
+    shift
+    got=$(curl -s -o "$folder/body" -D "$folder/head" -w '%{http_code}' --max-time 20 "$@")
+    [ "$got" = "$code" ] || blame "curl $*: $got in place of $code: $(head -c 200 "$folder/body" | tr -d '\000')"
+}
+# field NAME VALUE: a field of the last reply.
+field() {
+    got=$(tr -d '\r' <"$folder/head" | sed -n "s/^$1: //Ip")
+    [ "$got" = "$2" ] || blame "$1 of the last reply is '$got' in place of '$2'"
+}
+# lacks NAME: a field that the last reply hasn't.
+lacks() {
+    grep -qi "^$1:" "$folder/head" && blame "the last reply has $1"
+}
+
+# survey TITLE: a survey without leaves, and the file of a leaf.
+mkdir "$folder/survey" && cd "$folder/survey" || exit 1
+"$python" - "$scripts" <<'PYTHON' || exit 1
+import sys
+from pathlib import Path
+
+sys.path.insert(0, sys.argv[1])
+from survey_files import Survey, image
+
+Path("survey.conf").write_bytes(Survey("operate", "Survey operate", top=5, low=3, width=8).description())
+Path("../leaf").write_bytes(image(8, 8, range(64), ("ORDER", 5), ("NPIX", 7)))
+Path("../other").write_bytes(image(8, 8, range(64, 128), ("ORDER", 5), ("NPIX", 7)))
+PYTHON
+port=$(free_port)
+direct=http://127.0.0.1:$port
+
+# ---- nginx
+
+# proxy_starts: nginx with the example, but for ports and folders of this check, in front of $port. With a certificate by TLS too.
+proxy_starts() {
+    plain=$(free_port)
+    secure=$(free_port)
+    sed -e "s/127.0.0.1:8080/127.0.0.1:$port/" -e "s/listen 80;/listen 127.0.0.1:$plain;/" -e '/listen \[::\]:/d' \
+        -e "s#/etc/nginx/hipsd.users#$folder/users#" -e "s#/var/cache/nginx-hipsd#$folder/cache#" "$examples/nginx.conf" >"$folder/site"
+    [ -s "$folder/hipsd.pem" ] && sed -i -e 's/^\( *\)#tls /\1/' -e "s/listen 443/listen 127.0.0.1:$secure/" -e '/listen \[::\]:/d' \
+        -e "s#/etc/ssl/certs/hipsd.pem#$folder/hipsd.pem#" -e "s#/etc/ssl/private/hipsd.key#$folder/hipsd.key#" "$folder/site"
+    printf '%s\n' 'worker_processes 1;' 'daemon off;' "pid $folder/nginx.pid;" "error_log $folder/nginx.log;" 'events { }' \
+        "http { access_log off; client_body_temp_path $folder/bodies; include $folder/site; }" >"$folder/nginx.conf"
+    nginx -c "$folder/nginx.conf" -p "$folder" 2>"$folder/refused" &
+    web=$!
+    listens "$plain" "$web" || { blame "nginx: $(cat "$folder/refused")"; return 1; }
+}
+
+# by_tls: passwords come by TLS, and in clear from this machine alone.
+by_tls() {
+    tls="--cacert $folder/hipsd.pem --resolve hips.example.org:$secure:127.0.0.1"
+    # shellcheck disable=SC2086 # words
+    asks 200 $tls "https://hips.example.org:$secure/survey/properties"
+    # shellcheck disable=SC2086 # words
+    asks 401 $tls -X POST "https://hips.example.org:$secure/edit/publish"
+    # shellcheck disable=SC2086 # words
+    asks 200 $tls -u editor:secret -X POST "https://hips.example.org:$secure/edit/publish"
+    own=$(hostname -I 2>/dev/null | tr ' ' '\n' | grep -v : | head -n 1)
+    [ -n "$own" ] || return 0
+    # From another address than the loopback.
+    asks 200 --interface "$own" "http://127.0.0.1:$plain/survey/properties"
+    asks 403 --interface "$own" -u editor:secret -X POST "http://127.0.0.1:$plain/edit/publish"
+    grep -q https "$folder/body" || blame "a password in clear isn't told of https: $(cat "$folder/body")"
+    # shellcheck disable=SC2086 # words
+    asks 200 --interface "$own" $tls -u editor:secret -X POST "https://hips.example.org:$secure/edit/publish"
+}
+
+# across_origins: pages of other origins read, and don't change anything.
+across_origins() {
+    asks 200 -H 'Origin: https://viewer.example' "$proxy/survey/properties"
+    field Access-Control-Allow-Origin '*'
+    field Cache-Control no-cache
+    asks 204 -X OPTIONS -H 'Origin: https://viewer.example' -H 'Access-Control-Request-Method: GET' "$proxy/survey/Moc.fits"
+    field Access-Control-Allow-Origin '*'
+    field Access-Control-Allow-Methods 'GET, HEAD'
+    asks 403 -X OPTIONS -H 'Origin: https://evil.example' -H 'Access-Control-Request-Method: PUT' "$proxy/edit/$leaf"
+    lacks Access-Control-Allow-Origin
+    for origin in https://evil.example http://hips.example.org https://hips.example.org.evil.example null; do
+        asks 403 -u editor:secret -H "Origin: $origin" -T "$folder/leaf" "$proxy/edit/$leaf"
+        asks 403 -u editor:secret -H "Origin: $origin" -X POST --data-binary 'remove 7' "$proxy/edit/batch"
+    done
+    asks 201 -u editor:secret -H 'Origin: https://hips.example.org' -T "$folder/leaf" "$proxy/edit/$leaf"
+    asks 204 -u editor:secret -X DELETE "$proxy/edit/$leaf"
+}
+
+# who_may: what the proxy lets through.
+who_may() {
+    asks 200 "$proxy/survey/properties"
+    curl -s "$direct/properties" | cmp -s - "$folder/body" || blame "the proxy gives other properties"
+    asks 404 "$proxy/survey/$leaf"
+    asks 403 -X DELETE "$proxy/survey/$leaf"
+    asks 403 -X POST "$proxy/survey/pin"
+    asks 401 -X DELETE "$proxy/edit/$leaf"
+    asks 401 -u editor:wrong -X DELETE "$proxy/edit/$leaf"
+    asks 201 -u editor:secret -T "$folder/leaf" "$proxy/edit/$leaf"
+    asks 204 -u editor:secret -X DELETE "$proxy/edit/$leaf"
+    asks 403 -u editor:secret -X POST "$proxy/edit/pin"
+    asks 403 -u editor:secret -X POST "$proxy/edit/%75npin"
+}
+
+# away: hipsd has ended; readers are told so at once, and get nothing old; once it is there again all goes on.
+away() {
+    asks 200 "$proxy/survey/properties"
+    stop
+    sleep 1
+    asks 503 -H 'Origin: https://viewer.example' "$proxy/survey/properties"
+    field Retry-After 5
+    field Access-Control-Allow-Origin '*'
+    field Cache-Control no-store
+    asks 502 -u editor:secret -T "$folder/leaf" "$proxy/edit/$leaf"
+    grep -q "isn't known" "$folder/body" || blame "an edit while hipsd is away is told $(cat "$folder/body")"
+    start
+    asks 200 "$proxy/survey/properties"
+}
+
+leaf=Norder5/Dir0/Npix7.fits
+start
+if command -v nginx >/dev/null 2>&1; then
+    # The steps of examples/README.md.
+    if command -v openssl >/dev/null 2>&1; then
+        printf 'editor:%s\n' "$(echo secret | openssl passwd -6 -stdin)" >"$folder/users"
+        openssl req -x509 -newkey rsa:2048 -nodes -days 2 -subj /CN=hips.example.org -addext subjectAltName=DNS:hips.example.org \
+            -keyout "$folder/hipsd.key" -out "$folder/hipsd.pem" 2>/dev/null || blame "openssl makes no certificate"
+    else
+        leaves_out openssl
+        printf 'editor:{PLAIN}secret\n' >"$folder/users"
+    fi
+    chmod 755 "$folder" && chmod 644 "$folder/users"
+    cache=$(sed -n 's/^proxy_cache_path \([^ ]*\) .*/\1/p' "$examples/nginx.conf")
+    [ -d "$(dirname "$cache")" ] || blame "nginx can't make $cache: the folder above it is missing"
+    if proxy_starts; then
+        proxy=http://127.0.0.1:$plain
+        who_may
+        across_origins
+        [ -s "$folder/hipsd.pem" ] && by_tls
+        "$python" "$scripts/proxy-client.py" "127.0.0.1:$plain" editor:secret "$leaf" || wrong=1
+        away
+        kill "$web" && wait "$web" 2>/dev/null
+        web=
+    fi
+else
+    leaves_out nginx
+fi
+stop
+
+[ "$wrong" = 0 ] && echo "check-operate: all did as it must"
+exit "$wrong"
