@@ -13,7 +13,6 @@ program=$(realpath -e "${1:-crates/hipsd/out/hipsd}") || { echo "check-serve: th
 seconds=${2:-20}
 python=/usr/bin/python3
 scripts=$PWD/scripts
-examples=$PWD/examples
 missing=
 command -v curl >/dev/null 2>&1 || missing="$missing curl"
 [ -x "$python" ] || missing="$missing python3"
@@ -166,23 +165,6 @@ if command -v stilts >/dev/null 2>&1; then
 else
     leaves_out stilts
 fi
-
-# ---- the examples: edits by curl, and a proxy
-
-edit() {
-    HIPSD=$base ORDER=5 "$examples/edit.sh" "$@" >"$folder/body" 2>&1
-}
-edit put 8 "$folder/leaf" || blame "edit.sh put: $(cat "$folder/body")"
-edit add 8 "$folder/leaf" && blame "edit.sh add, of a leaf that is there: $(cat "$folder/body")"
-edit replace 8 "$folder/leaf" || blame "edit.sh replace: $(cat "$folder/body")"
-edit publish && grep -q '^published 4$' "$folder/body" || blame "edit.sh publish: $(cat "$folder/body")"
-{ printf 'put 9 %d\n' "$(wc -c <"$folder/leaf")" && cat "$folder/leaf" && printf 'remove 8\n'; } >"$folder/batch"
-edit batch <"$folder/batch" && grep -q '^accepted 2$' "$folder/body" || blame "edit.sh batch: $(cat "$folder/body")"
-edit publish || blame "edit.sh publish: $(cat "$folder/body")"
-mkdir "$folder/read" && cd "$folder/read" || exit 1
-edit read properties Moc.fits Norder3/Dir0/Npix0.fits || blame "edit.sh read: $(cat "$folder/body")"
-[ "$(tail -n 1 properties)" = 'survey_leaves = 2' ] && [ -s Moc.fits ] && [ -s Npix0.fits ] || blame "edit.sh read: $(ls)"
-cd "$folder/survey" || exit 1
 
 # ---- an address in use
 
