@@ -379,5 +379,93 @@ stop
 start
 journaled
 
+# ---- import-hipsgen.py
+
+# hipsgen FOLDER TITLE LEAF ..: a HiPS as HipsGen writes it, with a BLANK that is no whole number; the second leaf is gzipped.
+hipsgen() {
+    "$python" - "$scripts" "$@" <<'PYTHON' || exit 1
+import gzip
+import sys
+from pathlib import Path
+
+sys.path.insert(0, sys.argv[1])
+from survey_files import image, tile_path
+
+hips, title, leaves = Path(sys.argv[2]), sys.argv[3], [int(word) for word in sys.argv[4:]]
+for number, leaf in enumerate(leaves):
+    path = hips / tile_path(5, leaf)
+    path.parent.mkdir(parents=True, exist_ok=True)
+    card = f"{'BLANK':8}= {-32768:>20}"
+    file = image(8, 8, range(leaf, leaf + 64)).replace(card.encode(), f"{'BLANK':8}= {'-32768.0':>20}".encode())
+    path.write_bytes(gzip.compress(file) if number == 1 else file)
+(hips / "properties").write_text(f"""creator_did          = ivo://example/P/{title}
+obs_title            = {title}
+hips_order           = 5
+hips_order_min       = 0
+hips_release_date    = 2026-01-02T03:04Z
+hips_status          = public master clonableOnce
+hips_frame           = equatorial
+hips_tile_format     = fits png
+hips_nb_tiles        = 4711
+hips_estsize         = 17
+hips_service_url     = http://elsewhere.example/hips
+hipsgen_date_1       = 2026-01-01T00:00Z
+hipsgen_params       = in=a out=b
+moc_sky_fraction     = 0.5
+hips_initial_fov     = 2.0
+#hips_comment        = none
+""")
+PYTHON
+}
+# imported STATUS TEXT WORD ..: the importer's status, and a text that stands in what it writes, in at most two lines.
+imported() {
+    status=$1 text=$2
+    shift 2
+    "$examples/import-hipsgen.py" "$@" >"$folder/body" 2>&1
+    got=$?
+    [ "$got" = "$status" ] || blame "import-hipsgen.py $*: status $got in place of $status: $(cat "$folder/body")"
+    grep -qF -- "$text" "$folder/body" || blame "import-hipsgen.py $*: no '$text' in: $(cat "$folder/body")"
+    [ "$(wc -l <"$folder/body")" -le 2 ] || blame "import-hipsgen.py $*: more than two lines: $(cat "$folder/body")"
+}
+# unchanged: the folder that was imported is as it was.
+unchanged() {
+    (cd "$folder/new" && find . -type f -exec cksum {} + | sort -k 3) >"$folder/now"
+    cmp -s "$folder/then" "$folder/now" || blame "a refused import has changed the folder: $(diff "$folder/then" "$folder/now")"
+}
+imports() {
+    hipsgen "$folder/one" One 1 2 3
+    hipsgen "$folder/two" Two 3 4 5
+    imported 0 '3 leaf tiles' "$folder/one" "$folder/new"
+    cd "$folder/new" || exit 1
+    for key in hips_nb_tiles hips_estsize hips_service_url hipsgen_date_1 hipsgen_params moc_sky_fraction; do
+        grep -q "$key" survey.conf && blame "import-hipsgen.py keeps $key"
+        grep -q "$key" "$folder/body" || blame "import-hipsgen.py doesn't say that $key is left out"
+    done
+    grep -q '^hips_initial_fov = 2.0$' survey.conf || blame "import-hipsgen.py loses hips_initial_fov"
+    "$program" export >"$folder/body" 2>/dev/null || blame "hipsd export refuses what was imported: $(cat "$folder/body")"
+    "$program" verify >"$folder/body" 2>/dev/null || blame "hipsd verify refuses what was imported: $(cat "$folder/body")"
+    find . -type f -exec cksum {} + | sort -k 3 >"$folder/then"
+
+    imported 1 "$folder/new has" "$folder/two" "$folder/new"
+    unchanged
+    imported 1 'there is no' "$folder/nothing" "$folder/new2"
+    mkdir "$folder/three" && imported 1 "there is no $folder/three/properties" "$folder/three" "$folder/new2"
+    echo 'obs_title = none' >"$folder/three/properties" && imported 1 'no hips_order' "$folder/three" "$folder/new2"
+    echo 'hips_order = 5' >"$folder/three/properties" && imported 1 'there is no leaf tile' "$folder/three" "$folder/new2"
+    cp -r "$folder/two" "$folder/torn"
+    head -c 100 "$folder/two/Norder5/Dir0/Npix4.fits" >"$folder/torn/Norder5/Dir0/Npix4.fits"
+    imported 1 'Npix4.fits: ' --replace "$folder/torn" "$folder/new"
+    unchanged
+    [ -e "$folder/new2" ] && blame "a refused import makes a folder"
+
+    imported 0 '3 leaf tiles' --replace "$folder/two" "$folder/new"
+    "$program" export >"$folder/body" 2>/dev/null || blame "hipsd export refuses what was imported: $(cat "$folder/body")"
+    leaves=$(find Norder5 -type f | sort | tr '\n' ' ')
+    [ "$leaves" = 'Norder5/Dir0/Npix3.fits Norder5/Dir0/Npix4.fits Norder5/Dir0/Npix5.fits ' ] || blame "--replace leaves $leaves"
+    [ -z "$(find . -name '.import-*')" ] || blame "import-hipsgen.py leaves a folder of its own"
+    cd "$top" || exit 1
+}
+imports
+
 [ "$wrong" = 0 ] && echo "check-operate: all did as it must"
 exit "$wrong"
