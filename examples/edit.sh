@@ -8,41 +8,289 @@
 #     examples/edit.sh batch < BODY         several edits at once, or none of them
 #     examples/edit.sh publish              all edits so far are published, in one new generation
 #     examples/edit.sh get PATH             a file of the newest generation, to standard output
-#     examples/edit.sh read PATH ..         several files of one generation, beside each other in the current folder
+#     examples/edit.sh read PATH ..         files of one generation, each at its path below the current folder
+#     examples/edit.sh replay FOLDER ADDRESS    the edits and publications of a journal, in order, to a fresh server
 #
-# HIPSD is the server's address, http://127.0.0.1:8080 if it isn't set; ORDER the order of the leaves, 3 if it isn't set.
-# The status is 0 where the server did what was asked, and its reply is written as it came.
+# HIPSD is the server's address, http://127.0.0.1:8080 if it isn't set; curl takes a password from ~/.netrc.
+# With a folder in HIPSD_JOURNAL each edit, batch and publication is written there and is on the disk before it is sent, and is marked
+# once it is answered. So a server that ended can have its edits again, by `replay`, over the folder that it was started with.
+# The status is 0 where the server did what was asked, and its reply is written as it came; 1 where not; 2 where the words are wrong,
+# and then nothing was sent.
 set -eu
 base=${HIPSD:-http://127.0.0.1:8080}
-order=${ORDER:-3}
+journal=${HIPSD_JOURNAL:-}
 
-# ask WORD ..: curl's words. What is refused is shown too, and then the status is curl's for that.
-ask() {
-    curl -sS --fail-with-body -i --max-time 60 "$@"
-}
-leaf() {
-    echo "$base/Norder$order/Dir$(($1 / 10000 * 10000))/Npix$1.fits"
+work=$(mktemp -d)
+trap 'rm -rf "$work"' EXIT
+trap 'exit 1' HUP INT TERM
+
+# refuse WORD ..: says what is wrong, before anything is sent.
+refuse() {
+    echo "edit.sh: $*" >&2
+    exit 2
 }
 
-case ${1:-} in
-    put) ask -T "$3" "$(leaf "$2")" ;;
-    add) ask -T "$3" -H 'If-None-Match: *' "$(leaf "$2")" ;;
-    replace) ask -T "$3" -H 'If-Match: *' "$(leaf "$2")" ;;
-    remove) ask -X DELETE "$(leaf "$2")" ;;
+# fail WORD ..: says what went wrong.
+fail() {
+    echo "edit.sh: $*" >&2
+    exit 1
+}
+
+# wants COUNT WORD NAME ..: refuses a command that has fewer words than NAMEs, and says which are missing, or more.
+wants() {
+    count=$1 command=$2
+    shift 2
+    [ "$count" -le $# ] || refuse "$command takes $# words: $*"
+    all=$*
+    [ "$count" = 0 ] || shift "$count"
+    [ $# = 0 ] || refuse "$command wants $all, and has no $*"
+}
+
+# quietly WORD ..: curl, in words that a person can read where it fails.
+quietly() {
+    curl -sS --netrc-optional "$@"
+}
+
+# ---- what is sent
+
+# hips_order of the survey: its leaves are of this order.
+order_of_survey() {
+    quietly --fail --max-time 60 -o "$work/properties" "$base/properties" || fail "there are no properties at $base"
+    order=$(sed -n 's/^hips_order = \([0-9][0-9]*\)$/\1/p' "$work/properties")
+    [ -n "$order" ] || fail "$base/properties has no hips_order"
+    echo "$order"
+}
+
+# whole NUMBER: whether this is a plain decimal of at most nine digits.
+whole() {
+    case $1 in
+        0) ;;
+        '' | 0* | *[!0-9]* | ??????????*) return 1 ;;
+    esac
+}
+
+# leaf_path NUMBER: the path of the leaf's tile.
+leaf_path() {
+    whole "$1" || refuse "'$1' is no number of a leaf"
+    order=$(order_of_survey) || exit
+    leaves=$((12 << 2 * order))
+    [ "$1" -lt "$leaves" ] || refuse "$1 is no leaf: leaves are of order $order, 0 to $((leaves - 1))"
+    echo "Norder$order/Dir$(($1 / 10000 * 10000))/Npix$1.fits"
+}
+
+# tile FILE: refuses what can't be a tile's file.
+tile() {
+    [ -f "$1" ] || refuse "there is no file $1"
+    [ -r "$1" ] || refuse "$1 can't be read"
+    [ "$(head -c 10 "$1" | tr -d '\000')" = 'SIMPLE  = ' ] || refuse "$1 is no FITS file: it doesn't begin with 'SIMPLE  = '"
+}
+
+# send EDIT PATH BODY ADDRESS: makes one request; its head and body are in $work/reply. The status is curl's.
+send() {
+    case $1 in
+        put) set -- "$4/$2" -T "$3" ;;
+        add) set -- "$4/$2" -T "$3" -H 'If-None-Match: *' ;;
+        replace) set -- "$4/$2" -T "$3" -H 'If-Match: *' ;;
+        remove) set -- "$4/$2" -X DELETE ;;
+        batch) set -- "$4/batch" -X POST -H 'Content-Type:' --data-binary "@$3" ;;
+        publish) set -- "$4/publish" -X POST ;;
+    esac
+    quietly -i -H 'Expect:' --max-time 600 -o "$work/reply" "$@"
+}
+
+# answer: the last reply's code, its number of edits or of the published prefix, and the first line of its body, in one line.
+answer() {
+    tr -d '\r' <"$work/reply" | awk '
+        NR == 1 { code = $2 }
+        /^Survey-(Edits|Prefix): / && !body { number = $2 }
+        body == 1 { text = " " $0; body = 2 }
+        /^$/ && !body { body = 1 }
+        END { print code " " number text }'
+}
+
+# accepted ANSWER: whether the server did what was asked.
+accepted() {
+    case $1 in 2[0-9][0-9]' '*) ;; *) return 1 ;; esac
+}
+
+# known ANSWER: whether hipsd itself has answered. 502 and 504 are a proxy's words for that it hasn't.
+known() {
+    case $1 in '' | ' '* | 502' '* | 504' '*) return 1 ;; esac
+}
+
+# ---- the journal: NUMBER.edit is one line, the edit and its path; NUMBER.body its body; NUMBER.answer what it was answered
+
+# record EDIT PATH BODY: writes an entry, hands it to the disk, and says its name.
+record() {
+    last=$(find "$journal" -maxdepth 1 -name '*.edit' | sed 's#.*/##; s/[.]edit$//' | sort | tail -n 1 | sed 's/^0*//')
+    entry=$journal/$(printf '%08d' $((${last:-0} + 1)))
+    [ -z "$3" ] || { cp -- "$3" "$entry.body" && sync "$entry.body"; }
+    echo "$1 $2" >"$entry.edit.new"
+    sync "$entry.edit.new"
+    mv "$entry.edit.new" "$entry.edit"
+    sync "$journal"
+    echo "$entry"
+}
+
+# mark ENTRY ANSWER: what it was answered.
+mark() {
+    echo "$2" >"$1.answer.new"
+    sync "$1.answer.new"
+    mv "$1.answer.new" "$1.answer"
+    sync "$journal"
+}
+
+# edit EDIT PATH BODY: sends it, by way of the journal where there is one. One edit at a time, so that the journal has them in the
+# order in which the server has accepted them.
+edit() {
+    entry=
+    if [ -n "$journal" ]; then
+        mkdir -p "$journal"
+        exec 9>"$journal/lock"
+        flock 9
+        entry=$(record "$@")
+    fi
+    ended=0
+    send "$@" "$base" || ended=$?
+    case $ended in
+        0) reply=$(answer) ;;
+        6 | 7) reply='unsent' ;;
+        *) reply= ;;
+    esac
+    known "$reply" || fail "not answered, so it isn't known whether it was accepted${entry:+; it stands in $entry.edit}"
+    [ -z "$entry" ] || mark "$entry" "$reply"
+    [ "$reply" != unsent ] || fail "not sent, since nothing listens at $base"
+    cat "$work/reply"
+    accepted "$reply"
+}
+
+# ---- the journal, sent again
+
+# fresh ADDRESS: refuses a server that has accepted edits. No leaf can be removed twice in one batch: so this one is refused in any
+# state, changes nothing, and is answered how many edits there are.
+fresh() {
+    printf 'remove 0\nremove 0\n' >"$work/twice"
+    send batch - "$work/twice" "$1" || fail "there is no answer at $1"
+    edits=$(answer | cut -d ' ' -f 2)
+    [ "$edits" = 0 ] || fail "the server at $1 is no fresh one: it has accepted ${edits:-an unknown number of} edits"
+}
+
+# again ENTRY ADDRESS: sends an entry, and compares its answer with the one that it had. Says nothing where they are the same.
+again() {
+    read -r edit path <"$1.edit"
+    name=$(basename "$1")
+    was=$(cat "$1.answer" 2>/dev/null) || was='never answered'
+    case $was in
+        2[0-9][0-9]' '* | 'never answered') ;;
+        *) return 0 ;;
+    esac
+    now=
+    send "$edit" "$path" "$1.body" "$2" && now=$(answer)
+    known "$now" || fail "$name, $edit $path: not answered. The replay ends here; begin again, with a fresh server"
+    sent=$((sent + 1))
+    [ "$was" = "$now" ] && return
+    echo "$name, $edit $path: was $was, is $now"
+    differing=$((differing + 1))
+}
+
+# replay FOLDER ADDRESS
+replay() {
+    [ -d "$1" ] || refuse "there is no folder $1"
+    base=$2
+    find "$1" -maxdepth 1 -name '*.edit' | sort >"$work/entries"
+    fresh "$2"
+    sent=0 differing=0
+    while read -r entry <&8; do again "${entry%.edit}" "$2"; done 8<"$work/entries"
+    echo "$(wc -l <"$work/entries") entries: $sent sent again, the others weren't accepted; $differing answered otherwise than before"
+    [ "$differing" = 0 ]
+}
+
+# ---- what is read
+
+# path PATH: refuses what is no path of a survey's file.
+path() {
+    case $1 in
+        properties | Moc.fits | Norder3/Allsky.fits) ;;
+        *) echo "$1" | grep -qxE 'Norder[0-9]+/Dir[0-9]+/Npix[0-9]+[.]fits' || refuse "'$1' is no path of a survey's file" ;;
+    esac
+}
+
+# group NAME: the words by which curl makes one request of a row; what it was answered goes to the file NAME.
+group() {
+    printf 'silent\nshow-error\nfail\nnetrc-optional\ncreate-dirs\nmax-time = 60\ndump-header = "%s/heads/%s"\n' "$work" "$1"
+    printf 'write-out = "%%{http_code} %%{url_effective}\\n"\n'
+}
+
+# read_files PATH ..: a pin holds one generation for one connection, which curl keeps over all its addresses. So these files fit
+# together, whatever is published meanwhile. All are there in the end, or none is changed.
+read_files() {
+    for path; do path "$path"; done
+    {
+        group pin
+        printf 'request = POST\nurl = "%s/pin"\noutput = "%s/pinned"\n' "$base" "$work"
+        number=0
+        for path; do
+            echo next
+            number=$((number + 1))
+            group "$number"
+            printf 'url = "%s/%s"\noutput = "%s/files/%s"\n' "$base" "$path" "$work" "$path"
+        done
+    } >"$work/config"
+    mkdir "$work/heads"
+    if ! curl --fail-early -K "$work/config" >"$work/codes"; then
+        sed -n -e '/^2/d' -e 's/^000 \(.*\)/    \1 gives no answer/p' -e 's/^\([0-9]*\) \(http.*\)/    \2 is answered \1/p' "$work/codes" >&2
+        fail "nothing is written, since not all could be read. (A pin wants hipsd's own address: a proxy keeps none.)"
+    fi
+    held=$(cat "$work"/heads/* | tr -d '\r' | sed -n 's/^Survey-Prefix: //p' | sort -u | wc -l)
+    [ "$held" = 1 ] || fail "nothing is written, since the replies are of several generations"
+    for path; do
+        mkdir -p "$(dirname "$path")"
+        cp "$work/files/$path" "$path"
+    done
+}
+
+command=${1:-}
+[ $# = 0 ] || shift
+case $command in
+    put | add | replace)
+        wants $# "$command" LEAF FILE
+        tile "$2"
+        path=$(leaf_path "$1")
+        edit "$command" "$path" "$2"
+        ;;
+    remove)
+        wants $# remove LEAF
+        path=$(leaf_path "$1")
+        edit remove "$path" ''
+        ;;
     # An entry of a batch is a line, 'put LEAF LENGTH', 'add LEAF LENGTH', 'replace LEAF LENGTH' or 'remove LEAF', and the
     # LENGTH bytes of the tile's file behind it.
-    batch) ask -X POST -H 'Content-Type:' --data-binary @- "$base/batch" ;;
-    publish) ask -X POST "$base/publish" ;;
-    get) curl -sS --fail --max-time 60 "$base/$2" ;;
-    # A pin holds one generation for one connection, which curl keeps over all its addresses: so these files fit together,
-    # whatever is published meanwhile.
+    batch)
+        wants $# batch
+        cat >"$work/batch"
+        [ -s "$work/batch" ] || refuse "batch reads its edits from standard input, and there are none"
+        edit batch - "$work/batch"
+        ;;
+    publish)
+        wants $# publish
+        edit publish - ''
+        ;;
+    get)
+        wants $# get PATH
+        path "$1"
+        quietly --fail --max-time 60 "$base/$1"
+        ;;
     read)
-        shift
-        set -- $(for path in "$@"; do printf ' %s -o %s' "$base/$path" "$(basename "$path")"; done)
-        curl -sS --fail --max-time 60 -X POST "$base/pin" -o /dev/null --next -sS --fail --max-time 60 "$@"
+        [ $# -gt 0 ] || refuse "read wants at least one PATH"
+        read_files "$@"
+        ;;
+    replay)
+        wants $# replay FOLDER ADDRESS
+        replay "$@"
         ;;
     *)
-        sed -n 's/^#  *\(examples.*\)/\1/p' "$0" >&2
+        [ -z "$command" ] || echo "edit.sh: '$command' is no command; there are" >&2
+        sed -n 's/^#  *\(examples.*\)/    \1/p' "$0" >&2
         exit 2
         ;;
 esac

@@ -1,5 +1,5 @@
 #!/usr/bin/python3
-"""Makes a survey folder for hipsd of a HiPS that HipsGen (Aladin) wrote: import-hipsgen.py HIPS FOLDER.
+"""Makes a survey folder for hipsd of a HiPS that HipsGen (Aladin) wrote: import-hipsgen.py [--replace] HIPS FOLDER.
 
 FOLDER gets `survey.conf`, from HIPS/properties and the first leaf tile, and the leaf tiles, those of order hips_order. Coarser
 tiles, the all-sky image and the coverage are left out: hipsd makes them itself, each pixel as the mean of four. HipsGen's FITS
@@ -11,20 +11,32 @@ HipsGen writes BLANK as a real number, 'BLANK = -32768.0', which FITS 4.0 (secti
 it becomes a whole number, and a tile without one gets BLANK from the others. Nothing else of a tile is changed; a tile that is
 compressed by gzip is unpacked.
 
-Ends with status 1 and says why where the HiPS can't be served: pixels that are no whole numbers (hips_pixel_bitpix -32, -64: make
-it again with hips_pixel_bitpix=16 or 32), another frame than equatorial, leaves of an order outside 3 to 11.
+A FOLDER that has tiles already is refused, since two surveys would be mixed; with --replace its tiles go once the new ones are
+all made. Other files stay as they are.
+
+Ends with status 1 and says why where the HiPS can't be served: no `properties`, pixels that are no whole numbers
+(hips_pixel_bitpix -32, -64: make it again with hips_pixel_bitpix=16 or 32), another frame than equatorial, leaves of an order
+outside 3 to 11. FOLDER is then as it was.
 """
 
+import argparse
 import gzip
 import re
+import shutil
 import sys
+import tempfile
+import zlib
 from pathlib import Path
 
 CARD, BLOCK = 80, 2880
 # The keys of a description that HiPS 1.0 fixes and hipsd reads; all others that HIPS has are kept as they are.
 OWN = {"hips_order", "hips_order_min", "hips_tile_width", "hips_tile_format", "hips_frame", "hips_version", "dataproduct_type"}
-# These speak of the files that HipsGen wrote, and not of those that hipsd makes.
-DROPPED = {"hips_pixel_bitpix", "hips_hierarchy", "hips_builder", "hips_check_code", "hipsgen_date", "hipsgen_params", "hips_estsize", "moc_sky_fraction"}
+# These speak of the files that HipsGen wrote or of where they stand, and not of those that hipsd makes.
+DROPPED = {
+    "hips_builder", "hips_check_code", "hips_estsize", "hips_hierarchy", "hips_master_url", "hips_nb_tiles", "hips_pixel_bitpix",
+    "moc_access_url", "moc_order", "moc_sky_fraction", "moc_time_range", "moc_type",
+}
+DROPPED_BEGINNINGS = ("hipsgen_", "hips_service_url", "hips_cat_", "hips_cube_", "hips_rgb_")
 
 
 class Refused(Exception):
@@ -33,21 +45,41 @@ class Refused(Exception):
 
 def properties(folder):
     """The keys and values of HIPS/properties, in their order."""
+    path = folder / "properties"
+    try:
+        text = path.read_text(encoding="utf-8")
+    except FileNotFoundError:
+        raise Refused(f"there is no {path}: {folder} is no HiPS") from None
+    except UnicodeDecodeError:
+        raise Refused(f"{path} isn't written in UTF-8") from None
     found = {}
-    for line in (folder / "properties").read_text(encoding="utf-8").splitlines():
+    for line in text.splitlines():
         key, is_there, value = (part.strip() for part in line.partition("="))
         if is_there and key and not key.startswith("#"):
             found.setdefault(key, value)
     return found
 
 
+def order_of(found):
+    """The order of the leaves."""
+    text = found.get("hips_order", "")
+    if not re.fullmatch("[0-9]{1,2}", text):
+        raise Refused(f"properties has hips_order = {text}" if text else "properties has no hips_order")
+    if not 3 <= int(text) <= 11:
+        raise Refused(f"hips_order is {text}, and not from 3 to 11")
+    return int(text)
+
+
 def cards_of(file):
     """The cards of a header before END, and what follows the header."""
     for end in range(0, len(file), CARD):
         if file[end : end + 8] == b"END     ":
-            cards = [file[at : at + CARD].decode("ascii") for at in range(0, end, CARD)]
+            try:
+                cards = [file[at : at + CARD].decode("ascii") for at in range(0, end, CARD)]
+            except UnicodeDecodeError:
+                raise Refused("the header isn't ASCII") from None
             return cards, file[(end // BLOCK + 1) * BLOCK :]
-    raise Refused("a tile has no END card")
+    raise Refused("there is no END card")
 
 
 def value_of(cards, keyword):
@@ -59,11 +91,18 @@ def value_of(cards, keyword):
 
 
 def whole(text, what):
-    """A whole number that may be written as a real one."""
-    number = float(text)
-    if number != int(number):
+    """A whole number that may be written as a real one, as Java does: -32768.0, -2.147483648E9."""
+    if text is None:
+        raise Refused(f"there is no {what}")
+    if re.fullmatch(r"[+-]?\d{1,19}", text):
+        return int(text)
+    try:
+        number = float(text)
+    except ValueError:
+        number = None
+    if number is None or not number.is_integer():
         raise Refused(f"{what} is {text}, which is no whole number")
-    return int(text) if re.fullmatch(r"[+-]?\d+", text) else int(number)
+    return int(number)
 
 
 def tile_with(file, blank):
@@ -78,58 +117,121 @@ def tile_with(file, blank):
 
 def read_tile(path):
     file = path.read_bytes()
-    return gzip.decompress(file) if file[:2] == b"\x1f\x8b" else file
+    try:
+        return gzip.decompress(file) if file[:2] == b"\x1f\x8b" else file
+    except (EOFError, gzip.BadGzipFile, zlib.error):
+        raise Refused("this is no whole gzip file") from None
+
+
+def blank_of(cards):
+    """The number of a blank pixel, as the first leaf has it; the least of its depth where it has none."""
+    lowest = {8: 255, 16: -(2**15), 32: -(2**31), 64: -(2**63)}
+    bitpix = whole(value_of(cards, "BITPIX"), "BITPIX")
+    if bitpix < 0:
+        raise Refused(f"the pixels are real numbers (BITPIX {bitpix})")
+    if bitpix not in lowest:
+        raise Refused(f"BITPIX is {bitpix}")
+    blank = value_of(cards, "BLANK")
+    return lowest[bitpix] if blank is None else whole(blank, "BLANK")
 
 
 def description(found, cards, blank):
     """The lines of survey.conf."""
-    order = int(found["hips_order"])
-    bitpix = int(value_of(cards, "BITPIX"))
-    if not 3 <= order <= 11:
-        raise Refused(f"hips_order is {order}, and not from 3 to 11")
-    if bitpix < 0:
-        raise Refused(f"the pixels are real numbers (BITPIX {bitpix})")
     if found.get("hips_frame", "equatorial") not in ("equatorial", "ICRS"):
         raise Refused(f"hips_frame is {found['hips_frame']}, and not equatorial")
     for key in ("creator_did", "obs_title", "hips_release_date", "hips_status"):
         yield key, found.get(key) or "unknown"
-    yield "hips_order", order
-    yield "hips_order_min", min(int(found.get("hips_order_min", 3)), 3)
-    yield "hips_tile_width", int(value_of(cards, "NAXIS1"))
-    yield "survey_bitpix", bitpix
+    yield "hips_order", order_of(found)
+    yield "hips_order_min", min(whole(found.get("hips_order_min", "3"), "hips_order_min"), 3)
+    yield "hips_tile_width", whole(value_of(cards, "NAXIS1"), "NAXIS1")
+    yield "survey_bitpix", whole(value_of(cards, "BITPIX"), "BITPIX")
     for key, keyword in (("survey_bscale", "BSCALE"), ("survey_bzero", "BZERO")):
         number = value_of(cards, keyword)
         if number is not None:
             yield key, number
     yield "survey_blank", blank
-    written = {"creator_did", "obs_title", "hips_release_date", "hips_status"} | OWN | DROPPED
+    written = {"creator_did", "obs_title", "hips_release_date", "hips_status"} | OWN
     for key, value in found.items():
-        if key not in written and not key.startswith("survey_") and re.fullmatch(r"[a-z][a-z0-9_]{0,63}", key):
+        if key not in written and not is_dropped(key) and re.fullmatch(r"[a-z][a-z0-9_]{0,63}", key) and value:
             yield key, value[:1024]
 
 
-def main():
-    if len(sys.argv) != 3:
-        sys.exit(f"usage: {sys.argv[0]} HIPS FOLDER")
-    hips, folder = (Path(word) for word in sys.argv[1:])
-    found = properties(hips)
-    leaves = sorted((hips / f"Norder{found['hips_order']}").glob("Dir*/Npix*.fits"))
-    if not leaves:
-        raise Refused(f"there is no leaf tile in Norder{found['hips_order']}")
-    first, _ = cards_of(read_tile(leaves[0]))
-    lowest = {8: 255, 16: -(2**15), 32: -(2**31), 64: -(2**63)}
-    blank = value_of(first, "BLANK")
-    blank = lowest.get(int(value_of(first, "BITPIX"))) if blank is None else whole(blank, "BLANK")
-    lines = "".join(f"{key} = {value}\n" for key, value in description(found, first, blank))
+def is_dropped(key):
+    """Whether it isn't true of what hipsd serves."""
+    return key in DROPPED or key.startswith((*DROPPED_BEGINNINGS, "survey_"))
+
+
+def tiles_of(folder):
+    """The tiles that a folder has, of any order."""
+    return sorted(folder.glob("Norder*/Dir*/Npix*.fits"))
+
+
+def make_tiles(leaves, hips, blank, target):
+    """Writes each leaf below the target, with BLANK as a whole number."""
     for path in leaves:
-        target = folder / path.relative_to(hips)
-        target.parent.mkdir(parents=True, exist_ok=True)
-        target.write_bytes(tile_with(read_tile(path), blank))
-    (folder / "survey.conf").write_text(lines, encoding="utf-8")
+        new = target / path.relative_to(hips)
+        new.parent.mkdir(parents=True, exist_ok=True)
+        try:
+            new.write_bytes(tile_with(read_tile(path), blank))
+        except Refused as refusal:
+            raise Refused(f"{path}: {refusal}") from None
+
+
+def first_leaf(path):
+    """Its cards, and the number of its blank pixels."""
+    try:
+        cards, _ = cards_of(read_tile(path))
+        return cards, blank_of(cards)
+    except Refused as refusal:
+        raise Refused(f"{path}: {refusal}") from None
+
+
+def run(hips, folder, replace):
+    """Makes the folder, and says what it has."""
+    found = properties(hips)
+    order = order_of(found)
+    leaves = sorted((hips / f"Norder{order}").glob("Dir*/Npix*.fits"))
+    if not leaves:
+        raise Refused(f"there is no leaf tile in {hips}/Norder{order}")
+    if folder.resolve() == hips.resolve():
+        raise Refused("HIPS and FOLDER are the same folder")
+    old = tiles_of(folder)
+    if old and not replace:
+        raise Refused(f"{folder} has {len(old)} tiles already, as {old[0]}: with --replace they go")
+    cards, blank = first_leaf(leaves[0])
+    lines = "".join(f"{key} = {value}\n" for key, value in description(found, cards, blank))
+    folder.mkdir(parents=True, exist_ok=True)
+    # All is made beside the old tiles first, so that these are there until nothing can be refused any more.
+    made = Path(tempfile.mkdtemp(prefix=".import-", dir=folder))
+    try:
+        make_tiles(leaves, hips, blank, made)
+        for path in old:
+            path.unlink()
+        for path in tiles_of(made):
+            target = folder / path.relative_to(made)
+            target.parent.mkdir(parents=True, exist_ok=True)
+            path.replace(target)
+        (folder / "survey.conf").write_text(lines, encoding="utf-8")
+    finally:
+        shutil.rmtree(made)
     print(f"{len(leaves)} leaf tiles; next: cd {folder} && hipsd verify, export or serve")
+    dropped = [key for key in found if is_dropped(key)]
+    if dropped:
+        print("left out, since hipsd makes these files itself:", ", ".join(dropped))
 
 
-try:
-    main()
-except Refused as refusal:
-    sys.exit(f"import-hipsgen: {refusal}")
+def main():
+    words = argparse.ArgumentParser(description="Makes a survey folder for hipsd of a HiPS that HipsGen wrote.")
+    words.add_argument("hips", metavar="HIPS", type=Path, help="the folder that HipsGen wrote")
+    words.add_argument("folder", metavar="FOLDER", type=Path, help="the folder of the survey")
+    words.add_argument("--replace", action="store_true", help="the tiles that FOLDER has go")
+    asked = words.parse_args()
+    try:
+        run(asked.hips, asked.folder, asked.replace)
+    except Refused as refusal:
+        sys.exit(f"import-hipsgen: {refusal}")
+    except OSError as error:
+        sys.exit(f"import-hipsgen: {error.filename}: {error.strerror}")
+
+
+main()

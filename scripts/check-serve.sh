@@ -1,7 +1,7 @@
 #!/bin/bash
 # Tries `hipsd serve` over real sockets as clients use it: with curl, with many connections of Python's standard library that
-# edit, publish and read at once, behind nginx, and with astropy and stilts. It starts the built program on a free
-# port of the loopback, over a survey of its own, and ends the server that it started.
+# edit, publish and read at once, and with astropy and stilts. It starts the built program on a free port of the loopback, over a
+# survey of its own, and ends the server that it started. (check-operate.sh tries it behind nginx, and with edit.sh.)
 #
 #     scripts/check-serve.sh [PROGRAM [SECONDS]]
 #
@@ -13,7 +13,6 @@ program=$(realpath -e "${1:-crates/hipsd/out/hipsd}") || { echo "check-serve: th
 seconds=${2:-20}
 python=/usr/bin/python3
 scripts=$PWD/scripts
-examples=$PWD/examples
 missing=
 command -v curl >/dev/null 2>&1 || missing="$missing curl"
 [ -x "$python" ] || missing="$missing python3"
@@ -165,53 +164,6 @@ if command -v stilts >/dev/null 2>&1; then
     [ "$rows" = 4103 ] || blame "stilts reads '$rows' in the coverage"
 else
     leaves_out stilts
-fi
-
-# ---- the examples: edits by curl, and a proxy
-
-edit() {
-    HIPSD=$base ORDER=5 "$examples/edit.sh" "$@" >"$folder/body" 2>&1
-}
-edit put 8 "$folder/leaf" || blame "edit.sh put: $(cat "$folder/body")"
-edit add 8 "$folder/leaf" && blame "edit.sh add, of a leaf that is there: $(cat "$folder/body")"
-edit replace 8 "$folder/leaf" || blame "edit.sh replace: $(cat "$folder/body")"
-edit publish && grep -q '^published 4$' "$folder/body" || blame "edit.sh publish: $(cat "$folder/body")"
-{ printf 'put 9 %d\n' "$(wc -c <"$folder/leaf")" && cat "$folder/leaf" && printf 'remove 8\n'; } >"$folder/batch"
-edit batch <"$folder/batch" && grep -q '^accepted 2$' "$folder/body" || blame "edit.sh batch: $(cat "$folder/body")"
-edit publish || blame "edit.sh publish: $(cat "$folder/body")"
-mkdir "$folder/read" && cd "$folder/read" || exit 1
-edit read properties Moc.fits Norder3/Dir0/Npix0.fits || blame "edit.sh read: $(cat "$folder/body")"
-[ "$(tail -n 1 properties)" = 'survey_leaves = 2' ] && [ -s Moc.fits ] && [ -s Npix0.fits ] || blame "edit.sh read: $(ls)"
-cd "$folder/survey" || exit 1
-
-if command -v nginx >/dev/null 2>&1; then
-    web=$(free_port)
-    printf 'editor:{PLAIN}secret\n' >"$folder/users"
-    chmod 755 "$folder" && chmod 644 "$folder/users"
-    sed -e "s/127.0.0.1:8080/127.0.0.1:$port/" -e "s/listen 80;/listen 127.0.0.1:$web;/" -e '/listen \[::\]:80;/d' \
-        -e "s#/etc/nginx/hipsd.users#$folder/users#" -e "s#/var/cache/nginx/hipsd#$folder/cache#" "$examples/nginx.conf" >"$folder/site"
-    printf 'worker_processes 1;\npid %s/nginx.pid;\nerror_log %s/nginx.log;\nevents { }\nhttp { access_log off; client_body_temp_path %s/bodies; include %s/site; }\n' \
-        "$folder" "$folder" "$folder" "$folder" >"$folder/nginx.conf"
-    if nginx -c "$folder/nginx.conf" -p "$folder" 2>"$folder/refused"; then
-        proxy=http://127.0.0.1:$web
-        asks 200 "$proxy/survey/properties"
-        cmp -s "$folder/body" "$folder/read/properties" || blame "the proxy gives other properties"
-        asks 200 "$proxy/survey/Norder3/Allsky.fits"
-        curl -s -I --max-time 20 "$proxy/survey/Moc.fits" | grep -qi '^access-control-allow-origin: \*' || blame "the proxy has no cross-origin field"
-        asks 403 -X DELETE "$proxy/survey/Norder5/Dir0/Npix9.fits"
-        asks 401 -X DELETE "$proxy/edit/Norder5/Dir0/Npix9.fits"
-        asks 204 -u editor:secret -X DELETE "$proxy/edit/Norder5/Dir0/Npix9.fits"
-        asks 201 -u editor:secret -T "$folder/leaf" "$proxy/edit/Norder5/Dir0/Npix10.fits"
-        asks 200 -u editor:secret -X POST "$proxy/edit/publish"
-        sleep 2
-        asks 404 "$proxy/survey/Norder5/Dir0/Npix9.fits"
-        asks 200 "$proxy/survey/Norder5/Dir0/Npix10.fits"
-        kill "$(cat "$folder/nginx.pid")"
-    else
-        blame "nginx: $(cat "$folder/refused")"
-    fi
-else
-    leaves_out nginx
 fi
 
 # ---- an address in use
