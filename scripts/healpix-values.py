@@ -1,5 +1,5 @@
 #!/usr/bin/python3
-"""Prints the values of healpy that the test `cells_stand_where_healpy_has_them` of crates/healpix_nested has as a table.
+"""Prints the values of healpy that the test `cells_stand_where_healpy_has_them` of crates/pixel_tests has as a table.
 
 With --check it compares them with the table that stands there, and ends with status 1 where a row differs or is missing.
 healpy is Debian's package python3-healpy.
@@ -14,7 +14,7 @@ from pathlib import Path
 
 import healpy
 
-TEST = Path(__file__).parent.parent / "crates/healpix_nested/src/tests.rt"
+TEST = Path(__file__).parent.parent / "crates/pixel_tests/src/cells.rt"
 
 # Two cells of each of these orders: one that a fixed rule picks, and the last.
 ORDERS = (1, 2, 3, 5, 7, 8, 9)

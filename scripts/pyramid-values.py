@@ -1,5 +1,5 @@
 #!/usr/bin/python3
-"""Prints the tiles that the test `larger_tiles_have_pixels` of crates/pyramid_model has as a table.
+"""Prints the tiles that the test `larger_tiles_have_pixels` of crates/pixel_tests has as a table.
 
 With --check it compares them with the table that stands there, and ends with status 1 where a tile differs or is missing.
 healpy, Debian's package python3-healpy, says where a tile stands in its cell of order 0; the rest is computed here on whole
@@ -11,7 +11,7 @@ from pathlib import Path
 
 import healpy
 
-TEST = Path(__file__).parent.parent / "crates/pyramid_model/src/tests.rt"
+TEST = Path(__file__).parent.parent / "crates/pixel_tests/src/pyramids.rt"
 LEAVES = (0, 1, 3, 6)
 # The order of the leaves, n of the 2^n columns of a tile, and the order and the number of the tile.
 TILES = ((4, 2, 4, 6), (4, 2, 3, 0), (5, 2, 3, 0), (4, 3, 3, 0))

@@ -7,8 +7,6 @@
 mod cell;
 pub mod laws;
 mod place;
-#[cfg(test)]
-mod tests;
 
 pub use cell::{Cell, MAX_ORDER, cells};
 pub use place::{interleave, split};

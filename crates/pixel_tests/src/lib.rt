@@ -1,9 +1,11 @@
-//! Tests of what makes pixels: `parent_rule` (`rule`), `tile_pixels` (`tiles`, `merges`, `kernels`), `rebuild_worker`
+//! Tests of what makes pixels: `healpix_nested` (`cells`), `parent_rule` (`rule`), `pyramid_model` (`pyramids`), `tile_pixels` (`tiles`, `merges`, `kernels`), `rebuild_worker`
 //! (`levels`) and `allsky_mosaic` (`mosaics`).
 //!
 //! They stand over the finished crates, in a crate of their own: in each it would be proved a second time.
 #![tactic(auto)]
 
+#[cfg(test)]
+mod cells;
 #[cfg(test)]
 mod kernels;
 #[cfg(test)]
@@ -12,6 +14,8 @@ mod levels;
 mod merges;
 #[cfg(test)]
 mod mosaics;
+#[cfg(test)]
+mod pyramids;
 #[cfg(test)]
 mod rule;
 #[cfg(test)]

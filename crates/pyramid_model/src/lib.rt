@@ -5,7 +5,5 @@
 pub mod laws;
 pub mod plain;
 mod shape;
-#[cfg(test)]
-mod tests;
 
 pub use shape::Shape;
