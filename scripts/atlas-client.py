@@ -27,6 +27,7 @@ import threading
 import time
 from http.client import HTTPConnection
 from pathlib import Path
+from urllib.parse import urlencode
 
 import healpy
 import numpy
@@ -191,7 +192,7 @@ class Trial:
         pixels = healpy.ang2pix(2**order, ra[inside], dec[inside], nest=True, lonlat=True)
         known, where = numpy.unique(pixels, return_inverse=True)
         values = survey.value(survey.numbers(order, known)[where])
-        low, high = self.levels()
+        low, high = self.levels(view)
         grey = numpy.round(255 * numpy.clip((values - low) / (high - low), 0, 1))
         wanted = numpy.where(numpy.isnan(grey)[:, None], GROUND, grey[:, None])
         agree = (abs(shown[inside] - wanted) <= 1).all(axis=1)
@@ -205,13 +206,20 @@ class Trial:
         if len(agree) == 0 or agree.mean() < least:
             self.blame(f"{what}: {(~agree).sum()} of {len(agree)} pixels aren't what the numbers say")
 
-    def levels(self):
+    def levels(self, view):
+        """What is black and what is white: near, the least and the greatest number in view."""
         survey = self.survey
-        return survey.value(float(survey.low)), survey.value(float(survey.low + survey.rise))
+        if view[2] > 180:
+            return survey.value(float(survey.low)), survey.value(float(survey.low + survey.rise))
+        right, up = (axis.ravel() * view[2] / 2 for axis in numpy.mgrid[-1:1:24j, -0.7:0.7:24j])
+        dec = numpy.clip(view[1] + up, -90, 90)
+        ra = view[0] + right / numpy.cos(numpy.radians(view[1]))
+        gradient = survey.gradient(healpy.ang2pix(2**survey.deep, ra, dec, nest=True, lonlat=True))
+        return survey.value(float(gradient.min())), survey.value(float(gradient.max()))
 
     def hash(self, view, switches=PLAIN):
-        low, high = self.levels()
-        return f"#ra={view[0]}&dec={view[1]}&width={view[2]}&low={low!r}&high={high!r}&{switches}"
+        low, high = self.levels(view)
+        return "#" + urlencode({"ra": view[0], "dec": view[1], "width": view[2], "low": repr(low), "high": repr(high)}) + "&" + switches
 
 
 # The middle of a picture of each survey near its leaves, and its width in degrees.
@@ -238,9 +246,10 @@ def points_at(trial, depth, view):
     survey = trial.survey
     canvas = trial.browser.find_element(By.ID, "lines")
     columns, lines = round(canvas.rect["width"]), round(canvas.rect["height"])
+    trial.browser.execute_script("arguments[0].addEventListener('pointermove', (event) => { window.at = [event.offsetX, event.offsetY]; })", canvas)
     for right, down in ((0, 0), (101, 57), (-133, 88)):
         ActionChains(trial.browser).move_to_element_with_offset(canvas, right, down).perform()
-        at = (columns // 2 + right - 0.5, lines // 2 + down - 0.5)
+        at = trial.browser.execute_script("return window.at")
         ra, dec = trial.wcs((lines, columns), *view).all_pix2world([at[0]], [at[1]], 0)
         pixel = int(healpy.ang2pix(2**survey.deep, ra[0], dec[0], nest=True, lonlat=True))
         number = int(survey.stored(numpy.array([pixel]))[0])
@@ -313,7 +322,7 @@ def storms(trial, seconds=10):
 
     def publish():
         while time.monotonic() < until:
-            number = random.randrange(-16000, 16000)
+            number = random.randint(*(round(level) for level in trial.levels(view)))
             files = {leaf: survey.file(leaf, number) for leaf in leaves}
             body = b"".join(b"put %d %d\n" % (leaf, len(file)) + file for leaf, file in files.items())
             numbers[max(numbers) + 16] = number
@@ -332,11 +341,12 @@ def storms(trial, seconds=10):
             continue
         pictures += 1
         seen.add(before)
-        grey = round(255 * (numbers[before] + 16000) / 32000)
+        low, high = trial.levels(view)
+        grey = round(255 * min(1, max(0, (numbers[before] - low) / (high - low))))
         trial.judge(f"generation {before} in a storm", (abs(middle.astype(int) - grey) <= 1).all(axis=1), 1.0)
     publisher.join()
     Delayed.most = 0.0
-    if len(seen) < 4:
+    if len(seen) < min(4, len(numbers) - 2):
         trial.blame(f"a storm of {len(numbers) - 1} publications, and the page showed {len(seen)} of them")
     trial.wait("whole", str(max(numbers)))
     print(f"check-atlas: a storm of {len(numbers) - 1} publications: {pictures} pictures of {len(seen)} generations, each of one")

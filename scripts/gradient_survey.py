@@ -33,11 +33,16 @@ class Gradient:
     def value(self, number):
         return float(self.zero) + float(self.scale) * number
 
-    def stored(self, pixels):
-        """The numbers of pixels of the leaves, exact ones."""
+    def gradient(self, pixels):
+        """The numbers of the gradient at pixels of the leaves, exact ones."""
         ra, dec = healpy.pix2ang(2**self.deep, pixels, nest=True, lonlat=True)
         parts = numpy.round((0.6 * ra / 360 + 0.4 * (dec + 90) / 180) * 2**20).astype(numpy.int64)
-        numbers = self.low + (self.rise >> 20) * parts if self.depth == 64 else self.low + self.rise * parts // 2**20
+        return self.low + (self.rise >> 20) * parts if self.depth == 64 else self.low + self.rise * parts // 2**20
+
+    def stored(self, pixels):
+        """The numbers of pixels of the leaves, with edits and what is blank."""
+        numbers = self.gradient(pixels)
+        _, dec = healpy.pix2ang(2**self.deep, pixels, nest=True, lonlat=True)
         leaves = pixels // 4**self.bits
         for leaf, number in self.edited.items():
             numbers[leaves == leaf] = number

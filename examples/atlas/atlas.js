@@ -253,7 +253,8 @@ class Atlas {
     }
 
     connectPointer(canvas) {
-        const at = (event) => [event.offsetX * this.density, event.offsetY * this.density];
+        // The middle of the pixel that the pointer is at.
+        const at = (event) => [(event.offsetX + 0.5) * this.density, (event.offsetY + 0.5) * this.density];
         canvas.addEventListener("pointerdown", (event) => canvas.setPointerCapture(event.pointerId));
         canvas.addEventListener("pointermove", (event) => {
             if (canvas.hasPointerCapture(event.pointerId)) this.drag(event.movementX * this.density, event.movementY * this.density);
