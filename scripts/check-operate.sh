@@ -467,5 +467,86 @@ imports() {
 }
 imports
 
+# ---- the service, the man page, and what is installed
+
+# service UNIT: systemd takes it, and finds what it is exposed to small.
+service() {
+    systemd-analyze verify --man=no "$1" >"$folder/body" 2>&1 || blame "systemd-analyze verify: $(cat "$folder/body")"
+    [ -s "$folder/body" ] && blame "systemd-analyze verify: $(cat "$folder/body")"
+    exposure=$(systemd-analyze security --offline=true "$1" 2>/dev/null | sed -n 's/.*exposure level for .*: \([0-9]*\)\.\([0-9]\).*/\1\2/p')
+    [ "${exposure:-100}" -le 11 ] || blame "systemd-analyze security: ${exposure:-nothing} tenths in place of 11"
+    grep -q '^RestartPreventExitStatus=1 2 3$' "$1" || blame "the service starts again where its folder is wrong"
+    grep -q '^Description=.*not with the edits' "$1" || blame "the service doesn't say what a restart goes on with"
+}
+
+# installs: all goes below a folder, and nothing is left of it.
+installs() {
+    root=$folder/root
+    PROGRAM=$program DESTDIR=$root "$scripts/install.sh" /usr >"$folder/body" 2>&1 || blame "install.sh: $(cat "$folder/body")"
+    PROGRAM=$program DESTDIR=$root "$scripts/install.sh" /usr >"$folder/body" 2>&1 || blame "install.sh, again: $(cat "$folder/body")"
+    (cd "$folder/survey" && "$root/usr/bin/hipsd" export) >"$folder/body" 2>/dev/null || blame "what is installed doesn't run: $(cat "$folder/body")"
+    for file in share/man/man1/hipsd.1 lib/systemd/system/hipsd.service lib/sysusers.d/hipsd.conf share/doc/hipsd/examples/README.md; do
+        [ -s "$root/usr/$file" ] || blame "install.sh: there is no $file"
+    done
+    [ -x "$root/usr/share/doc/hipsd/examples/edit.sh" ] || blame "edit.sh can't be run where it is installed"
+    grep -rqE '@(PREFIX|REVISION|TOOLCHAIN)@' "$root/usr/share/man" "$root/usr/lib" && blame "install.sh leaves a word unfilled"
+    grep -q '^ExecStart=/usr/bin/hipsd serve 127.0.0.1:' "$root/usr/lib/systemd/system/hipsd.service" || blame "the service starts another program"
+    if command -v mandoc >/dev/null 2>&1; then
+        for page in "$top/docs/hipsd.1" "$root/usr/share/man/man1/hipsd.1"; do
+            mandoc -T lint -W all "$page" >"$folder/body" 2>&1
+            [ -s "$folder/body" ] && blame "mandoc: $(cat "$folder/body")"
+        done
+    else
+        leaves_out mandoc
+    fi
+    if command -v systemd-analyze >/dev/null 2>&1; then
+        # It looks for the program where the service says.
+        sed "s#=/usr/bin/hipsd#=$root/usr/bin/hipsd#" "$root/usr/lib/systemd/system/hipsd.service" >"$folder/hipsd.service"
+        service "$folder/hipsd.service"
+        mkdir -p "$root/etc"
+        systemd-sysusers --dry-run --root="$root" "$root/usr/lib/sysusers.d/hipsd.conf" 2>&1 | grep -q "Creating user 'hipsd'" || blame "systemd-sysusers makes no user"
+    else
+        leaves_out systemd
+    fi
+    "$scripts/install.sh" /usr /local >/dev/null 2>&1 && blame "install.sh takes two prefixes"
+    "$scripts/install.sh" relative >/dev/null 2>&1 && blame "install.sh takes a prefix that doesn't begin with /"
+    PROGRAM=$folder/nothing DESTDIR=$folder/none "$scripts/install.sh" >"$folder/body" 2>&1 && blame "install.sh installs a program that isn't there"
+    [ -e "$folder/none" ] && blame "install.sh begins where there is no program"
+    echo note >"$root/usr/bin/note"
+    DESTDIR=$root "$scripts/install.sh" --remove /usr >"$folder/body" 2>&1 || blame "install.sh --remove: $(cat "$folder/body")"
+    left=$(find "$root" -type f)
+    [ "$left" = "$root/usr/bin/note" ] || blame "install.sh --remove leaves $left"
+    DESTDIR=$root "$scripts/install.sh" --remove /usr >"$folder/body" 2>&1 && blame "install.sh removes what isn't there"
+}
+installs
+
+# port_for_the_proxy: the rule of hipsd.nft, in a network of its own, where this may make one.
+port_for_the_proxy() {
+    if ! unshare -n sh -c 'ip link set lo up && nft add table inet try' >/dev/null 2>&1; then
+        echo "check-operate: left out, since no network with a filter can be made here: hipsd.nft"
+        return
+    fi
+    unshare -n /bin/bash -s -- "$examples/hipsd.nft" >"$folder/body" 2>&1 <<'SHELL' || blame "hipsd.nft: $(cat "$folder/body")"
+set -e
+ip link set lo up
+nft -f "$1"
+nft -f "$1"
+/usr/bin/python3 -m http.server --bind 127.0.0.1 8080 --directory /var/empty >/dev/null 2>&1 &
+trap 'kill $!' EXIT
+for _ in $(seq 100); do curl -s -o /dev/null http://127.0.0.1:8080/ && break; sleep 0.1; done
+curl -sS -o /dev/null http://127.0.0.1:8080/
+setpriv --reuid=www-data --clear-groups curl -sS -o /dev/null http://127.0.0.1:8080/
+! setpriv --reuid=nobody --clear-groups curl -sS -o /dev/null http://127.0.0.1:8080/ 2>/dev/null
+SHELL
+}
+if command -v nft >/dev/null 2>&1; then port_for_the_proxy; else leaves_out nftables; fi
+
+# The scripts that operators and editors run.
+if command -v shellcheck >/dev/null 2>&1; then
+    shellcheck "$examples/edit.sh" "$scripts/install.sh" "$scripts/install-tools.sh" "$scripts/check-operate.sh" || blame "shellcheck"
+else
+    leaves_out shellcheck
+fi
+
 [ "$wrong" = 0 ] && echo "check-operate: all did as it must"
 exit "$wrong"
