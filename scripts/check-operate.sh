@@ -138,6 +138,17 @@ by_tls() {
     asks 200 --interface "$own" $tls -u editor:secret -X POST "https://hips.example.org:$secure/edit/publish"
 }
 
+# edits_by_tls: edit.sh through the proxy, by HTTP/2, with a password from ~/.netrc.
+edits_by_tls() {
+    printf 'resolve = hips.example.org:%s:127.0.0.1\ncacert = "%s/hipsd.pem"\n' "$secure" "$folder" >"$folder/.curlrc"
+    echo 'machine hips.example.org login editor password secret' >"$folder/.netrc"
+    chmod 600 "$folder/.netrc"
+    CURL_HOME=$folder HOME=$folder HIPSD=https://hips.example.org:$secure/edit HIPSD_JOURNAL=$folder/far "$examples/edit.sh" put 7 "$folder/leaf" >"$folder/body" 2>&1 ||
+        blame "edit.sh through the proxy: $(cat "$folder/body")"
+    grep -qx '201 [1-9][0-9]*' "$folder/far/00000001.answer" || blame "the journal through the proxy: $(cat "$folder/far/00000001.answer")"
+    asks 204 -u editor:secret -X DELETE "$proxy/edit/$leaf"
+}
+
 # across_origins: pages of other origins read, and don't change anything.
 across_origins() {
     asks 200 -H 'Origin: https://viewer.example' "$proxy/survey/properties"
@@ -186,6 +197,50 @@ away() {
     asks 200 "$proxy/survey/properties"
 }
 
+# as_given: the file as it is, by the steps of examples/README.md, with Debian's own nginx.conf; in a network and with mounts of
+# its own, where this may make them.
+as_given() {
+    if [ ! -e /proc/net/if_inet6 ] || [ ! -d /etc/nginx/sites-enabled ] || ! unshare -n -m ip link set lo up >/dev/null 2>&1; then
+        echo "check-operate: left out, since no network and mounts of its own can be made here: nginx.conf by the steps of examples/README.md"
+        return
+    fi
+    mkdir -p "$folder/given"
+    unshare -n -m /bin/bash -s -- "$folder/given" "$examples" "$program" "$folder/survey" >"$folder/body" 2>&1 <<'SHELL' || blame "nginx.conf as it is given: $(cat "$folder/body")"
+set -e
+ip link set lo up
+cp -a /etc/nginx "$1/nginx"
+mount --bind "$1/nginx" /etc/nginx
+for place in /var/cache /run /var/log/nginx /etc/ssl/private; do mkdir -p "$place" && mount -t tmpfs none "$place"; done
+cp -a /etc/ssl/certs "$1/certs"
+mount --bind "$1/certs" /etc/ssl/certs
+sed 's/hips[.]example[.]org/survey.your.org/' "$2/nginx.conf" >/etc/nginx/conf.d/hipsd.conf
+rm -f /etc/nginx/sites-enabled/default
+install -m 640 -o root -g www-data /dev/null /etc/nginx/hipsd.users
+printf 'editor:%s\n' "$(echo secret | openssl passwd -6 -stdin)" >>/etc/nginx/hipsd.users
+nginx -t
+openssl req -x509 -newkey rsa:2048 -nodes -days 30 -subj /CN=survey.your.org -addext subjectAltName=DNS:survey.your.org \
+    -keyout /etc/ssl/private/hipsd.key -out /etc/ssl/certs/hipsd.pem
+sed -i 's/#tls //' /etc/nginx/conf.d/hipsd.conf
+nginx -t
+nginx
+cd "$4"
+"$3" serve 127.0.0.1:8080 65536 64 &
+server=$!
+trap 'kill "$server"; nginx -s stop' EXIT
+asks() {
+    code=$1
+    shift
+    got=$(curl -s -o /dev/null -w '%{http_code}' --max-time 20 --cacert /etc/ssl/certs/hipsd.pem --resolve survey.your.org:443:127.0.0.1 "$@")
+    [ "$got" = "$code" ] || { echo "curl $*: $got in place of $code"; exit 1; }
+}
+curl -s -o /dev/null --retry 30 --retry-delay 1 --retry-connrefused http://127.0.0.1:8080/properties
+asks 200 http://localhost/survey/properties
+asks 200 https://survey.your.org/survey/properties
+asks 401 -X POST https://survey.your.org/edit/publish
+asks 200 -u editor:secret -H 'Origin: https://survey.your.org' -X POST https://survey.your.org/edit/publish
+SHELL
+}
+
 leaf=Norder5/Dir0/Npix7.fits
 start
 if command -v nginx >/dev/null 2>&1; then
@@ -205,10 +260,14 @@ if command -v nginx >/dev/null 2>&1; then
         proxy=http://127.0.0.1:$plain
         who_may
         across_origins
-        [ -s "$folder/hipsd.pem" ] && by_tls
+        if [ -s "$folder/hipsd.pem" ]; then
+            by_tls
+            edits_by_tls
+        fi
         "$python" "$scripts/proxy-client.py" "127.0.0.1:$plain" editor:secret "$leaf" || wrong=1
         away
     fi
+    as_given
 else
     leaves_out nginx
 fi
@@ -304,6 +363,11 @@ journaled() {
 201 2" ] || blame "the second entry of the journal: $(cat "$journal"/00000002.[ea]*)"
     for path in properties "$leaf" Norder3/Dir0/Npix0.fits; do curl -s "$direct/$path"; done >"$folder/before"
 
+    # What can't be written there isn't sent.
+    (ulimit -f 2 && HIPSD_JOURNAL=$journal HIPSD=$direct "$examples/edit.sh" put 11 "$folder/leaf") >"$folder/body" 2>&1 && blame "an edit that can't be written is sent"
+    asks 404 -X DELETE "$direct/Norder5/Dir0/Npix11.fits"
+    field Survey-Edits 5
+
     # The server that has these edits takes no replay; a fresh one has them again.
     edited 1 'is no fresh one: it has accepted 5 edits' replay "$journal" "$direct"
     stop
@@ -327,6 +391,17 @@ journaled() {
     edited 1 "put Norder5/Dir0/Npix100.fits: was never answered, is 201 6" replay "$journal" "$direct"
     grep -q '^[89] entries: 7 sent again, .* 1 answered otherwise' "$folder/body" || blame "a replay says: $(cat "$folder/body")"
 
+    # Several editors at once: the journal has the edits in the server's order.
+    rm -r "$journal"
+    stop
+    start
+    for number in 20 21 22 23 24 25; do HIPSD_JOURNAL=$journal HIPSD=$direct "$examples/edit.sh" put "$number" "$folder/leaf" >"$folder/editor$number" 2>&1 & done
+    for editor in $(jobs -p); do case $editor in "$server" | "$web") ;; *) wait "$editor" ;; esac; done
+    [ "$(cat "$journal"/*.answer | tr '\n' ' ')" = '201 1 201 2 201 3 201 4 201 5 201 6 ' ] || blame "the journal of several editors: $(cat "$journal"/*.answer)"
+    journal=$folder/small
+    HIPSD_JOURNAL=$journal HIPSD=$direct "$examples/edit.sh" put 9 "$folder/leaf" >"$folder/body" 2>&1 || blame "edit.sh put: $(cat "$folder/body")"
+    HIPSD_JOURNAL=$journal HIPSD=$direct "$examples/edit.sh" add 7 "$folder/leaf" >"$folder/body" 2>&1 || blame "edit.sh add: $(cat "$folder/body")"
+
     # Where the folder has changed the answers differ, and that is said.
     stop
     start
@@ -335,7 +410,7 @@ journaled() {
     mkdir -p Norder5/Dir0 && curl -s -o "$leaf" "$direct/$leaf"
     stop
     start
-    edited 1 "add $leaf: was 201 2, is 412 1" replay "$journal" "$direct"
+    edited 1 "add $leaf: was 201 8, is 412 1" replay "$journal" "$direct"
     rm -r Norder5
     stop
 }
