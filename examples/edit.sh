@@ -102,7 +102,7 @@ send() {
 answer() {
     tr -d '\r' <"$work/reply" | awk '
         NR == 1 { code = $2 }
-        /^Survey-(Edits|Prefix): / && !body { number = $2 }
+        tolower($1) ~ /^survey-(edits|prefix):$/ && !body { number = $2 }
         body == 1 { text = " " $0; body = 2 }
         /^$/ && !body { body = 1 }
         END { print code " " number text }'
@@ -124,7 +124,10 @@ known() {
 record() {
     last=$(find "$journal" -maxdepth 1 -name '*.edit' | sed 's#.*/##; s/[.]edit$//' | sort | tail -n 1 | sed 's/^0*//')
     entry=$journal/$(printf '%08d' $((${last:-0} + 1)))
-    [ -z "$3" ] || { cp -- "$3" "$entry.body" && sync "$entry.body"; }
+    if [ -n "$3" ]; then
+        cp -- "$3" "$entry.body"
+        sync "$entry.body"
+    fi
     echo "$1 $2" >"$entry.edit.new"
     sync "$entry.edit.new"
     mv "$entry.edit.new" "$entry.edit"
@@ -241,7 +244,7 @@ read_files() {
         sed -n -e '/^2/d' -e 's/^000 \(.*\)/    \1 gives no answer/p' -e 's/^\([0-9]*\) \(http.*\)/    \2 is answered \1/p' "$work/codes" >&2
         fail "nothing is written, since not all could be read. (A pin wants hipsd's own address: a proxy keeps none.)"
     fi
-    held=$(cat "$work"/heads/* | tr -d '\r' | sed -n 's/^Survey-Prefix: //p' | sort -u | wc -l)
+    held=$(cat "$work"/heads/* | tr -d '\r' | sed -n 's/^survey-prefix: //Ip' | sort -u | wc -l)
     [ "$held" = 1 ] || fail "nothing is written, since the replies are of several generations"
     for path; do
         mkdir -p "$(dirname "$path")"

@@ -138,6 +138,17 @@ by_tls() {
     asks 200 --interface "$own" $tls -u editor:secret -X POST "https://hips.example.org:$secure/edit/publish"
 }
 
+# edits_by_tls: edit.sh through the proxy, by HTTP/2, with a password from ~/.netrc.
+edits_by_tls() {
+    printf 'resolve = hips.example.org:%s:127.0.0.1\ncacert = "%s/hipsd.pem"\n' "$secure" "$folder" >"$folder/.curlrc"
+    echo 'machine hips.example.org login editor password secret' >"$folder/.netrc"
+    chmod 600 "$folder/.netrc"
+    CURL_HOME=$folder HOME=$folder HIPSD=https://hips.example.org:$secure/edit HIPSD_JOURNAL=$folder/far "$examples/edit.sh" put 7 "$folder/leaf" >"$folder/body" 2>&1 ||
+        blame "edit.sh through the proxy: $(cat "$folder/body")"
+    grep -qx '201 [1-9][0-9]*' "$folder/far/00000001.answer" || blame "the journal through the proxy: $(cat "$folder/far/00000001.answer")"
+    asks 204 -u editor:secret -X DELETE "$proxy/edit/$leaf"
+}
+
 # across_origins: pages of other origins read, and don't change anything.
 across_origins() {
     asks 200 -H 'Origin: https://viewer.example' "$proxy/survey/properties"
@@ -186,6 +197,50 @@ away() {
     asks 200 "$proxy/survey/properties"
 }
 
+# as_given: the file as it is, by the steps of examples/README.md, with Debian's own nginx.conf; in a network and with mounts of
+# its own, where this may make them.
+as_given() {
+    if [ ! -e /proc/net/if_inet6 ] || [ ! -d /etc/nginx/sites-enabled ] || ! unshare -n -m ip link set lo up >/dev/null 2>&1; then
+        echo "check-operate: left out, since no network and mounts of its own can be made here: nginx.conf by the steps of examples/README.md"
+        return
+    fi
+    mkdir -p "$folder/given"
+    unshare -n -m /bin/bash -s -- "$folder/given" "$examples" "$program" "$folder/survey" >"$folder/body" 2>&1 <<'SHELL' || blame "nginx.conf as it is given: $(cat "$folder/body")"
+set -e
+ip link set lo up
+cp -a /etc/nginx "$1/nginx"
+mount --bind "$1/nginx" /etc/nginx
+for place in /var/cache /run /var/log/nginx /etc/ssl/private; do mkdir -p "$place" && mount -t tmpfs none "$place"; done
+cp -a /etc/ssl/certs "$1/certs"
+mount --bind "$1/certs" /etc/ssl/certs
+sed 's/hips[.]example[.]org/survey.your.org/' "$2/nginx.conf" >/etc/nginx/conf.d/hipsd.conf
+rm -f /etc/nginx/sites-enabled/default
+install -m 640 -o root -g www-data /dev/null /etc/nginx/hipsd.users
+printf 'editor:%s\n' "$(echo secret | openssl passwd -6 -stdin)" >>/etc/nginx/hipsd.users
+nginx -t
+openssl req -x509 -newkey rsa:2048 -nodes -days 30 -subj /CN=survey.your.org -addext subjectAltName=DNS:survey.your.org \
+    -keyout /etc/ssl/private/hipsd.key -out /etc/ssl/certs/hipsd.pem
+sed -i 's/#tls //' /etc/nginx/conf.d/hipsd.conf
+nginx -t
+nginx
+cd "$4"
+"$3" serve 127.0.0.1:8080 65536 64 &
+server=$!
+trap 'kill "$server"; nginx -s stop' EXIT
+asks() {
+    code=$1
+    shift
+    got=$(curl -s -o /dev/null -w '%{http_code}' --max-time 20 --cacert /etc/ssl/certs/hipsd.pem --resolve survey.your.org:443:127.0.0.1 "$@")
+    [ "$got" = "$code" ] || { echo "curl $*: $got in place of $code"; exit 1; }
+}
+curl -s -o /dev/null --retry 30 --retry-delay 1 --retry-connrefused http://127.0.0.1:8080/properties
+asks 200 http://localhost/survey/properties
+asks 200 https://survey.your.org/survey/properties
+asks 401 -X POST https://survey.your.org/edit/publish
+asks 200 -u editor:secret -H 'Origin: https://survey.your.org' -X POST https://survey.your.org/edit/publish
+SHELL
+}
+
 leaf=Norder5/Dir0/Npix7.fits
 start
 if command -v nginx >/dev/null 2>&1; then
@@ -205,10 +260,14 @@ if command -v nginx >/dev/null 2>&1; then
         proxy=http://127.0.0.1:$plain
         who_may
         across_origins
-        [ -s "$folder/hipsd.pem" ] && by_tls
+        if [ -s "$folder/hipsd.pem" ]; then
+            by_tls
+            edits_by_tls
+        fi
         "$python" "$scripts/proxy-client.py" "127.0.0.1:$plain" editor:secret "$leaf" || wrong=1
         away
     fi
+    as_given
 else
     leaves_out nginx
 fi
@@ -304,6 +363,11 @@ journaled() {
 201 2" ] || blame "the second entry of the journal: $(cat "$journal"/00000002.[ea]*)"
     for path in properties "$leaf" Norder3/Dir0/Npix0.fits; do curl -s "$direct/$path"; done >"$folder/before"
 
+    # What can't be written there isn't sent.
+    (ulimit -f 2 && HIPSD_JOURNAL=$journal HIPSD=$direct "$examples/edit.sh" put 11 "$folder/leaf") >"$folder/body" 2>&1 && blame "an edit that can't be written is sent"
+    asks 404 -X DELETE "$direct/Norder5/Dir0/Npix11.fits"
+    field Survey-Edits 5
+
     # The server that has these edits takes no replay; a fresh one has them again.
     edited 1 'is no fresh one: it has accepted 5 edits' replay "$journal" "$direct"
     stop
@@ -327,6 +391,17 @@ journaled() {
     edited 1 "put Norder5/Dir0/Npix100.fits: was never answered, is 201 6" replay "$journal" "$direct"
     grep -q '^[89] entries: 7 sent again, .* 1 answered otherwise' "$folder/body" || blame "a replay says: $(cat "$folder/body")"
 
+    # Several editors at once: the journal has the edits in the server's order.
+    rm -r "$journal"
+    stop
+    start
+    for number in 20 21 22 23 24 25; do HIPSD_JOURNAL=$journal HIPSD=$direct "$examples/edit.sh" put "$number" "$folder/leaf" >"$folder/editor$number" 2>&1 & done
+    for editor in $(jobs -p); do case $editor in "$server" | "$web") ;; *) wait "$editor" ;; esac; done
+    [ "$(cat "$journal"/*.answer | tr '\n' ' ')" = '201 1 201 2 201 3 201 4 201 5 201 6 ' ] || blame "the journal of several editors: $(cat "$journal"/*.answer)"
+    journal=$folder/small
+    HIPSD_JOURNAL=$journal HIPSD=$direct "$examples/edit.sh" put 9 "$folder/leaf" >"$folder/body" 2>&1 || blame "edit.sh put: $(cat "$folder/body")"
+    HIPSD_JOURNAL=$journal HIPSD=$direct "$examples/edit.sh" add 7 "$folder/leaf" >"$folder/body" 2>&1 || blame "edit.sh add: $(cat "$folder/body")"
+
     # Where the folder has changed the answers differ, and that is said.
     stop
     start
@@ -335,7 +410,7 @@ journaled() {
     mkdir -p Norder5/Dir0 && curl -s -o "$leaf" "$direct/$leaf"
     stop
     start
-    edited 1 "add $leaf: was 201 2, is 412 1" replay "$journal" "$direct"
+    edited 1 "add $leaf: was 201 8, is 412 1" replay "$journal" "$direct"
     rm -r Norder5
     stop
 }
@@ -466,6 +541,87 @@ imports() {
     cd "$top" || exit 1
 }
 imports
+
+# ---- the service, the man page, and what is installed
+
+# service UNIT: systemd takes it, and finds what it is exposed to small.
+service() {
+    systemd-analyze verify --man=no "$1" >"$folder/body" 2>&1 || blame "systemd-analyze verify: $(cat "$folder/body")"
+    [ -s "$folder/body" ] && blame "systemd-analyze verify: $(cat "$folder/body")"
+    exposure=$(systemd-analyze security --offline=true "$1" 2>/dev/null | sed -n 's/.*exposure level for .*: \([0-9]*\)\.\([0-9]\).*/\1\2/p')
+    [ "${exposure:-100}" -le 11 ] || blame "systemd-analyze security: ${exposure:-nothing} tenths in place of 11"
+    grep -q '^RestartPreventExitStatus=1 2 3$' "$1" || blame "the service starts again where its folder is wrong"
+    grep -q '^Description=.*not with the edits' "$1" || blame "the service doesn't say what a restart goes on with"
+}
+
+# installs: all goes below a folder, and nothing is left of it.
+installs() {
+    root=$folder/root
+    PROGRAM=$program DESTDIR=$root "$scripts/install.sh" /usr >"$folder/body" 2>&1 || blame "install.sh: $(cat "$folder/body")"
+    PROGRAM=$program DESTDIR=$root "$scripts/install.sh" /usr >"$folder/body" 2>&1 || blame "install.sh, again: $(cat "$folder/body")"
+    (cd "$folder/survey" && "$root/usr/bin/hipsd" export) >"$folder/body" 2>/dev/null || blame "what is installed doesn't run: $(cat "$folder/body")"
+    for file in share/man/man1/hipsd.1 lib/systemd/system/hipsd.service lib/sysusers.d/hipsd.conf share/doc/hipsd/examples/README.md; do
+        [ -s "$root/usr/$file" ] || blame "install.sh: there is no $file"
+    done
+    [ -x "$root/usr/share/doc/hipsd/examples/edit.sh" ] || blame "edit.sh can't be run where it is installed"
+    grep -rqE '@(PREFIX|REVISION|TOOLCHAIN)@' "$root/usr/share/man" "$root/usr/lib" && blame "install.sh leaves a word unfilled"
+    grep -q '^ExecStart=/usr/bin/hipsd serve 127.0.0.1:' "$root/usr/lib/systemd/system/hipsd.service" || blame "the service starts another program"
+    if command -v mandoc >/dev/null 2>&1; then
+        for page in "$top/docs/hipsd.1" "$root/usr/share/man/man1/hipsd.1"; do
+            mandoc -T lint -W all "$page" >"$folder/body" 2>&1
+            [ -s "$folder/body" ] && blame "mandoc: $(cat "$folder/body")"
+        done
+    else
+        leaves_out mandoc
+    fi
+    if command -v systemd-analyze >/dev/null 2>&1; then
+        # It looks for the program where the service says.
+        sed "s#=/usr/bin/hipsd#=$root/usr/bin/hipsd#" "$root/usr/lib/systemd/system/hipsd.service" >"$folder/hipsd.service"
+        service "$folder/hipsd.service"
+        mkdir -p "$root/etc"
+        systemd-sysusers --dry-run --root="$root" "$root/usr/lib/sysusers.d/hipsd.conf" 2>&1 | grep -q "Creating user 'hipsd'" || blame "systemd-sysusers makes no user"
+    else
+        leaves_out systemd
+    fi
+    "$scripts/install.sh" /usr /local >/dev/null 2>&1 && blame "install.sh takes two prefixes"
+    "$scripts/install.sh" relative >/dev/null 2>&1 && blame "install.sh takes a prefix that doesn't begin with /"
+    PROGRAM=$folder/nothing DESTDIR=$folder/none "$scripts/install.sh" >"$folder/body" 2>&1 && blame "install.sh installs a program that isn't there"
+    [ -e "$folder/none" ] && blame "install.sh begins where there is no program"
+    echo note >"$root/usr/bin/note"
+    DESTDIR=$root "$scripts/install.sh" --remove /usr >"$folder/body" 2>&1 || blame "install.sh --remove: $(cat "$folder/body")"
+    left=$(find "$root" -type f)
+    [ "$left" = "$root/usr/bin/note" ] || blame "install.sh --remove leaves $left"
+    DESTDIR=$root "$scripts/install.sh" --remove /usr >"$folder/body" 2>&1 && blame "install.sh removes what isn't there"
+}
+installs
+
+# port_for_the_proxy: the rule of hipsd.nft, in a network of its own, where this may make one.
+port_for_the_proxy() {
+    if ! unshare -n sh -c 'ip link set lo up && nft add table inet try' >/dev/null 2>&1; then
+        echo "check-operate: left out, since no network with a filter can be made here: hipsd.nft"
+        return
+    fi
+    unshare -n /bin/bash -s -- "$examples/hipsd.nft" >"$folder/body" 2>&1 <<'SHELL' || blame "hipsd.nft: $(cat "$folder/body")"
+set -e
+ip link set lo up
+nft -f "$1"
+nft -f "$1"
+/usr/bin/python3 -m http.server --bind 127.0.0.1 8080 --directory /var/empty >/dev/null 2>&1 &
+trap 'kill $!' EXIT
+for _ in $(seq 100); do curl -s -o /dev/null http://127.0.0.1:8080/ && break; sleep 0.1; done
+curl -sS -o /dev/null http://127.0.0.1:8080/
+setpriv --reuid=www-data --clear-groups curl -sS -o /dev/null http://127.0.0.1:8080/
+! setpriv --reuid=nobody --clear-groups curl -sS -o /dev/null http://127.0.0.1:8080/ 2>/dev/null
+SHELL
+}
+if command -v nft >/dev/null 2>&1; then port_for_the_proxy; else leaves_out nftables; fi
+
+# The scripts that operators and editors run.
+if command -v shellcheck >/dev/null 2>&1; then
+    shellcheck "$examples/edit.sh" "$scripts/install.sh" "$scripts/install-tools.sh" "$scripts/check-operate.sh" || blame "shellcheck"
+else
+    leaves_out shellcheck
+fi
 
 [ "$wrong" = 0 ] && echo "check-operate: all did as it must"
 exit "$wrong"

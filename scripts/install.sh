@@ -1,0 +1,110 @@
+#!/bin/sh
+# Installs hipsd where Debian expects it, or takes it away again.
+#
+#     scripts/install.sh [--remove] [PREFIX]
+#
+# PREFIX is /usr/local if none is named. It gets bin/hipsd, share/man/man1/hipsd.1, lib/systemd/system/hipsd.service,
+# lib/sysusers.d/hipsd.conf and share/doc/hipsd with the examples and FORMATS.md; systemd finds those of /usr/local and /usr. The
+# program is crates/hipsd/out/hipsd, or the one in the environment variable PROGRAM. With DESTDIR all goes below that folder, as a
+# package wants it. Nothing is started, no user is made, and /etc and the survey's folder stay as they are.
+set -eu
+cd "$(dirname "$0")/.."
+program=${PROGRAM:-crates/hipsd/out/hipsd}
+
+remove=
+if [ "${1:-}" = --remove ]; then
+    remove=yes
+    shift
+fi
+prefix=${1:-/usr/local}
+case $#-$prefix in
+    [01]-/*) ;;
+    *)
+        echo "usage: scripts/install.sh [--remove] [PREFIX], which begins with /" >&2
+        exit 2
+        ;;
+esac
+prefix=${prefix%/}
+case $prefix in *[!A-Za-z0-9/._+-]*)
+    echo "install: $prefix has other signs than letters, digits and / . _ + -" >&2
+    exit 2
+    ;;
+esac
+into=${DESTDIR:-}$prefix
+doc=$into/share/doc/hipsd
+
+# What is installed stands there, a path below PREFIX in each line.
+list=$doc/installed
+
+# put MODE FROM PATH: one file, at a path below PREFIX.
+put() {
+    mkdir -p "$into/$(dirname "$3")"
+    install -m "$1" "$2" "$into/$3"
+    echo "$3" >>"$list"
+    echo "$into/$3"
+}
+
+# filled FROM: writes the text with what is known only here.
+filled() {
+    revision=$(git rev-parse --short HEAD 2>/dev/null) || revision='an unknown revision'
+    toolchain=$(rt version 2>/dev/null | head -n 1)
+    [ -n "$toolchain" ] || toolchain='a toolchain that is not known here'
+    sed -e "s#@PREFIX@#$prefix#g" -e "s#@REVISION@#$revision#g" -e "s#@TOOLCHAIN@#$toolchain#g" \
+        -e "s#^ExecStart=/usr/local/bin/#ExecStart=$prefix/bin/#" "$1"
+}
+
+# examples: the names of the files that stand in examples/.
+examples() {
+    (cd examples && find . -maxdepth 1 -type f ! -name '.*' | sed 's#^\./##' | sort)
+}
+
+install_all() {
+    if [ ! -x "$program" ]; then
+        echo "install: there is no $program. README.md says how it is proved and built" >&2
+        exit 1
+    fi
+    work=$(mktemp -d)
+    trap 'rm -rf "$work"' EXIT
+    filled examples/hipsd.service >"$work/unit"
+    filled docs/hipsd.1 >"$work/manual"
+    [ ! -e "$list" ] || take_away
+    mkdir -p "$doc"
+    put 755 "$program" bin/hipsd
+    put 644 "$work/manual" share/man/man1/hipsd.1
+    put 644 "$work/unit" lib/systemd/system/hipsd.service
+    put 644 examples/hipsd.sysusers lib/sysusers.d/hipsd.conf
+    put 644 docs/FORMATS.md share/doc/hipsd/FORMATS.md
+    for name in $(examples); do
+        mode=644
+        [ ! -x "examples/$name" ] || mode=755
+        put "$mode" "examples/$name" "share/doc/hipsd/examples/$name"
+    done
+    [ -z "${DESTDIR:-}" ] || return 0
+    case $prefix in
+        /usr | /usr/local) echo "next, as root: systemd-sysusers && systemctl daemon-reload && systemctl enable --now hipsd" ;;
+        *)
+            echo "next, as root, since systemd doesn't look below $prefix: systemd-sysusers $prefix/lib/sysusers.d/hipsd.conf &&" \
+                "systemctl link $prefix/lib/systemd/system/hipsd.service && systemctl enable --now hipsd"
+            ;;
+    esac
+}
+
+# take_away: what is in the list, and the folders that are hipsd's own.
+take_away() {
+    while read -r path; do rm -f "$into/$path"; done <"$list"
+    rm "$list"
+    for own in "$doc/examples" "$doc"; do
+        [ ! -d "$own" ] || rmdir "$own" || echo "install: $own stays, since something else is in it" >&2
+    done
+}
+
+remove_all() {
+    if [ ! -e "$list" ]; then
+        echo "install: nothing is installed below $into: there is no $list" >&2
+        exit 1
+    fi
+    take_away
+    echo "hipsd is no more below $into. A service that runs goes on until: systemctl disable --now hipsd && systemctl daemon-reload"
+}
+
+if [ -n "$remove" ]; then remove_all; else install_all; fi
