@@ -75,7 +75,7 @@ static OUTCOMES: [(usize, &str, Option<(u64, u8)>); 51] = [
 ];
 
 // `LINES` with another one at place `at`, or after them.
-fn with_line(alloc: Global, at: usize, other: &str) -> Result<Vec<u8>, AllocError> {
+pub(crate) fn with_line(alloc: Global, at: usize, other: &str) -> Result<Vec<u8>, AllocError> {
     let mut text = Vec::new(alloc);
     for (i, line) in LINES.iter().enumerate() {
         let line = if i == at { other } else { *line };

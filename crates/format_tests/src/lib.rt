@@ -8,6 +8,8 @@ mod decimals;
 #[cfg(test)]
 mod descriptions;
 #[cfg(test)]
+mod fault_words;
+#[cfg(test)]
 mod headers;
 #[cfg(test)]
 mod outside;

@@ -28,7 +28,8 @@ pub(crate) enum Key {
     HipsTileFormat,
 }
 
-const KNOWN: [Key; 17] = [
+/// All keys that are known.
+pub(crate) const KNOWN: [Key; 17] = [
     Key::CreatorDid,
     Key::ObsTitle,
     Key::HipsReleaseDate,
@@ -80,6 +81,22 @@ impl Key {
             Key::HipsFrame => b"hips_frame",
             Key::HipsTileFormat => b"hips_tile_format",
         }
+    }
+
+    /// Whether a description must have the key.
+    pub(crate) fn is_required(self) -> bool
+        ensures { result ≡ Keys.is_required self }
+    {
+        matches!(
+            self,
+            Key::CreatorDid
+                | Key::ObsTitle
+                | Key::HipsReleaseDate
+                | Key::HipsStatus
+                | Key::HipsOrder
+                | Key::SurveyBitpix
+                | Key::SurveyBlank
+        )
     }
 
     /// Whether the key takes the value; of the number of blank pixels only whether it is a whole number.

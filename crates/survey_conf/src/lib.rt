@@ -15,7 +15,9 @@ mod number;
 mod properties;
 mod real;
 mod values;
+mod words;
 
 pub use conf::Conf;
 pub use fault::{ConfFault, ConfKind, ConfRefusal};
 pub use pyramid_model::Shape;
+pub use words::{FaultWords, likely_key};

@@ -1,0 +1,140 @@
+//! What is wrong with a description, in words for whoever wrote it. What is shown stands in no clause; tests show it.
+use crate::fault::{ConfFault, ConfKind};
+use crate::key::{KNOWN, Key};
+use crate::line::{content, is_skipped, pair};
+use std::fmt;
+
+/// A fault of a description in words: its line, the key, the value, and what is allowed, as in
+/// `line 5, hips_order = 12: an order is 3 to 11`. All but printable ASCII is shown as `\xff` and the like.
+#[derive(Clone, Copy)]
+pub struct FaultWords<'a> {
+    text: &'a [u8],
+    fault: ConfFault,
+}
+
+impl<'a> FaultWords<'a> {
+    /// The words for the fault of this text.
+    pub fn new(text: &'a [u8], fault: ConfFault) -> FaultWords<'a> {
+        FaultWords { text, fault }
+    }
+}
+
+impl<'a> fmt::Display for FaultWords<'a> {
+    fn fmt<W: fmt::Write>(&self, f: &mut fmt::Formatter<W>) -> fmt::Result {
+        let line = self.fault.line;
+        let Some((key, value)) = written_at(self.text, line).and_then(pair) else {
+            return match missing(self.text) {
+                Some(key) if line == 0 => write!(f, "{} is missing", key.name().escape_ascii()),
+                _ => write!(f, "line {line}: not of the form key = value"),
+            };
+        };
+        write!(
+            f,
+            "line {line}, {} = {}: ",
+            key.escape_ascii(),
+            value.escape_ascii()
+        )?;
+        match self.fault.kind {
+            ConfKind::Twice => f.write_str("the key stands in an earlier line"),
+            ConfKind::Unknown => fmt_unknown(key, f),
+            _ => f.write_str(Key::of(key).map_or("not allowed", allowed)),
+        }
+    }
+}
+
+// Why a key is unknown.
+fn fmt_unknown<W: fmt::Write>(key: &[u8], f: &mut fmt::Formatter<W>) -> fmt::Result {
+    if Key::of(key).is_some() {
+        return f.write_str("only survey_version = 2 has this key");
+    }
+    match likely_key(key) {
+        Some(known) => write!(
+            f,
+            "no key of a description; {} is one",
+            known.escape_ascii()
+        ),
+        None => f.write_str("no key of a description begins so"),
+    }
+}
+
+/// The known key that this unknown one may be meant for: one that differs by a single letter, put, left out or another.
+pub fn likely_key(key: &[u8]) -> Option<&'static [u8]> {
+    if Key::of(key).is_some() {
+        return None;
+    }
+    for known in KNOWN.iter() {
+        if is_one_letter_apart(key, known.name()) {
+            return Some(known.name());
+        }
+    }
+    None
+}
+
+// Whether a letter put, left out or changed makes one text of the other.
+fn is_one_letter_apart(one: &[u8], other: &[u8]) -> bool {
+    let same = one
+        .iter()
+        .zip(other.iter())
+        .take_while(|(a, b)| a == b)
+        .count();
+    match (one.get(same..), other.get(same..)) {
+        (Some(one), Some(other)) => is_one_letter(one, other),
+        _ => false,
+    }
+}
+
+// Whether one letter put, left out or changed at the front makes one text of the other.
+fn is_one_letter(one: &[u8], other: &[u8]) -> bool {
+    match (one, other) {
+        ([_, behind @ ..], [_, beyond @ ..]) => {
+            behind == beyond || one == beyond || behind == other
+        }
+        ([_], []) | ([], [_]) => true,
+        _ => false,
+    }
+}
+
+// What is written in a line, counted from 1.
+fn written_at(text: &[u8], line: u64) -> Option<&[u8]> {
+    let at = usize::try_from(line.checked_sub(1)?).ok()?;
+    text.split(|byte| *byte == b'\n').nth(at).map(content)
+}
+
+// The first required key that no line has.
+fn missing(text: &[u8]) -> Option<Key> {
+    KNOWN
+        .iter()
+        .copied()
+        .find(|key| key.is_required() && !has_line_for(text, *key))
+}
+
+// Whether a line has the key.
+fn has_line_for(text: &[u8], key: Key) -> bool {
+    text.split(|byte| *byte == b'\n')
+        .any(|line| has_key(content(line), key))
+}
+
+// Whether what is written in a line has the key.
+fn has_key(written: &[u8], key: Key) -> bool {
+    !is_skipped(written) && pair(written).is_some_and(|pair| pair.0 == key.name())
+}
+
+// Which values a key takes.
+fn allowed(key: Key) -> &'static str {
+    match key {
+        Key::CreatorDid | Key::ObsTitle | Key::HipsReleaseDate | Key::HipsStatus => "any value",
+        Key::HipsOrder => "an order is 3 to 11",
+        Key::HipsOrderMin => "the lowest order is 0 to 3",
+        Key::HipsTileWidth => "a width is 2, 4, 8, 16, 32, 64, 128, 256 or 512",
+        Key::SurveyBitpix => "it is 8, 16, 32 or 64",
+        Key::SurveyBscale => "it is a real number that isn't 0, of at most 18 digits",
+        Key::SurveyBzero => "it is a real number of at most 18 digits",
+        Key::SurveyBlank => "it is a whole number that survey_bitpix can hold",
+        Key::SurveyVersion => "a version is 1 or 2",
+        Key::SurveyRule => "a rule is mean or median",
+        Key::DataproductType => "it is image",
+        Key::HipsVersion => "it is 1.4",
+        Key::HipsFrame => "it is equatorial",
+        Key::HipsTileFormat => "it is fits",
+    }
+}
