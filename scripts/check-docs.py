@@ -12,7 +12,7 @@ from pathlib import Path
 ROOT = Path(__file__).resolve().parent.parent
 MOST_WORDS = {"README.md": 1200}
 # Words in a path that stand for others.
-PLACEHOLDERS = ("NEW", "NAME", "FILE", "..")
+PLACEHOLDERS = ("NEW", "NAME", "NUMBER", "FILE", "..")
 # Files that documents name and the repository doesn't have: one of a survey's folder, and one of a change that was tried.
 ELSEWHERE = {"survey.conf", "must-fail/expectation-is-overlooked.edit"}
 FILE = re.compile(r"[\w*.-]+(?:/[\w*.-]+)*\.(?:rt|antt|edit|sh|py|c|md|conf|service|timer|html|js|css)")
