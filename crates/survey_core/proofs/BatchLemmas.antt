@@ -3,6 +3,7 @@ use Rattle.std.proofs.Common.{◌≡◌, ℕ, suc, ◌+◌, ◌-◌, ◌<◌, �
 use Rattle.std.specs.Prelude.{is_some}
 use Rattle.std.proofs.lemmas.List.Sums.{sum_by-append}
 use Rattle.survey_conf.specs.Description.{Description}
+use Rattle.dirty_plan.specs.Dirty.{steps_after}
 use Rattle.edit_journal.specs.Edit.{LeafEdit, put, add, replace, remove, tile_of, edit_of}
 use Rattle.edit_journal.specs.declared.edit.Edit.{Edit}
 use Rattle.survey_core.specs.declared.fault.EntryFault.{EntryFault}
@@ -11,7 +12,7 @@ use Rattle.survey_core.specs.BatchBody.{ReadEntry, entry, BatchEntries, faulty, 
 
 -- ---- edits, and then the entries of what is left
 
-nothing_more : {X : Type 0} (xs : List X) → xs ++ [] ≡ xs
+pub nothing_more : {X : Type 0} (xs : List X) → xs ++ [] ≡ xs
 nothing_more [] = refl
 nothing_more (x ∷ xs) = ap (λ ys. x ∷ ys) (nothing_more xs)
 
@@ -32,7 +33,7 @@ so_far-all d edits = ap (λ all. record { edits = all; fault = None }) (nothing_
 room_left : (count : ℕ) → count < 1024 → 1024 - count ≡ suc (1024 - (count + 1))
 room_left count h = omega arith
 
-entries_left : (d : Description) (count : ℕ) (bytes : List ℕ) → count < 1024 → 0 < length bytes →
+pub entries_left : (d : Description) (count : ℕ) (bytes : List ℕ) → count < 1024 → 0 < length bytes →
     entries_in d (1024 - count) bytes ≡ then_entries (entry d bytes) (entries_in d (1024 - (count + 1)))
 unfolding entries_in
 entries_left d count [] h some = absurd (omega arith)
@@ -68,7 +69,7 @@ so_far-fault d edits bytes fault h some read =
     so_far-entry d edits bytes h some ∙ ap (λ read. behind edits (then_entries read (entries_in d (1024 - (length edits + 1))))) read in
     subst (λ entries. EndsWith entries (length edits) fault) (sym is) (faulty_behind edits fault)
 
-no_room : (d : Description) (bytes : List ℕ) → 0 < length bytes → entries_in d 0 bytes ≡ faulty Many
+pub no_room : (d : Description) (bytes : List ℕ) → 0 < length bytes → entries_in d 0 bytes ≡ faulty Many
 unfolding entries_in
 no_room d [] some = absurd (omega arith)
 no_room d (b ∷ bytes) some = refl
@@ -113,6 +114,10 @@ so_far-kept d edits bytes =
     let left : BatchEntries = entries_in d (1024 - length edits) bytes in
     let all : tile_count (read_so_far d edits bytes) ≡ tiles_of edits + tile_count left = tiles_of-append edits left.edits in
     omega arith
+
+-- a counter that has counted the tiles so far, after those of one entry more
+pub steps_more : (count tiles more old new all : ℕ) → old ≡ steps_after count tiles → new ≡ steps_after old more → all ≡ tiles + more → new ≡ steps_after count all
+steps_more count tiles more old new all begun counted both = omega arith
 
 -- ---- the whole body
 

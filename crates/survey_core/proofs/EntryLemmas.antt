@@ -102,12 +102,12 @@ unfolding entry
 entry_found law d bytes edit rest e = with_found law d bytes edit rest (line_at d.shape.top bytes) refl e
 
 -- an entry has bytes
-entry_some : (d : Description) (front : List ℕ) (edit : LeafEdit) → IsEntry d front edit → 0 < length front
+pub entry_some : (d : Description) (front : List ℕ) (edit : LeafEdit) → IsEntry d front edit → 0 < length front
 entry_some d front edit is = omega (arith, ap length is.written ∙ length-append (line_text is.line) (line_feed ∷ is.file))
 
 -- ---- all entries
 
-step_read : (d : Description) (room : ℕ) (bytes : List ℕ) → 0 < length bytes → entries_in d (suc room) bytes ≡ then_entries (entry d bytes) (entries_in d room)
+pub step_read : (d : Description) (room : ℕ) (bytes : List ℕ) → 0 < length bytes → entries_in d (suc room) bytes ≡ then_entries (entry d bytes) (entries_in d room)
 unfolding entries_in
 step_read d room [] some = absurd (omega arith)
 step_read d room (b ∷ bytes) some = refl

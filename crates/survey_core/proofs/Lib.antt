@@ -5,3 +5,4 @@ pub mod FitsLemmas
 pub mod RoomLemmas
 pub mod LineLemmas
 pub mod EntryLemmas
+pub mod FaultyLemmas

@@ -10,7 +10,7 @@ use Rattle.edit_journal.specs.Journal.{JournalContent, IsJournal, journal_edits}
 use Rattle.generation.specs.Generation.{GenerationContent}
 use Rattle.survey_core.specs.History.{SurveyState, opening_state, AppendsBatch, IsPublication, IsReached}
 use Rattle.survey_core.specs.HistoryLaws.{edits_of-append, end_within, end_stays, zero_is_end, reached_first, reached_more}
-use Rattle.survey_core.specs.State.{StateContent, state_edits, survey_state, journal_of, IsState, kept_content, IsKept}
+use Rattle.survey_core.specs.State.{StateContent, state_edits, survey_state, journal_of, IsState, kept_content, IsKeptState}
 
 -- the first state
 at_first : (opening : LeafTiles) (batches : List (List LeafEdit)) (tip : ℕ) → batches ≡ [] → tip ≡ 0 →
@@ -20,7 +20,7 @@ at_first opening batches tip none first =
     subst (IsReached opening) same (reached_first opening)
 
 pub kept_first : (journal : JournalContent) (generation : GenerationContent) → journal.shape ≡ generation.conf.shape → journal.opening ≡ generation.leaves → journal.batches ≡ [] →
-    generation.prefix ≡ 0 → IsKept journal generation
+    generation.prefix ≡ 0 → IsKeptState journal generation
 unfolding leaves_of
 kept_first journal generation shape leaves none first = record {
   shape = shape;
@@ -30,8 +30,8 @@ kept_first journal generation shape leaves none first = record {
 }
 
 -- one batch more
-pub kept_batch : (journal next : JournalContent) (generation : GenerationContent) (batch : List LeafEdit) → IsKept journal generation →
-    next ≡ record journal { batches = journal.batches ++ batch ∷ [] } → 0 < length batch → batch_fault journal.opening (journal_edits journal) batch ≡ None → IsKept next generation
+pub kept_batch : (journal next : JournalContent) (generation : GenerationContent) (batch : List LeafEdit) → IsKeptState journal generation →
+    next ≡ record journal { batches = journal.batches ++ batch ∷ [] } → 0 < length batch → batch_fault journal.opening (journal_edits journal) batch ≡ None → IsKeptState next generation
 kept_batch journal next generation batch kept is some none =
     let longer : JournalContent = record journal { batches = journal.batches ++ batch ∷ [] } in
     let same : take generation.prefix (edits_of (journal.batches ++ batch ∷ [])) ≡ take generation.prefix (edits_of journal.batches) =
@@ -43,19 +43,19 @@ kept_batch journal next generation batch kept is some none =
       batches = refl;
       tip = refl;
     } in
-    let grown : IsKept longer generation = record {
+    let grown : IsKeptState longer generation = record {
       shape = kept.shape;
       whole = end_stays journal.batches (batch ∷ []) generation.prefix kept.whole;
       leaves = kept.leaves ∙ ap (leaves_of journal.opening) (sym same);
       reached = reached_more journal.opening (survey_state (kept_content journal generation)) (survey_state (kept_content longer generation)) kept.reached
           (inl (record { batch = batch; appended = step }));
     } in
-    subst (λ j. IsKept j generation) (sym is) grown
+    subst (λ j. IsKeptState j generation) (sym is) grown
 
 -- another generation
-pub kept_published : (state : StateContent) (journal next : JournalContent) (old generation : GenerationContent) → kept_content journal old ≡ state → IsKept journal old → next ≡ journal →
+pub kept_published : (state : StateContent) (journal next : JournalContent) (old generation : GenerationContent) → kept_content journal old ≡ state → IsKeptState journal old → next ≡ journal →
     generation.conf ≡ state.conf → Contains (ends state.batches) generation.prefix → generation.leaves ≡ leaves_of state.opening (take generation.prefix (state_edits state)) →
-    state.tip < generation.prefix → IsKept next generation
+    state.tip < generation.prefix → IsKeptState next generation
 kept_published state journal next old generation is kept same conf whole leaves rises =
     let tip : old.prefix ≡ state.tip = ap (λ s. s.tip) is in
     let there : Contains (ends journal.batches) generation.prefix = subst (λ s. Contains (ends s.batches) generation.prefix) (sym is) whole in
@@ -64,13 +64,13 @@ kept_published state journal next old generation is kept same conf whole leaves 
       rises = omega arith;
       whole = there;
     } in
-    let made : IsKept journal generation = record {
+    let made : IsKeptState journal generation = record {
       shape = kept.shape ∙ ap (λ conf. conf.shape) (ap (λ s. s.conf) is ∙ sym conf);
       whole = there;
       leaves = leaves ∙ ap (λ s. leaves_of s.opening (take generation.prefix (state_edits s))) (sym is);
       reached = reached_more journal.opening (survey_state (kept_content journal old)) (survey_state (kept_content journal generation)) kept.reached (inr step);
     } in
-    subst (λ j. IsKept j generation) (sym same) made
+    subst (λ j. IsKeptState j generation) (sym same) made
 
 -- one edit is a batch of its own
 nothing_more : {X : Type 0} (xs : List X) → xs ++ [] ≡ xs
@@ -96,7 +96,7 @@ appends_one state journal next generation same edit is appended alike none =
     subst (λ s. AppendsBatch s.opening (edit ∷ []) (survey_state s) (survey_state (kept_content next same))) is step
 
 -- every state is sound
-pub state_sound : (state : StateContent) (journal : JournalContent) (generation : GenerationContent) → kept_content journal generation ≡ state → IsKept journal generation → IsJournal journal →
+pub state_sound : (state : StateContent) (journal : JournalContent) (generation : GenerationContent) → kept_content journal generation ≡ state → IsKeptState journal generation → IsJournal journal →
     IsState state
 state_sound state journal generation is kept sound =
     let shape : journal_of (kept_content journal generation) ≡ journal = ap (λ shape. record journal { shape = shape }) (sym kept.shape) in
@@ -107,5 +107,5 @@ state_sound state journal generation is kept sound =
     } in
     subst IsState is found
 
-pub tip_within : (state : StateContent) (journal : JournalContent) (generation : GenerationContent) → kept_content journal generation ≡ state → IsKept journal generation → state.tip ≤ length (state_edits state)
+pub tip_within : (state : StateContent) (journal : JournalContent) (generation : GenerationContent) → kept_content journal generation ≡ state → IsKeptState journal generation → state.tip ≤ length (state_edits state)
 tip_within state journal generation is kept = subst (λ s. s.tip ≤ length (state_edits s)) is (end_within journal.batches generation.prefix kept.whole)

@@ -43,7 +43,7 @@ abbrev pub kept_content : JournalContent → GenerationContent → StateContent
 kept_content journal generation = record { conf = generation.conf; opening = journal.opening; batches = journal.batches; tip = generation.prefix }
 
 -- the generation has the leaves after an end of the journal, and a history leads there
-pub record IsKept (journal : JournalContent) (generation : GenerationContent) : Type 0 where
+pub record IsKeptState (journal : JournalContent) (generation : GenerationContent) : Type 0 where
   pub shape : journal.shape ≡ generation.conf.shape
   pub whole : Contains (ends journal.batches) generation.prefix
   pub leaves : generation.leaves ≡ leaves_of journal.opening (take generation.prefix (journal_edits journal))

@@ -1,7 +1,8 @@
 //! The body of a batch.
-ghost use Rattle.std.specs.Prelude.{◌≡◌, ◌+◌, ◌*◌, ◌^◌, ◌<◌, ◌≤◌, None, map, length, All, IfOk, IfErr, OnOk};
+ghost use Rattle.std.specs.Prelude.{◌≡◌, ℕ, ◌+◌, ◌*◌, ◌^◌, ◌<◌, ◌≤◌, None, map, length, All, IfOk, IfErr, OnOk};
 ghost use Rattle.fits_header.specs.Cards.{whole_blocks};
 ghost use Rattle.fits_tile.specs.TileFile.{data_len};
+ghost use Rattle.dirty_plan.specs.Dirty.{steps_after};
 ghost use Rattle.edit_journal.specs.Edit.{edit_of};
 ghost use Rattle.edit_journal.specs.Leaves.{FitsEdit};
 ghost use Rattle.survey_core.specs.BatchBody.{batch_entries, tile_count, tiles_of, read_so_far};
@@ -31,7 +32,7 @@ pub fn batch_room(conf: &Conf) -> usize
 /// Reads the body of a batch: entries one after another up to its end, from 1 to 1,024 of them. An entry is one of the lines
 /// `put LEAF LENGTH`, `add LEAF LENGTH`, `replace LEAF LENGTH` and `remove LEAF`, ended by a line feed, and behind one of
 /// the first three a tile file of LENGTH bytes. Numbers are in plain decimals, LEAF is one of the survey's leaves and LENGTH
-/// is below 2^32. The steps rise by at most one for each tile.
+/// is below 2^32. The steps rise by one for each tile that is read.
 ///
 /// # Errors
 ///
@@ -50,6 +51,7 @@ pub fn read_batch(
     ensures most { IfOk result (λ edits. length edits.items ≤ 1024) }
     ensures fits { IfOk result (λ edits. All (FitsEdit conf.now.shape) (map edit_of edits.items)) }
     ensures refused { IfErr result (TellsBatchRead (batch_entries conf.now body.now)) }
+    ensures steps { OnOk result (steps.new ≡ steps_after steps.old (tile_count (batch_entries conf.now body.now))) }
     ensures at_most { steps.new ≤ steps.old + tile_count (batch_entries conf.now body.now) }
     ensures never_falls { steps.old ≤ steps.new }
 {
@@ -59,6 +61,8 @@ pub fn read_batch(
             fault: EntryFault::Line,
         });
     }
+    // A count fits 64 bits.
+    let _count = steps.count();
     let mut edits = Vec::new(alloc);
     let mut left = body;
     while !left.is_empty() {
@@ -82,6 +86,8 @@ fn read_next<'a>(
     ensures most { OnOk result (length edits.new.items ≤ 1024) }
     ensures refused { IfErr result (TellsBatchRead (read_so_far conf.now (map edit_of edits.old.items) bytes.now)) }
     ensures counted { OnOk result (steps.new + tiles_of (map edit_of edits.old.items) ≤ steps.old + tiles_of (map edit_of edits.new.items)) }
+    ensures steps { OnOk result ((count : ℕ) → steps.old ≡ steps_after count (tiles_of (map edit_of edits.old.items))
+        → steps.new ≡ steps_after count (tiles_of (map edit_of edits.new.items))) }
     ensures at_most { IfErr result (λ _. steps.new + tiles_of (map edit_of edits.old.items) ≤ steps.old + tile_count (read_so_far conf.now (map edit_of edits.old.items) bytes.now)) }
     ensures never_falls { steps.old ≤ steps.new }
 {

@@ -1,6 +1,8 @@
 //! One entry of the body of a batch.
-ghost use Rattle.std.specs.Prelude.{◌≡◌, ◌+◌, ◌≤◌, Ok, IfOk, IfErr};
+ghost use Rattle.std.specs.Prelude.{◌≡◌, ◌+◌, ◌≤◌, Ok, IfOk, IfErr, OnOk};
 ghost use Rattle.std.specs.Arc.{arc_value};
+ghost use Rattle.parent_rule.specs.Permit.{one_more};
+ghost use Rattle.dirty_plan.specs.Dirty.{steps_after};
 ghost use Rattle.edit_journal.specs.Edit.{edit_of};
 ghost use Rattle.survey_core.specs.BatchBody.{edit_by, tile_in, entry, tiles_read, entry_tiles};
 ghost use Rattle.survey_core.specs.Refusal.{TellsEntryRefusal};
@@ -25,9 +27,12 @@ pub(crate) fn read_entry<'a>(
 ) -> Result<(Edit, &'a [u8]), EntryRefusal>
     ensures read { IfOk result (λ read. entry conf.now bytes.now ≡ Ok (edit_of read.0, read.1.now)) }
     ensures refused { IfErr result (TellsEntryRefusal (entry conf.now bytes.now)) }
+    ensures steps { OnOk result (steps.new ≡ steps_after steps.old (entry_tiles (entry conf.now bytes.now))) }
     ensures at_most { steps.new ≤ steps.old + entry_tiles (entry conf.now bytes.now) }
     ensures never_falls { steps.old ≤ steps.new }
 {
+    // A count fits 64 bits.
+    let _count = steps.count();
     match line_at(bytes, conf.shape().top) {
         None => Err(EntryRefusal::Fault(EntryFault::Line)),
         Some((Line::Remove { leaf }, rest)) => Ok((Edit::Remove { leaf }, rest)),
@@ -54,6 +59,7 @@ fn read_tile(
 ) -> Result<Arc<Tile>, EntryRefusal>
     ensures read { IfOk result (λ tile. tile_in conf.now file.now ≡ Ok (arc_value tile)) }
     ensures refused { IfErr result (TellsEntryRefusal (tile_in conf.now file.now)) }
+    ensures steps { OnOk result (steps.new ≡ one_more steps.old) }
     ensures at_most { steps.new ≤ steps.old + tiles_read (tile_in conf.now file.now) }
     ensures never_falls { steps.old ≤ steps.new }
 {

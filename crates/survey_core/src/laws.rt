@@ -1,6 +1,6 @@
 //! What follows from the definitions alone. Each function does nothing: its contract is the law.
 ghost use Rattle.survey_core.specs.Laws.{StatesStay, PrefixesStay, HistoriesGoOn, StatesAreSound};
-ghost use Rattle.survey_core.specs.Written.{BodiesAreEntries};
+ghost use Rattle.survey_core.specs.Written.{BodiesAreEntries, RefusalsAreFaults};
 
 use decimal_scale::laws::plain_is_read;
 
@@ -29,6 +29,14 @@ pub fn states_are_sound()
 /// written so.
 pub fn bodies_are_entries()
     ensures { BodiesAreEntries }
+{
+    plain_is_read();
+}
+
+/// A body is refused at a place with a fault exactly where it is written entries, as many as the place tells, and a rest
+/// that has this fault and none that comes before it.
+pub fn refusals_are_faults()
+    ensures { RefusalsAreFaults }
 {
     plain_is_read();
 }

@@ -32,13 +32,13 @@ pub struct State {
 
 impl Model for State {
     ghost use Rattle.std.specs.Arc.{arc_value};
-    ghost use Rattle.survey_core.specs.State.{StateContent, kept_content, IsKept};
+    ghost use Rattle.survey_core.specs.State.{StateContent, kept_content, IsKeptState};
 
     ghost Value = { StateContent };
 
     ghost view = { λ s. kept_content s.journal (arc_value s.generation) };
 
-    ghost invariant = { λ s. IsKept s.journal (arc_value s.generation) };
+    ghost invariant = { λ s. IsKeptState s.journal (arc_value s.generation) };
 }
 
 impl State {

@@ -1,10 +1,11 @@
-use Rattle.std.proofs.Common.{◌≡◌, ◌<◌, None, length, map, ap, subst, arith}
+use Rattle.std.proofs.Common.{◌≡◌, ◌<◌, None, length, map, sym, ap, ◌∙◌, subst, arith}
 use Rattle.std.specs.Prelude.{All}
 use Rattle.std.proofs.lemmas.Bool.Decides.{nat_tests}
 use Rattle.std.proofs.lemmas.List.{length-map}
+use Rattle.dirty_plan.specs.Dirty.{steps_after}
 use Rattle.edit_journal.specs.Edit.{edit_of}
 use Rattle.edit_journal.specs.Leaves.{FitsEdit}
-use Rattle.survey_core.specs.BatchBody.{batch_entries}
+use Rattle.survey_core.specs.BatchBody.{batch_entries, tile_count}
 use Rattle.survey_core.proofs.BatchLemmas.{empty_body, begun_body, whole_body, some_entry}
 use Rattle.survey_core.proofs.FitsLemmas.{batch_fits}
 use Rattle.survey_core.proofs.batch.read_batch.Goals as goal
@@ -21,6 +22,7 @@ loop-left-init c =
     record {
       so_far = begun_body c.args.conf.now c.new-edits.result.items c.args.body.now c.new-edits.ensures.items some;
       most = rw c.new-edits.ensures.items (omega arith);
+      exactly = rw c.new-edits.ensures.items (omega arith);
       counted = omega arith;
       never_falls = omega arith;
     }
@@ -41,3 +43,6 @@ returns-clause-some c =
 
 pub returns-clause-fits : goal.returns-clause-fits
 returns-clause-fits c = subst (λ entries. All (FitsEdit c.args.conf.now.shape) entries.edits) (whole c) (batch_fits c.args.conf.now c.args.body.now)
+
+pub returns-clause-steps : goal.returns-clause-steps
+returns-clause-steps c = c.loop-left.invariant.exactly ∙ ap (λ entries. steps_after c.args.steps.now (tile_count entries)) (sym (whole c))

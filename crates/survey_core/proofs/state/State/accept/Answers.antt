@@ -2,14 +2,14 @@ use Rattle.std.proofs.Common.{[], ◌∷◌, sym, subst, arith}
 use Rattle.std.specs.Arc.{arc_value}
 use Rattle.edit_journal.specs.Edit.{edit_of}
 use Rattle.edit_journal.specs.Journal.{journal_edits}
-use Rattle.survey_core.specs.State.{IsKept}
+use Rattle.survey_core.specs.State.{IsKeptState}
 use Rattle.survey_core.proofs.StateLemmas.{kept_batch, batch_fault-one, appends_one}
 use Rattle.survey_core.proofs.state.State.accept.Goals as goal
 
 pub invariant_of-result : goal.invariant_of-result
 invariant_of-result c =
     let journal = c.self.inside.journal in
-    subst (IsKept c.in_ok-journal.journal) (sym c.in_ok-clone.ensures.cases)
+    subst (IsKeptState c.in_ok-journal.journal) (sym c.in_ok-clone.ensures.cases)
     (kept_batch journal c.in_ok-journal.journal (arc_value c.self.inside.generation) (edit_of c.args.edit ∷ []) c.self.invariant c.in_ok-journal.ensures.appended
     (omega arith) (batch_fault-one journal.opening (journal_edits journal) (edit_of c.args.edit) c.in_ok-journal.ensures.accepted))
 
