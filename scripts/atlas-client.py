@@ -1,5 +1,5 @@
 #!/usr/bin/python3
-"""Tries the atlas page in Debian's chromium: atlas-client.py PROGRAM [PICTURES].
+"""Tries the atlas page in Debian's chromium: atlas-client.py PROGRAM.
 
 hipsd serves surveys of each depth with known numbers (gradient_survey.py); examples/atlas/look.py serves the page, and the browser
 runs without a window. Pixels of screenshots are compared with the numbers that healpy and astropy's WCS (wcslib) say are there: which
@@ -10,15 +10,16 @@ direction a pixel of the picture shows, which cell that is, and which number thi
 - While 16 leaves in view are published together over and over, through a proxy that delays each reply at random, each picture shows
   one generation, that which the page names.
 - A server that goes away is told of in words, and the picture stays; when it is back over its folder, that is shown.
-- A cell of the mosaic and a tile without leaves; an address without hipsd, in words.
+- An address without hipsd is told of in words; through the location of examples/nginx.conf the page is the same.
 
-With PICTURES, a folder, two screenshots for the documents are written there. Ends with status 1 and says what is wrong.
+Ends with status 1 and says what is wrong.
 """
 
 import io
 import os
 import random
 import shutil
+import signal
 import socket
 import subprocess
 import sys
@@ -69,7 +70,7 @@ class Trial:
     def __init__(self, program, folder, browser):
         self.program, self.folder, self.browser = program, folder, browser
         self.wrong = []
-        self.compared = 0
+        self.compared = self.apart = 0
         self.hipsd = self.page = None
 
     def blame(self, *words):
@@ -203,6 +204,7 @@ class Trial:
 
     def judge(self, what, agree, least):
         self.compared += len(agree)
+        self.apart += (~agree).sum()
         if len(agree) == 0 or agree.mean() < least:
             self.blame(f"{what}: {(~agree).sum()} of {len(agree)} pixels aren't what the numbers say")
 
@@ -379,6 +381,36 @@ def says_what_is_wrong(trial):
         trial.blame("an address without hipsd is told of as:", trial.text("message"))
 
 
+NGINX = """worker_processes 1; pid {folder}/nginx.pid; error_log {folder}/nginx.log; events {{ }}
+http {{ access_log off; client_body_temp_path {folder}/bodies; server {{ listen 127.0.0.1:{port};
+    location /survey/ {{ proxy_pass http://{survey}/; }}
+    {block}
+}} }}
+"""
+
+
+def goes_through_nginx(trial):
+    """The page as the location of examples/nginx.conf serves it."""
+    examples = Path(__file__).resolve().parent.parent / "examples"
+    block = (examples / "nginx.conf").read_text().split("# atlas: begins.")[1].split("# atlas: ends.")[0].split("\n", 1)[1]
+    with tempfile.TemporaryDirectory() as name, socket.socket() as free:
+        folder = Path(name)
+        shutil.copytree(examples / "atlas", folder / "atlas")
+        free.bind(("127.0.0.1", 0))
+        port = free.getsockname()[1]
+        free.close()
+        for path in (folder, *folder.rglob("*")):
+            path.chmod(0o755)
+        block = block.replace("/usr/share/hipsd/atlas", str(folder / "atlas"))
+        (folder / "nginx.conf").write_text(NGINX.format(folder=folder, port=port, survey=trial.address, block=block))
+        subprocess.run(["nginx", "-c", folder / "nginx.conf", "-p", folder], check=True, stderr=subprocess.DEVNULL)
+        base, trial.base = trial.base, f"http://127.0.0.1:{port}"
+        trial.open(trial.hash(NEAR[16]))
+        trial.compare("through nginx", NEAR[16], trial.survey.deep)
+        os.kill(int((folder / "nginx.pid").read_text()), signal.SIGTERM)
+        trial.base = base
+
+
 def browser(width=900, height=640):
     options = Options()
     for word in ("headless=new", "no-sandbox", "disable-gpu", "disable-dev-shm-usage", "hide-scrollbars",
@@ -401,6 +433,7 @@ def main():
             storms(trial)
             goes_away(trial)
             says_what_is_wrong(trial)
+            goes_through_nginx(trial)
             for line in window.get_log("browser"):
                 if "TypeError" in line["message"] or "Uncaught" in line["message"]:
                     trial.blame("the browser says:", line["message"])
@@ -409,7 +442,7 @@ def main():
             window.quit()
     if trial.wrong:
         sys.exit(1)
-    print(f"check-atlas: the page shows what the numbers say: {trial.compared} pixels of pictures compared, "
+    print(f"check-atlas: the page shows what the numbers say: {trial.compared} pixels of pictures compared, {trial.apart} apart, "
           f"{round(time.monotonic() - begun)} seconds")
 
 

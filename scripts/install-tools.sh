@@ -1,6 +1,7 @@
 #!/bin/sh
 # Installs the tools of others that the checks of this repository call (Debian's fitsverify, python3-astropy,
-# python3-healpy, stilts, curl, nginx-light, openssl, mandoc, systemd, nftables, iproute2, shellcheck and gcc), where they are
+# python3-healpy, stilts, curl, nginx-light, openssl, mandoc, systemd, nftables, iproute2, shellcheck, gcc, chromium with
+# chromium-driver, python3-selenium and python3-pil), where they are
 # missing and this runs as root. Elsewhere it says what is missing; the checks decide what follows from that.
 missing=
 command -v fitsverify >/dev/null 2>&1 || missing="$missing fitsverify"
@@ -15,6 +16,10 @@ command -v shellcheck >/dev/null 2>&1 || missing="$missing shellcheck"
 command -v stilts >/dev/null 2>&1 || missing="$missing stilts"
 /usr/bin/python3 -c 'import astropy' 2>/dev/null || missing="$missing python3-astropy"
 /usr/bin/python3 -c 'import healpy' 2>/dev/null || missing="$missing python3-healpy"
+command -v chromium >/dev/null 2>&1 || missing="$missing chromium"
+command -v chromedriver >/dev/null 2>&1 || missing="$missing chromium-driver"
+/usr/bin/python3 -c 'import selenium' 2>/dev/null || missing="$missing python3-selenium"
+/usr/bin/python3 -c 'import PIL' 2>/dev/null || missing="$missing python3-pil"
 [ -z "$missing" ] && exit 0
 if [ "$(id -u)" -ne 0 ] || ! command -v apt-get >/dev/null 2>&1; then
     echo "install-tools: not installed here:$missing"
