@@ -6,8 +6,6 @@
 
 pub mod laws;
 mod planning;
-#[cfg(test)]
-mod tests;
 mod worklist;
 
 pub use planning::plan;

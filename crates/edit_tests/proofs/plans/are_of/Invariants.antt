@@ -1,5 +1,5 @@
 use Rattle.std.proofs.Common.{vec_len}
-use Rattle.dirty_plan.proofs.tests.are_of.Given as goal
+use Rattle.edit_tests.proofs.plans.are_of.Given as goal
 
 abbrev pub decreases-loop-permit : goal.decreases-loop-permit
 decreases-loop-permit l = vec_len l.permits
