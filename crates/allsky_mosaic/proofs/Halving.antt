@@ -1,5 +1,5 @@
 -- Squares that are halved: the numbers of the order above are combined of four.
-use Rattle.std.proofs.Common.{◌≡◌, ℕ, zero, suc, ◌+◌, ◌-◌, ◌*◌, ◌^◌, ◌<◌, ◌≤◌, [], ◌∷◌, ℤ, refl, sym, ap, subst, ◌∙◌, arith, pow-suc}
+use Rattle.std.proofs.Common.{◌≡◌, ℕ, zero, suc, ◌+◌, ◌-◌, ◌*◌, ◌^◌, ◌<◌, ◌≤◌, List, [], ◌∷◌, ℤ, refl, sym, ap, subst, ◌∙◌, arith, pow-suc}
 use Rattle.std.proofs.Math.Nat.{pow-le-pow_right}
 use Rattle.healpix_nested.specs.Place.{z_order}
 use Rattle.healpix_nested.specs.PlaceLaws.{z_order_of_four}
@@ -9,9 +9,8 @@ use Rattle.parent_rule.specs.Depth.{PixelDepth}
 use Rattle.pyramid_model.specs.Shape.{PyramidShape, LeafMap}
 use Rattle.pyramid_model.specs.Value.{value}
 use Rattle.pyramid_model.specs.ValueLaws.{value_step}
-use Rattle.tile_pixels.specs.Block.{PixelBlock, block_number, block_square}
 use Rattle.allsky_mosaic.specs.Tiles.{IsSurvey}
-use Rattle.allsky_mosaic.specs.Cells.{ShowsSquare}
+use Rattle.allsky_mosaic.specs.Cells.{ShowsSquare, square_number, number_over}
 
 -- one of the four cells under a cell within cell `cell` of order 3
 child_value : (shape : PyramidShape) (leaves : LeafMap) (cell levels column line dc dl i : ℕ) (f : ℕ → ℕ → ℤ) → levels < 9 → column < 2 ^ levels → line < 2 ^ levels → dc < 2 → dl < 2 → i ≡ 2 * dc + dl
@@ -27,7 +26,7 @@ child_value shape leaves cell levels column line dc dl i f small column_in line_
     shows (2 * column + dc) (2 * line + dl) (omega arith) (omega arith) ∙ ap (λ (q : ℕ). value shape leaves (3 + (levels + 1)) q) place
     ∙ ap (λ (j : ℕ). value shape leaves j (4 * (cell * 4 ^ levels + z_order column line) + i)) order
 
-four_equal : {a b c d e f g h : ℤ} → a ≡ e → b ≡ f → c ≡ g → d ≡ h → a ∷ b ∷ c ∷ d ∷ [] ≡ e ∷ f ∷ g ∷ h ∷ []
+pub four_equal : {a b c d e f g h : ℤ} → a ≡ e → b ≡ f → c ≡ g → d ≡ h → a ∷ b ∷ c ∷ d ∷ [] ≡ e ∷ f ∷ g ∷ h ∷ []
 four_equal p q r s = cc
 
 -- the square of half the side, of numbers combined of four, shows the same cell
@@ -50,18 +49,23 @@ halved_shows shape leaves cell levels f g small above shows halved column line c
     let v3 : f (2 * column + 1) (2 * line + 1) ≡ value shape leaves (3 + levels + 1) (4 * q + 3) = child_value shape leaves cell levels column line 1 1 3 f small column_in line_in (omega arith) (omega arith) refl shows in
     halved column line column_in line_in ∙ ap (combined shape.depth.combine shape.depth.blank) (four_equal v0 v1 v2 v3) ∙ sym (value_step shape leaves (3 + levels) q above)
 
--- a block that is halved
-pub block_halved : (depth : PixelDepth) (n : ℕ) (old new : PixelBlock) (tile : ℕ → ℕ → ℤ) → n ≤ 9 → old.levels ≤ n → new.levels + 1 ≡ old.levels
-    → ((column line : ℕ) → column < 2 ^ new.levels → line < 2 ^ new.levels → block_number new column line ≡ combined depth.combine depth.blank (block_square old column line))
-    → ((shape : PyramidShape) (leaves : LeafMap) (cell : ℕ) → IsSurvey depth n shape → ShowsSquare shape leaves cell n tile → ShowsSquare shape leaves cell old.levels (block_number old))
-    → (shape : PyramidShape) (leaves : LeafMap) (cell : ℕ) → IsSurvey depth n shape → ShowsSquare shape leaves cell n tile → ShowsSquare shape leaves cell new.levels (block_number new)
-block_halved depth n old new tile small within less halved before shape leaves cell survey shows =
+-- a square of stored numbers that is halved
+pub square_halved : (depth : PixelDepth) (n levels : ℕ) (whole half : List ℕ) (tile : ℕ → ℕ → ℤ) → n ≤ 9 → levels < n
+    → ((column line : ℕ) → column < 2 ^ levels → line < 2 ^ levels → square_number depth.bitpix (2 ^ levels) half column line ≡ number_over depth (2 ^ levels) whole column line)
+    → ((shape : PyramidShape) (leaves : LeafMap) (cell : ℕ) → IsSurvey depth n shape → ShowsSquare shape leaves cell n tile → ShowsSquare shape leaves cell (levels + 1) (square_number depth.bitpix (2 ^ (levels + 1)) whole))
+    → (shape : PyramidShape) (leaves : LeafMap) (cell : ℕ) → IsSurvey depth n shape → ShowsSquare shape leaves cell n tile → ShowsSquare shape leaves cell levels (square_number depth.bitpix (2 ^ levels) half)
+square_halved depth n levels whole half tile small within halved before shape leaves cell survey shows =
     let top : 3 ≤ shape.top = survey.top in
     let n_is : shape.n ≡ n = survey.n_is in
-    let P : ℕ → Type 0 = λ levels. ShowsSquare shape leaves cell levels (block_number old) in
-    let old_shows : ShowsSquare shape leaves cell (new.levels + 1) (block_number old) = subst P (sym less) (before shape leaves cell survey shows) in
-    halved_shows shape leaves cell new.levels (block_number old) (block_number new) (omega arith) (omega arith) old_shows
-    (λ column line column_in line_in. halved column line column_in line_in ∙ ap (λ (d : PixelDepth). combined d.combine d.blank (block_square old column line)) (sym survey.depth_is))
+    let bits : ℕ = depth.bitpix in
+    let twice : 2 * 2 ^ levels ≡ 2 ^ (levels + 1) = let e : suc levels ≡ levels + 1 = omega arith in sym (pow-suc 2 levels ∙ omega arith) ∙ ap (λ (k : ℕ). 2 ^ k) e in
+    halved_shows shape leaves cell levels (square_number bits (2 ^ (levels + 1)) whole) (square_number bits (2 ^ levels) half) (omega arith) (omega arith) (before shape leaves cell survey shows)
+    (λ column line column_in line_in. halved column line column_in line_in
+    ∙ ap (λ (k : ℕ). combined depth.combine depth.blank
+    (square_number bits k whole (2 * column) (2 * line) ∷ square_number bits k whole (2 * column) (2 * line + 1) ∷ square_number bits k whole (2 * column + 1) (2 * line) ∷ square_number bits k whole (2 * column + 1) (2 * line + 1) ∷ [])) twice
+    ∙ ap (λ (d : PixelDepth). combined d.combine d.blank
+    (square_number bits (2 ^ (levels + 1)) whole (2 * column) (2 * line) ∷ square_number bits (2 ^ (levels + 1)) whole (2 * column) (2 * line + 1)
+    ∷ square_number bits (2 ^ (levels + 1)) whole (2 * column + 1) (2 * line) ∷ square_number bits (2 ^ (levels + 1)) whole (2 * column + 1) (2 * line + 1) ∷ [])) (sym survey.depth_is))
 
 -- a cell that is blank at one order is blank at those above
 blank_up : (shape : PyramidShape) (leaves : LeafMap) (cell levels more : ℕ) → levels + more ≤ 9 → 3 + levels + more ≤ shape.top + shape.n → ShowsSquare shape leaves cell (levels + more) (λ column line. shape.depth.blank)

@@ -1,6 +1,7 @@
 pub mod Strips
 pub mod Appended
 pub mod Halving
+pub mod HalvedLines
 pub mod Squares
 pub mod Places
 pub mod BandLemmas

@@ -22,6 +22,15 @@ raw_number tile raw column line is column_in line_in =
     sym (get_or-numbers_from tile.depth.bitpix (4 ^ tile.n) raw ((side - 1 - line) * side + column) tile.depth.blank (omega arith))
     ∙ ap (λ (vs : List ℤ). get_or vs ((side - 1 - line) * side + column) tile.depth.blank) is
 
+-- the stored bytes of a tile show what it shows
+pub raw_shows : (depth : PixelDepth) (n : ℕ) (tile : PixelTile) (raw : List ℕ) → HasShape tile depth n → numbers_from tile.depth.bitpix (4 ^ tile.n) raw ≡ tile.numbers
+    → (shape : PyramidShape) (leaves : LeafMap) (cell : ℕ) → ShowsSquare shape leaves cell n (pixel_in tile) → ShowsSquare shape leaves cell n (square_number depth.bitpix (2 ^ n) raw)
+raw_shows depth n tile raw has is shape leaves cell shows column line column_in line_in =
+    let number : square_number tile.depth.bitpix (2 ^ tile.n) raw column line ≡ pixel_in tile column line =
+    raw_number tile raw column line is (subst (λ (k : ℕ). column < 2 ^ k) (sym has.1) column_in) (subst (λ (k : ℕ). line < 2 ^ k) (sym has.1) line_in) in
+    ap (λ (d : PixelDepth). square_number d.bitpix (2 ^ n) raw column line) (sym has.0) ∙ ap (λ (k : ℕ). square_number tile.depth.bitpix (2 ^ k) raw column line) (sym has.1)
+    ∙ number ∙ shows column line column_in line_in
+
 -- a square that is written into a band shows what it showed
 pub written_shows : (shape : PyramidShape) (leaves : LeafMap) (cell levels bits side col : ℕ) (square band : List ℕ) → side ≡ 2 ^ levels
     → ((t column : ℕ) → t < side → column < side → band_number bits side band col t column ≡ stored_at bits square (t * side + column))

@@ -75,13 +75,13 @@ pub strip_room : (side col t : ℕ) → t < side → col < 27 → (t * 27 + col)
 strip_room side col t h k = let q : t * 27 + col < 27 * side = omega arith in row_fits (t * 27 + col) side (27 * side) side q (omega arith)
 
 -- what is copied of a square
-line_of_square : (bits side t : ℕ) (square ys : List ℕ) (u : ℕ) → IsTrue (is_bitpix bits) → ys ≡ take (side * (bits / 8)) (drop (t * side * (bits / 8)) square)
+pub line_of_square : (bits side t : ℕ) (square ys : List ℕ) (u : ℕ) → IsTrue (is_bitpix bits) → ys ≡ take (side * (bits / 8)) (drop (t * side * (bits / 8)) square)
     → length square ≡ side * side * (bits / 8) → t < side → u < side → stored_at bits ys u ≡ stored_at bits square (t * side + u)
 line_of_square bits side t square ys u known is long row within =
     ap (λ (zs : List ℕ). stored_at bits zs u) is ∙ number_from-part bits side (t * side) (side * side) u square known within (row_fits t side side side row (omega arith)) long
 
 -- and how long it is
-length_of_line : (bits side t : ℕ) (square ys : List ℕ) → ys ≡ take (side * (bits / 8)) (drop (t * side * (bits / 8)) square) → length square ≡ side * side * (bits / 8) → t < side
+pub length_of_line : (bits side t : ℕ) (square ys : List ℕ) → ys ≡ take (side * (bits / 8)) (drop (t * side * (bits / 8)) square) → length square ≡ side * side * (bits / 8) → t < side
     → length ys ≡ side * (bits / 8)
 length_of_line bits side t square ys is long row =
     let w : ℕ = bits / 8 in

@@ -1,8 +1,9 @@
 -- The cells of a mosaic, as its code makes them: squares of stored numbers, and bands of 27 squares side by side.
-use Rattle.std.specs.Prelude.{◌≡◌, ℕ, ◌+◌, ◌-◌, ◌*◌, ◌/◌, ◌%◌, ◌^◌, ◌<◌, List, length, ℤ, Option, Some, None}
+use Rattle.std.specs.Prelude.{◌≡◌, ℕ, ◌+◌, ◌-◌, ◌*◌, ◌/◌, ◌%◌, ◌^◌, ◌<◌, List, [], ◌∷◌, length, ℤ, Option, Some, None}
 use Rattle.healpix_nested.specs.Cells.{cell_count}
 use Rattle.healpix_nested.specs.Place.{z_order}
 use Rattle.parent_rule.specs.Depth.{PixelDepth}
+use Rattle.parent_rule.specs.Combined.{combined}
 use Rattle.leaf_store.specs.Store.{value_at}
 use Rattle.pyramid_model.specs.Shape.{PyramidShape, LeafMap}
 use Rattle.pyramid_model.specs.Value.{value}
@@ -19,6 +20,14 @@ ShowsSquare shape leaves cell levels number = (column line : ℕ) → column < 2
 -- the number in a column and a line of a square that is stored bottom line first
 abbrev pub square_number : ℕ → ℕ → List ℕ → ℕ → ℕ → ℤ
 square_number bits side bytes column line = stored_at bits bytes ((side - 1 - line) * side + column)
+
+-- the number above the four in columns 2c and 2c + 1 of lines 2l and 2l + 1, in the order of the four children
+abbrev pub number_over : PixelDepth → ℕ → List ℕ → ℕ → ℕ → ℤ
+number_over depth side bytes column line = combined depth.combine depth.blank
+    (number (2 * column) (2 * line) ∷ number (2 * column) (2 * line + 1) ∷ number (2 * column + 1) (2 * line) ∷ number (2 * column + 1) (2 * line + 1) ∷ [])
+  where
+    number : ℕ → ℕ → ℤ
+    number = square_number depth.bitpix (2 * side) bytes
 
 -- the pixel of a tile that may be there
 abbrev pub pixel_or_blank : ℤ → Option PixelTile → ℕ → ℕ → ℤ

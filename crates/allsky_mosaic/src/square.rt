@@ -1,17 +1,15 @@
 //! The squares of a mosaic: a tile of order 3 each, with at most 64 columns and lines, bottom line first.
-ghost use Rattle.std.specs.Prelude.{◌≡◌, ◌≢◌, ℕ, ◌+◌, ◌-◌, ◌*◌, ◌/◌, ◌^◌, ◌<◌, ◌≤◌, length, IfOk, All};
-ghost use Rattle.parent_rule.specs.Depth.{IsNumber};
+ghost use Rattle.std.specs.Prelude.{◌≡◌, ◌≢◌, ℕ, ◌+◌, ◌-◌, ◌*◌, ◌/◌, ◌^◌, ◌<◌, ◌≤◌, length, IfOk};
 ghost use Rattle.pyramid_model.specs.Shape.{PyramidShape, LeafMap};
 ghost use Rattle.tile_pixels.specs.Tile.{HasShape, pixel_in};
-ghost use Rattle.tile_pixels.specs.Block.{block_number};
 ghost use Rattle.allsky_mosaic.specs.Mosaic.{levels_of, side_of};
 ghost use Rattle.allsky_mosaic.specs.Tiles.{IsSurvey};
 ghost use Rattle.tile_pixels.specs.Stored.{stored_at};
-ghost use Rattle.allsky_mosaic.specs.Cells.{ShowsSquare, square_number, band_number};
+ghost use Rattle.allsky_mosaic.specs.Cells.{ShowsSquare, square_number, number_over, band_number};
 
 use parent_rule::Depth;
 use std::alloc::{AllocError, Global};
-use tile_pixels::{Block, Tile, write_row};
+use tile_pixels::{Tile, store_row_above, write_row};
 
 /// The columns and lines of a square, for tiles of `2^n` of them.
 pub fn side(n: u8) -> usize
@@ -84,43 +82,77 @@ fn halved(alloc: Global, depth: Depth, n: u8, tile: &Tile) -> Result<Vec<u8>, Al
     ensures shown { IfOk result (λ square. (shape : PyramidShape) (leaves : LeafMap) (cell : ℕ) → IsSurvey depth n shape
         → ShowsSquare shape leaves cell n (pixel_in tile.now) → ShowsSquare shape leaves cell 6 (square_number depth.bitpix 64 square.items)) }
 {
-    let mut block = tile.block(alloc)?;
-    for _ in 6..n {
-        block.halve(depth);
+    let mut square = half_of(alloc, depth, power(n - 1), tile.raw())?;
+    for levels in (6..n - 1).rev() {
+        square = half_of(alloc, depth, power(levels), &square)?;
     }
-    let square = stored(alloc, depth, &block)?;
     Ok(square)
 }
 
-// The numbers of a block of 64 columns and lines as a file stores them, bottom line first.
-fn stored(alloc: Global, depth: Depth, block: &Block) -> Result<Vec<u8>, AllocError>
-    requires levels { block.now.levels ≡ 6 }
-    requires range { All (IsNumber depth.bitpix) block.now.numbers }
-    ensures length { IfOk result (λ square. length square.items ≡ 64 * 64 * (depth.bitpix / 8)) }
-    ensures numbers { IfOk result (λ square. (column line : ℕ) → column < 64 → line < 64
-        → square_number depth.bitpix 64 square.items column line ≡ block_number block.now column line) }
+// The columns and lines of a square of so many levels.
+fn power(levels: u8) -> usize
+    requires { levels ≤ 8 }
+    ensures power { result ≡ 2 ^ levels }
+    ensures at_most { result ≤ 256 }
 {
-    let mut square = vec![in alloc; 0; 64 * 64 * depth.bytes()]?;
-    store_lines(depth, block, &mut square);
-    Ok(square)
+    1 << levels
+}
+
+// The square of half as many columns and lines, which has `side` of them: each of its numbers is combined of four.
+fn half_of(alloc: Global, depth: Depth, side: usize, square: &[u8]) -> Result<Vec<u8>, AllocError>
+    requires at_most { side ≤ 256 }
+    requires square { length square.now ≡ 2 * side * (2 * side) * (depth.bitpix / 8) }
+    ensures length { IfOk result (λ half. length half.items ≡ side * side * (depth.bitpix / 8)) }
+    ensures numbers { IfOk result (λ half. (column line : ℕ) → column < side → line < side
+        → square_number depth.bitpix side half.items column line ≡ number_over depth side square.now column line) }
+{
+    let mut half = vec![in alloc; 0; side * side * depth.bytes()]?;
+    halve_lines(depth, side, square, &mut half);
+    Ok(half)
 }
 
 // The same, into bytes that are there.
-fn store_lines(depth: Depth, block: &Block, square: &mut [u8])
-    requires levels { block.now.levels ≡ 6 }
-    requires range { All (IsNumber depth.bitpix) block.now.numbers }
-    requires square { length square.old ≡ 64 * 64 * (depth.bitpix / 8) }
-    ensures { (column line : ℕ) → column < 64 → line < 64 → square_number depth.bitpix 64 square.new column line ≡ block_number block.now column line }
+fn halve_lines(depth: Depth, side: usize, square: &[u8], half: &mut [u8])
+    requires at_most { side ≤ 256 }
+    requires square { length square.now ≡ 2 * side * (2 * side) * (depth.bitpix / 8) }
+    requires half { length half.old ≡ side * side * (depth.bitpix / 8) }
+    ensures { (column line : ℕ) → column < side → line < side
+        → square_number depth.bitpix side half.new column line ≡ number_over depth side square.now column line }
 {
-    let length = 64 * depth.bytes();
-    for t in 0..64 {
+    let mut numbers = [0; 1280];
+    let numbers = &mut numbers[..5 * side];
+    let length = side * depth.bytes();
+    for t in 0..side {
         let start = t * length;
-        write_row(
-            depth,
-            block.line(63 - t as u32),
-            &mut square[start..start + length],
-        );
+        let line = &mut half[start..start + length];
+        halve_line(depth, side, square, t, numbers, line);
     }
+}
+
+// Stores line `t` of the half, counted from the bottom: that above lines `2 * t` and `2 * t + 1` of the square.
+fn halve_line(
+    depth: Depth,
+    side: usize,
+    square: &[u8],
+    t: usize,
+    numbers: &mut [i64],
+    line: &mut [u8],
+)
+    requires at_most { side ≤ 256 }
+    requires square { length square.now ≡ 2 * side * (2 * side) * (depth.bitpix / 8) }
+    requires t { t < side }
+    requires numbers { length numbers.old ≡ 5 * side }
+    requires line { length line.old ≡ side * (depth.bitpix / 8) }
+    ensures { (column : ℕ) → column < side → stored_at depth.bitpix line.new column ≡ number_over depth side square.now column (side - 1 - t) }
+{
+    // Its contract says what a blank number is.
+    let _blank = depth.blank();
+    let length = 2 * line.len();
+    let start = 2 * t * length;
+    let middle = start + length;
+    let bottom = &square[start..middle];
+    let top = &square[middle..middle + length];
+    store_row_above(depth, top, bottom, side, numbers, line);
 }
 
 /// A number of blank numbers as a file stores them, given by so many lines of a square.
