@@ -1,4 +1,4 @@
-use Rattle.std.proofs.Common.{List, [], ◌∷◌, ◌++◌, ◌≡◌, ◌<◌, map, length, Ok, sym, ap, ◌∙◌, ◌+◌, ℕ, arith}
+use Rattle.std.proofs.Common.{List, [], ◌∷◌, ◌++◌, ◌≡◌, ◌<◌, map, length, sym, ap, ◌∙◌, ◌+◌, ℕ, arith}
 use Rattle.std.proofs.lemmas.List.{length-map, map-append}
 use Rattle.edit_journal.specs.declared.edit.Edit.{Edit}
 use Rattle.edit_journal.specs.Edit.{edit_of}
