@@ -180,7 +180,7 @@ class Trial:
         found.wcs.cdelt = [-degrees, -degrees]
         return found
 
-    def compare(self, what, view, order, least=0.997):
+    def compare(self, what, view, order, least=0.9999):
         """Compares a screenshot with the numbers of that order's pixels, whose grey is that of the page."""
         picture = self.shot()
         survey, step = self.survey, 2

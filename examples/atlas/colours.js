@@ -1,9 +1,9 @@
 // From values to colours: which value is darkest and which lightest, how the scale is bent, and a table of 256 colours.
 
 const STOPS = {
+    dusk: ["#0b1026", "#253b6e", "#6b5b95", "#c77d8a", "#f2b880", "#fdf6e3"],
     grey: ["#000000", "#ffffff"],
     ink: ["#ffffff", "#000000"],
-    dusk: ["#0b1026", "#253b6e", "#6b5b95", "#c77d8a", "#f2b880", "#fdf6e3"],
     leaf: ["#440154", "#3b528b", "#21918c", "#5ec962", "#fde725"],
     ember: ["#000000", "#5c0a0a", "#c4370c", "#f6a02d", "#ffffff"],
 };

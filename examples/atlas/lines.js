@@ -12,6 +12,7 @@ const STEPS = [30, 15, 10, 5, 2, 1, 0.5, 0.2, 0.1, 0.05, 0.02, 0.01, 0.005, 0.00
 const LINES_WANTED = 6;
 const POINTS_OF_A_SIDE = 12;
 const MOST_NUMBERED = 80;
+const CORNER = 40;
 
 export class Lines {
     constructor(canvas) {
@@ -102,8 +103,11 @@ export class Lines {
             if (!one || !other || one[axis] < level === other[axis] < level) continue;
             const part = (level - one[axis]) / (other[axis] - one[axis]);
             const [column, line] = one.map((from, which) => from + (other[which] - from) * part);
-            if (edge === "left") this.number(text, column, line - 7 * this.density, "left", NUMBERS);
-            else this.number(text, column + 4 * this.density, line, "left", NUMBERS);
+            if (edge === "left" && line < this.height - CORNER * this.density) {
+                this.number(text, column, line - 7 * this.density, "left", NUMBERS);
+            } else if (edge === "bottom" && column < this.width - CORNER * this.density) {
+                this.number(text, column + 4 * this.density, line, "left", NUMBERS);
+            }
             return;
         }
     }

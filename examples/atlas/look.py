@@ -10,6 +10,7 @@ The program is crates/hipsd/out/hipsd, or the one that HIPSD_PROGRAM names.
 
 import http.client
 import os
+import signal
 import socket
 import subprocess
 import sys
@@ -116,6 +117,7 @@ def started(folder):
 def main():
     if len(sys.argv) not in (2, 3):
         sys.exit(__doc__)
+    signal.signal(signal.SIGTERM, signal.default_int_handler)
     named, port = sys.argv[1], int(sys.argv[2]) if len(sys.argv) == 3 else 8000
     hipsd, survey = (None, urlsplit(named).netloc) if "://" in named else started(named)
     try:
