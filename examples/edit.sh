@@ -148,7 +148,10 @@ mark() {
 edit() {
     entry=
     if [ -n "$journal" ]; then
-        mkdir -p "$journal"
+        if [ ! -d "$journal" ]; then
+            mkdir -p "$journal"
+            sync "$(dirname "$journal")"
+        fi
         exec 9>"$journal/lock"
         flock 9
         entry=$(record "$@")
