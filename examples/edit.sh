@@ -18,6 +18,7 @@
 # and then nothing was sent.
 set -eu
 base=${HIPSD:-http://127.0.0.1:8080}
+base=${base%/}
 journal=${HIPSD_JOURNAL:-}
 
 work=$(mktemp -d)
@@ -148,7 +149,10 @@ mark() {
 edit() {
     entry=
     if [ -n "$journal" ]; then
-        mkdir -p "$journal"
+        if [ ! -d "$journal" ]; then
+            mkdir -p "$journal"
+            sync "$(dirname "$journal")"
+        fi
         exec 9>"$journal/lock"
         flock 9
         entry=$(record "$@")
@@ -199,11 +203,11 @@ again() {
 # replay FOLDER ADDRESS
 replay() {
     [ -d "$1" ] || refuse "there is no folder $1"
-    base=$2
     find "$1" -maxdepth 1 -name '*.edit' | sort >"$work/entries"
-    fresh "$2"
+    address=${2%/}
+    fresh "$address"
     sent=0 differing=0
-    while read -r entry <&8; do again "${entry%.edit}" "$2"; done 8<"$work/entries"
+    while read -r entry <&8; do again "${entry%.edit}" "$address"; done 8<"$work/entries"
     echo "$(wc -l <"$work/entries") entries: $sent sent again, the others weren't accepted; $differing answered otherwise than before"
     [ "$differing" = 0 ]
 }

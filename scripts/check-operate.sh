@@ -363,6 +363,17 @@ journaled() {
 201 2" ] || blame "the second entry of the journal: $(cat "$journal"/00000002.[ea]*)"
     for path in properties "$leaf" Norder3/Dir0/Npix0.fits; do curl -s "$direct/$path"; done >"$folder/before"
 
+    # It is on the disk before it is sent: what is called of these two, in order.
+    mkdir "$folder/calls"
+    for tool in sync curl; do
+        printf '#!/bin/sh\necho "%s $*" >>"%s/called"\nexec "%s" "$@"\n' "$tool" "$folder" "$(command -v "$tool")" >"$folder/calls/$tool"
+        chmod +x "$folder/calls/$tool"
+    done
+    PATH=$folder/calls:$PATH HIPSD_JOURNAL=$folder/traced HIPSD=http://127.0.0.1:1 "$examples/edit.sh" publish >"$folder/body" 2>&1
+    [ "$(cat "$folder/traced/00000001.answer")" = unsent ] || blame "a publication at which nobody listens is marked $(cat "$folder/traced"/*)"
+    called=$(sed -e "s#$folder\$#.#" -e "s#$folder/##" -e 's/^curl .*/curl/' "$folder/called" | tr '\n' ',')
+    [ "$called" = 'sync .,sync traced/00000001.edit.new,sync traced,curl,sync traced/00000001.answer.new,sync traced,' ] || blame "edit.sh calls $called"
+
     # What can't be written there isn't sent.
     (ulimit -f 2 && HIPSD_JOURNAL=$journal HIPSD=$direct "$examples/edit.sh" put 11 "$folder/leaf") >"$folder/body" 2>&1 && blame "an edit that can't be written is sent"
     asks 404 -X DELETE "$direct/Norder5/Dir0/Npix11.fits"
