@@ -11,7 +11,7 @@ use std::time::{Clock, Duration, Instant};
 use std::{io, thread};
 use survey_link::{Door, DoorFault, Failed, Sink, Source, write_all_parts, write_whole};
 use tcp_link::again::again;
-use tcp_link::{Patience, Refusal, TcpDoor, TcpIn, TcpOut, patient_doors, tcp_doors};
+use tcp_link::{Patience, Refusal, TcpDoor, TcpIn, TcpOut, dial, patient_doors, tcp_doors};
 
 // Any free port of the loopback device.
 static FREE: &str = "127.0.0.1:0";
@@ -252,6 +252,54 @@ fn a_client_goes_away(rt: HostRuntime) -> Result<(), Fail> {
     let (mut input, _output) = left_behind(&rt, &mut doors[0], b"", b"abc")?;
     assert_eq!(rt; read_some(&mut input), None);
     assert_eq!(rt; doors[0].faults(), 0);
+    Ok(())
+}
+
+// What is said at one end comes at the other one.
+fn check_said<R: Outside, S: Source>(
+    rt: &R,
+    output: &mut TcpOut<R>,
+    input: &mut S,
+) -> Result<(), Fail> {
+    write_whole(output, b"hello")?;
+    output.flush()?;
+    let mut buf = [0; 8];
+    let count = input.read(&mut buf)?;
+    assert!(rt; &buf[..count] == b"hello".as_slice());
+    Ok(())
+}
+
+// A call to the door's address: both ways.
+fn check_dialed<R: Outside>(rt: &R, door: &mut TcpDoor<R>) -> Result<(), Fail> {
+    let address = format!(in rt.alloc(); "{}", door.listen()?)?;
+    let (mut input, mut output) = dial(rt, address.as_str())?;
+    write_whole(&mut output, b"first")?;
+    match door.accept()? {
+        Some((mut theirs, mut ours)) => {
+            assert_eq!(rt; read_some(&mut theirs), Some(5));
+            check_said(rt, &mut ours, &mut input)?;
+            check_said(rt, &mut output, &mut theirs)
+        }
+        None => Err(Fail::new("no connection")),
+    }
+}
+
+#[test]
+fn a_call_goes_through(rt: HostRuntime) -> Result<(), Fail> {
+    let mut doors = tcp_doors(&rt, FREE, 1)?;
+    check_dialed(&rt, &mut doors[0])
+}
+
+#[test]
+fn nobody_listens(rt: HostRuntime) -> Result<(), Fail> {
+    let other = TcpListener::bind(&rt, FREE)?;
+    let address = format!(in rt.alloc(); "{}", other.local_addr()?)?;
+    drop(other);
+    let (mut input, mut output) = dial(&rt, address.as_str())?;
+    for _ in 0..2 {
+        assert_eq!(rt; read_some(&mut input), None);
+        assert!(rt; write_whole(&mut output, b"hello").is_err());
+    }
     Ok(())
 }
 

@@ -158,7 +158,7 @@ where
     fn halves(&self, stream: TcpStream) -> io::Result<(TcpIn<R>, TcpOut<R>)>
         ensures fresh { IfOk result (λ halves. (halves.0 ≡ 0) × (halves.1 ≡ 0)) }
     {
-        let connection = Connection::new(self.runtime.clone()?, self.patience, stream)?;
+        let connection = Connection::accepted(self.runtime.clone()?, self.patience, stream)?;
         let connection = Arc::new(self.runtime.alloc(), connection)?;
         let output = TcpOut::new(Arc::try_clone(&connection)?);
         Ok((TcpIn::new(connection), output))
@@ -204,9 +204,12 @@ where
         self.faults
     }
 
-    fn done(&mut self, _input: TcpIn<R>, output: TcpOut<R>)
+    // Where reading has failed nobody waits for the rest of a reply.
+    fn done(&mut self, input: TcpIn<R>, output: TcpOut<R>)
         ensures sound { self.new ≡ self.old }
     {
-        output.end();
+        if !input.has_failed() {
+            output.end();
+        }
     }
 }

@@ -1,13 +1,15 @@
 //! What a peer sends.
-ghost use Rattle.std.specs.Prelude.{◌≡◌, ◌<◌, ◌≤◌, ℕ, None, length, IfOk, OnOk, OnErr};
+ghost use Rattle.std.specs.Prelude.{◌≡◌, ◌<◌, ◌≤◌, ◌↔◌, ℕ, None, length, IsTrue, IfOk, OnOk, OnErr};
 ghost use Rattle.survey_link.specs.Link.{next_count};
 
 use crate::connection::Connection;
 use crate::patience::Patience;
 use crate::watch::Watch;
+use log::Log;
 use std::io;
 use std::io::{ErrorKind, Read};
 use std::marker::Model;
+use std::net::{Net, TcpListener, TcpStream};
 use std::sync::Arc;
 use std::time::{Clock, Duration};
 use survey_link::{Failed, Source};
@@ -40,9 +42,19 @@ impl<R> TcpIn<R> {
             faults: 0,
         }
     }
+
+    /// Whether a reading has failed.
+    pub(crate) fn has_failed(&self) -> bool
+        ensures { IsTrue result ↔ (0 < self.now) }
+    {
+        self.faults > 0
+    }
 }
 
-impl<R: Clock> TcpIn<R> {
+impl<R> TcpIn<R>
+where
+    R: Net<Listener = TcpListener, Stream = TcpStream> + Clock + Log,
+{
     // Reads before the rest, or the request, has taken too long.
     fn read_in_time(&mut self, buf: &mut [u8]) -> io::Result<usize>
         ensures count { IfOk result (λ m. m ≤ length buf.old) }
@@ -69,7 +81,7 @@ impl<R: Clock> TcpIn<R> {
     {
         for _ in 0..u64::MAX {
             self.set_timeout(base)?;
-            let mut stream = &self.connection.stream;
+            let mut stream = self.connection.stream()?;
             match stream.read(buf) {
                 Ok(count) => return Ok(count),
                 Err(error) => {
@@ -85,20 +97,19 @@ impl<R: Clock> TcpIn<R> {
     fn set_timeout(&mut self, base: Duration) -> io::Result<()>
         ensures counts_none { self.new ≡ self.old }
     {
-        let Connection {
-            runtime,
-            patience,
-            stream,
-            ..
-        } = &*self.connection;
-        match self.watch.timeout(runtime, base, patience.pace)? {
-            Some(timeout) => stream.set_read_timeout(Some(timeout)),
+        let connection = &*self.connection;
+        let pace = connection.patience.pace;
+        match self.watch.timeout(&connection.runtime, base, pace)? {
+            Some(timeout) => connection.stream()?.set_read_timeout(Some(timeout)),
             None => Ok(()),
         }
     }
 }
 
-impl<R: Clock> Source for TcpIn<R> {
+impl<R> Source for TcpIn<R>
+where
+    R: Net<Listener = TcpListener, Stream = TcpStream> + Clock + Log,
+{
     ghost left = { λ _. None };
 
     ghost readings = { λ _. None };

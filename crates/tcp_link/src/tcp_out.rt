@@ -4,11 +4,13 @@ ghost use Rattle.std.specs.Io.Slices.{io_slices_bytes};
 ghost use Rattle.survey_link.specs.Link.{next_count, parts_bytes};
 
 use crate::connection::Connection;
+use crate::patience::Patience;
 use crate::watch::Watch;
+use log::Log;
 use std::io;
 use std::io::{ErrorKind, IoSlice, Read};
 use std::marker::Model;
-use std::net::Shutdown;
+use std::net::{Net, Shutdown, TcpListener, TcpStream};
 use std::sync::Arc;
 use std::time::{Clock, Duration};
 use survey_link::{Failed, Sink};
@@ -48,7 +50,10 @@ impl<R> TcpOut<R> {
     }
 }
 
-impl<R: Clock> TcpOut<R> {
+impl<R> TcpOut<R>
+where
+    R: Net<Listener = TcpListener, Stream = TcpStream> + Clock + Log,
+{
     /// Ends the reply, and drops what the peer still sends until it closes its side too: where bytes are left unread the
     /// system resets the connection, and the peer may lose the reply (RFC 9112, section 9.6).
     pub(crate) fn end(&self) {
@@ -65,7 +70,7 @@ impl<R: Clock> TcpOut<R> {
     {
         for _ in 0..u64::MAX {
             self.set_timeout()?;
-            match self.connection.stream.write_vectored(parts) {
+            match self.connection.stream()?.write_vectored(parts) {
                 Ok(0) => return Err(ErrorKind::WriteZero.into()),
                 Ok(count) => {
                     self.watch.count(count);
@@ -84,22 +89,21 @@ impl<R: Clock> TcpOut<R> {
     fn set_timeout(&mut self) -> io::Result<()>
         ensures counts_none { self.new ≡ self.old }
     {
-        let Connection {
-            runtime,
-            patience,
-            stream,
-            ..
-        } = &*self.connection;
-        match self.watch.timeout(runtime, patience.turn, patience.pace)? {
-            Some(timeout) => stream.set_write_timeout(Some(timeout)),
+        let connection = &*self.connection;
+        let Patience { turn, pace, .. } = connection.patience;
+        match self.watch.timeout(&connection.runtime, turn, pace)? {
+            Some(timeout) => connection.stream()?.set_write_timeout(Some(timeout)),
             None => Ok(()),
         }
     }
 }
 
 // Reads what the peer still sends, for no longer than a connection may rest.
-fn linger<R: Clock>(connection: &Connection<R>) -> io::Result<()> {
-    let mut stream = &connection.stream;
+fn linger<R>(connection: &Connection<R>) -> io::Result<()>
+where
+    R: Net<Listener = TcpListener, Stream = TcpStream> + Clock + Log,
+{
+    let mut stream = connection.stream()?;
     stream.shutdown(Shutdown::Write)?;
     stream.set_read_timeout(Some(Duration::from_millis(LINGER)))?;
     let mut watch = Watch::new(Duration::ZERO);
@@ -113,7 +117,10 @@ fn linger<R: Clock>(connection: &Connection<R>) -> io::Result<()> {
     Ok(())
 }
 
-impl<R: Clock> Sink for TcpOut<R> {
+impl<R> Sink for TcpOut<R>
+where
+    R: Net<Listener = TcpListener, Stream = TcpStream> + Clock + Log,
+{
     ghost held = { λ _. None };
 
     ghost handed_on = { λ _. None };
