@@ -7,11 +7,11 @@ use std::net::{Net, TcpListener, TcpStream};
 use std::process::Abort;
 use std::sync::Wait;
 use std::test::Fail;
-use std::time::Duration;
+use std::time::{Clock, Duration, Instant};
 use std::{io, thread};
 use survey_link::{Door, DoorFault, Failed, Sink, Source, write_all_parts, write_whole};
 use tcp_link::again::again;
-use tcp_link::{Refusal, TcpDoor, TcpIn, TcpOut, patient_doors, tcp_doors};
+use tcp_link::{Patience, Refusal, TcpDoor, TcpIn, TcpOut, dial, patient_doors, tcp_doors};
 
 // Any free port of the loopback device.
 static FREE: &str = "127.0.0.1:0";
@@ -19,6 +19,7 @@ static FREE: &str = "127.0.0.1:0";
 // What a door and its checks need of the runtime.
 trait Outside: Net<Listener = TcpListener, Stream = TcpStream>
     + Wait
+    + Clock
     + Log
     + Abort
     + AllocGlobal
@@ -29,6 +30,7 @@ impl<R> Outside for R
 where
     R: Net<Listener = TcpListener, Stream = TcpStream>
         + Wait
+        + Clock
         + Log
         + Abort
         + AllocGlobal
@@ -38,14 +40,14 @@ where
 
 // A connection and its client.
 #[derive(Drop)]
-struct Met {
+struct Met<R> {
     client: TcpStream,
-    input: TcpIn,
-    output: TcpOut,
+    input: TcpIn<R>,
+    output: TcpOut<R>,
 }
 
 // The connection of a client that has just come to the door.
-fn meet<R: Outside>(rt: &R, door: &mut TcpDoor<R>) -> Result<Met, Fail> {
+fn meet<R: Outside>(rt: &R, door: &mut TcpDoor<R>) -> Result<Met<R>, Fail> {
     let client = TcpStream::connect(rt, door.listen()?)?;
     match door.accept()? {
         Some((input, output)) => Ok(Met {
@@ -70,7 +72,7 @@ fn reply<K: Sink>(sink: &mut K) -> Result<(), Failed> {
 }
 
 // What the client says comes in, and is replied to.
-fn check_heard(rt: &impl Abort, met: &mut Met) -> Result<(), Fail> {
+fn check_heard<R: Outside>(rt: &R, met: &mut Met<R>) -> Result<(), Fail> {
     met.client.write_all(b"ask")?;
     let mut buf = [0; 8];
     let count = met.input.read(&mut buf)?;
@@ -92,7 +94,7 @@ fn check_reply<R: AllocGlobal + Abort>(
 }
 
 // Gives the connection back, and answers the client.
-fn end<D: Door<In = TcpIn, Out = TcpOut>>(door: &mut D, met: Met) -> TcpStream {
+fn end<R: Outside>(door: &mut TcpDoor<R>, met: Met<R>) -> TcpStream {
     let Met {
         client,
         input,
@@ -118,7 +120,7 @@ fn a_reply_goes_back(rt: HostRuntime) -> Result<(), Fail> {
 }
 
 // What nobody reads before the connection is closed.
-fn say_too_much(met: &mut Met) -> Result<(), Fail> {
+fn say_too_much<R: Outside>(met: &mut Met<R>) -> Result<(), Fail> {
     met.client.write_all(&[0; 100_000])?;
     write_whole(&mut met.output, b"too long")?;
     Ok(())
@@ -140,19 +142,77 @@ fn send_much<K: Sink>(sink: &mut K) -> Result<(), Failed> {
     Ok(())
 }
 
-// A client that says nothing, and then some bytes of a body.
-fn check_silence(rt: &impl Abort, met: &mut Met) -> Result<(), Fail> {
+// Clients that may rest 100 milliseconds, and take 300 for a request or a reply; bytes add a second each `pace`.
+fn patience(pace: u64) -> Patience {
+    Patience {
+        rest: Duration::from_millis(100),
+        turn: Duration::from_millis(300),
+        pace,
+    }
+}
+
+// How often a client does something each 10 milliseconds, if the server doesn't end it.
+const TIMES: u32 = 60;
+
+// How often a client sends such a piece and is heard.
+fn hear_pieces<R: Outside>(rt: &R, met: &mut Met<R>, piece: &[u8]) -> Result<u32, Fail> {
+    for times in 0..TIMES {
+        met.client.write_all(piece)?;
+        if met.input.read(&mut [0; 4096]).is_err() {
+            return Ok(times);
+        }
+        thread::sleep(rt, Duration::from_millis(10));
+    }
+    Ok(TIMES)
+}
+
+// How often a client is sent 64 KiB and takes some of it.
+fn send_pieces<R: Outside>(rt: &R, met: &mut Met<R>) -> Result<u32, Fail> {
+    for times in 0..TIMES {
+        if write_whole(&mut met.output, &[0; 65_536]).is_err() {
+            return Ok(times);
+        }
+        met.client.read(&mut [0; 65_536])?;
+        thread::sleep(rt, Duration::from_millis(10));
+    }
+    Ok(TIMES)
+}
+
+#[test]
+fn a_client_that_drips_gives_its_place_back(rt: HostRuntime) -> Result<(), Fail> {
+    let mut doors = patient_doors(&rt, FREE, 1, patience(0))?;
+    let mut met = meet(&rt, &mut doors[0])?;
+    assert!(rt; hear_pieces(&rt, &mut met, b"a")? < TIMES);
+    assert!(rt; send_pieces(&rt, &mut met)? < TIMES);
+    Ok(())
+}
+
+#[test]
+fn a_slow_client_is_served(rt: HostRuntime) -> Result<(), Fail> {
+    let mut doors = patient_doors(&rt, FREE, 1, patience(4096))?;
+    let mut met = meet(&rt, &mut doors[0])?;
+    assert!(rt; hear_pieces(&rt, &mut met, &[b'a'; 4096])? == TIMES);
+    assert!(rt; send_pieces(&rt, &mut met)? == TIMES);
+    Ok(())
+}
+
+// A client that says nothing, then some bytes of a body, and after its reply nothing again.
+fn check_silence<R: Outside>(rt: &R, met: &mut Met<R>) -> Result<(), Fail> {
     assert_eq!(rt; read_some(&mut met.input), None);
     met.client.write_all(b"abc")?;
     assert_eq!(rt; read_some(&mut met.input), Some(3));
     assert_eq!(rt; read_some(&mut met.input), None);
+    reply(&mut met.output)?;
+    let start = Instant::now(rt)?;
+    assert_eq!(rt; read_some(&mut met.input), None);
+    assert!(rt; start.elapsed(rt)? < Duration::from_millis(300));
     Ok(())
 }
 
 #[test]
 fn a_silent_client_gives_its_place_back(rt: HostRuntime) -> Result<(), Fail> {
-    let mut doors = patient_doors(&rt, FREE, 1, Duration::from_millis(50))?;
-    // in the middle of a body
+    let mut doors = patient_doors(&rt, FREE, 1, patience(0))?;
+    // in the middle of a body, and between two requests
     check_silence(&rt, &mut meet(&rt, &mut doors[0])?)?;
     // in the middle of a reply
     let mut met = meet(&rt, &mut doors[0])?;
@@ -167,7 +227,7 @@ fn left_behind<R: Outside>(
     door: &mut TcpDoor<R>,
     said: &[u8],
     replied: &[u8],
-) -> Result<(TcpIn, TcpOut), Fail> {
+) -> Result<(TcpIn<R>, TcpOut<R>), Fail> {
     let mut met = meet(rt, door)?;
     met.client.write_all(said)?;
     write_whole(&mut met.output, replied)?;
@@ -192,6 +252,54 @@ fn a_client_goes_away(rt: HostRuntime) -> Result<(), Fail> {
     let (mut input, _output) = left_behind(&rt, &mut doors[0], b"", b"abc")?;
     assert_eq!(rt; read_some(&mut input), None);
     assert_eq!(rt; doors[0].faults(), 0);
+    Ok(())
+}
+
+// What is said at one end comes at the other one.
+fn check_said<R: Outside, S: Source>(
+    rt: &R,
+    output: &mut TcpOut<R>,
+    input: &mut S,
+) -> Result<(), Fail> {
+    write_whole(output, b"hello")?;
+    output.flush()?;
+    let mut buf = [0; 8];
+    let count = input.read(&mut buf)?;
+    assert!(rt; &buf[..count] == b"hello".as_slice());
+    Ok(())
+}
+
+// A call to the door's address: both ways.
+fn check_dialed<R: Outside>(rt: &R, door: &mut TcpDoor<R>) -> Result<(), Fail> {
+    let address = format!(in rt.alloc(); "{}", door.listen()?)?;
+    let (mut input, mut output) = dial(rt, address.as_str())?;
+    write_whole(&mut output, b"first")?;
+    match door.accept()? {
+        Some((mut theirs, mut ours)) => {
+            assert_eq!(rt; read_some(&mut theirs), Some(5));
+            check_said(rt, &mut ours, &mut input)?;
+            check_said(rt, &mut output, &mut theirs)
+        }
+        None => Err(Fail::new("no connection")),
+    }
+}
+
+#[test]
+fn a_call_goes_through(rt: HostRuntime) -> Result<(), Fail> {
+    let mut doors = tcp_doors(&rt, FREE, 1)?;
+    check_dialed(&rt, &mut doors[0])
+}
+
+#[test]
+fn nobody_listens(rt: HostRuntime) -> Result<(), Fail> {
+    let other = TcpListener::bind(&rt, FREE)?;
+    let address = format!(in rt.alloc(); "{}", other.local_addr()?)?;
+    drop(other);
+    let (mut input, mut output) = dial(&rt, address.as_str())?;
+    for _ in 0..2 {
+        assert_eq!(rt; read_some(&mut input), None);
+        assert!(rt; write_whole(&mut output, b"hello").is_err());
+    }
     Ok(())
 }
 

@@ -1,1 +1,2 @@
 pub mod Tcp
+pub mod Time

@@ -1,16 +1,23 @@
 //! Connections over TCP.
 //!
 //! `tcp_doors` makes the doors of an address, which share one listener; a connection is a `TcpIn` and a `TcpOut`, the two
-//! halves of one stream. They count their faults and tell nothing of what passes: what the system does is trusted.
+//! halves of one stream. `dial` makes one to an address. They count their faults and tell nothing of what passes: what the system does is trusted. Each
+//! request and each reply has a deadline, as the `Patience` of the doors has it.
 #![tactic(auto)]
 
 pub mod again;
+mod connection;
+mod dialing;
 mod listening;
+mod patience;
 mod refusal;
 mod tcp_door;
 mod tcp_in;
 mod tcp_out;
+mod watch;
 
+pub use dialing::{DialIn, DialOut, dial};
+pub use patience::{Patience, time_left};
 pub use refusal::Refusal;
 pub use tcp_door::{TcpDoor, patient_doors, tcp_doors};
 pub use tcp_in::TcpIn;

@@ -4,7 +4,9 @@ ghost use Rattle.survey_link.specs.Link.{next_count};
 ghost use Rattle.tcp_link.specs.Tcp.{StopsAccept, StopsListening};
 
 use crate::again::again;
+use crate::connection::Connection;
 use crate::listening::Listening;
+use crate::patience::Patience;
 use crate::refusal::Refusal;
 use crate::tcp_in::TcpIn;
 use crate::tcp_out::TcpOut;
@@ -14,11 +16,8 @@ use std::io;
 use std::marker::Model;
 use std::net::{Net, SocketAddr, TcpListener, TcpStream};
 use std::sync::{Arc, Wait};
-use std::time::Duration;
+use std::time::Clock;
 use survey_link::{Door, DoorFault};
-
-// How many seconds a client may be silent or take nothing.
-const PATIENCE: u64 = 30;
 
 /// A door of an address over TCP. It tells nothing of its connections.
 ///
@@ -29,7 +28,7 @@ const PATIENCE: u64 = 30;
 pub struct TcpDoor<R> {
     runtime: R,
     listening: Arc<Listening>,
-    patience: Duration,
+    patience: Patience,
     faults: u64,
     refusal: Option<Refusal>,
 }
@@ -56,10 +55,10 @@ pub fn tcp_doors<R: AllocGlobal + Clone + Drop>(
 ) -> Result<Vec<TcpDoor<R>>, AllocError>
     ensures { IfOk result (λ doors. doors.items ≡ replicate count (record { faults = 0; refusal = None })) }
 {
-    patient_doors(rt, address, count, Duration::from_secs(PATIENCE))
+    patient_doors(rt, address, count, Patience::usual())
 }
 
-/// As `tcp_doors`, of doors whose clients may be silent, or take nothing, for so long.
+/// As `tcp_doors`, of doors whose clients may take so long.
 ///
 /// # Errors
 ///
@@ -68,7 +67,7 @@ pub fn patient_doors<R: AllocGlobal + Clone + Drop>(
     rt: &R,
     address: &str,
     count: usize,
-    patience: Duration,
+    patience: Patience,
 ) -> Result<Vec<TcpDoor<R>>, AllocError>
     ensures { IfOk result (λ doors. doors.items ≡ replicate count (record { faults = 0; refusal = None })) }
 {
@@ -109,7 +108,7 @@ impl<R> TcpDoor<R> {
 
 impl<R> TcpDoor<R>
 where
-    R: Net<Listener = TcpListener, Stream = TcpStream> + Wait + Log,
+    R: Net<Listener = TcpListener, Stream = TcpStream> + Wait + Log + AllocGlobal + Clone + Drop,
 {
     /// Listens, where no door of the address does yet, and answers where: at the port that the system chose, if it was asked
     /// for port 0.
@@ -146,41 +145,46 @@ where
     }
 
     // The halves of the next connection.
-    fn next(&self) -> Result<(TcpIn, TcpOut), Refusal>
+    fn next(&self) -> Result<(TcpIn<R>, TcpOut<R>), Refusal>
         ensures fresh { IfOk result (λ halves. (halves.0 ≡ 0) × (halves.1 ≡ 0)) }
         ensures cause { IfErr result (λ refusal. StopsAccept (Some refusal)) }
     {
         let listener = self.listener()?;
         let (stream, _) = again(|| listener.accept()).map_err(Refusal::Accept)?;
-        halves(stream, self.patience).map_err(Refusal::Split)
+        self.halves(stream).map_err(Refusal::Split)
     }
-}
 
-// The halves of a stream, which wait so long and hold no small write back for more.
-fn halves(stream: TcpStream, patience: Duration) -> io::Result<(TcpIn, TcpOut)>
-    ensures fresh { IfOk result (λ halves. (halves.0 ≡ 0) × (halves.1 ≡ 0)) }
-{
-    stream.set_nodelay(true)?;
-    stream.set_read_timeout(Some(patience))?;
-    stream.set_write_timeout(Some(patience))?;
-    let output = TcpOut::new(stream.try_clone()?);
-    Ok((TcpIn::new(stream), output))
+    // The halves of a stream. Want of memory for what they share is a refusal to split it.
+    fn halves(&self, stream: TcpStream) -> io::Result<(TcpIn<R>, TcpOut<R>)>
+        ensures fresh { IfOk result (λ halves. (halves.0 ≡ 0) × (halves.1 ≡ 0)) }
+    {
+        let connection = Connection::accepted(self.runtime.clone()?, self.patience, stream)?;
+        let connection = Arc::new(self.runtime.alloc(), connection)?;
+        let output = TcpOut::new(Arc::try_clone(&connection)?);
+        Ok((TcpIn::new(connection), output))
+    }
 }
 
 impl<R> Door for TcpDoor<R>
 where
-    R: Net<Listener = TcpListener, Stream = TcpStream> + Wait + Log + Drop,
+    R: Net<Listener = TcpListener, Stream = TcpStream>
+        + Wait
+        + Clock
+        + Log
+        + AllocGlobal
+        + Clone
+        + Drop,
 {
-    type In = TcpIn;
+    type In = TcpIn<R>;
 
-    type Out = TcpOut;
+    type Out = TcpOut<R>;
 
     ghost connections = { λ _. None };
 
     ghost faults = { λ door. door.faults };
 
     // A real door has no last connection.
-    fn accept(&mut self) -> Result<Option<(TcpIn, TcpOut)>, DoorFault>
+    fn accept(&mut self) -> Result<Option<(TcpIn<R>, TcpOut<R>)>, DoorFault>
         ensures comes { IfOk result (λ next. IfSome next (λ halves. (halves.0 ≡ 0) × (halves.1 ≡ 0)) × IsSome next) }
         ensures sound { OnOk result (self.new ≡ self.old) }
         ensures failed { OnErr result (self.new.faults ≡ next_count self.old.faults) }
@@ -200,9 +204,12 @@ where
         self.faults
     }
 
-    fn done(&mut self, _input: TcpIn, output: TcpOut)
+    // Where reading has failed nobody waits for the rest of a reply.
+    fn done(&mut self, input: TcpIn<R>, output: TcpOut<R>)
         ensures sound { self.new ≡ self.old }
     {
-        output.end();
+        if !input.has_failed() {
+            output.end();
+        }
     }
 }

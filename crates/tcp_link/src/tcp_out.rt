@@ -1,69 +1,126 @@
-//! What a client is sent.
+//! What a peer is sent.
 ghost use Rattle.std.specs.Prelude.{◌≡◌, ◌<◌, ◌≤◌, ℕ, None, length, IfOk, OnOk, OnErr};
 ghost use Rattle.std.specs.Io.Slices.{io_slices_bytes};
 ghost use Rattle.survey_link.specs.Link.{next_count, parts_bytes};
 
+use crate::connection::Connection;
+use crate::patience::Patience;
+use crate::watch::Watch;
+use log::Log;
+use std::io;
 use std::io::{ErrorKind, IoSlice, Read};
 use std::marker::Model;
-use std::net::{Shutdown, TcpStream};
-use std::time::Duration;
+use std::net::{Net, Shutdown, TcpListener, TcpStream};
+use std::sync::Arc;
+use std::time::{Clock, Duration};
 use survey_link::{Failed, Sink};
 
-// How long a client that has its reply may be silent before its connection is closed, in milliseconds, and how often what it
+// How long a peer that has its reply may send nothing before its connection is closed, in milliseconds, and how often what it
 // still sends is read until then.
 const LINGER: u64 = 1000;
 
 const LINGERING_READS: usize = 1024;
 
-/// What a client is sent. It tells nothing of it; contracts see its count of faults.
+/// What a peer is sent. It tells nothing of it; contracts see its count of faults.
 ///
-/// A client that takes nothing for longer than its door waits is a fault, as is one that has gone.
+/// A peer that doesn't take its reply in time is a fault, as is one that has gone. A flush ends the reply.
 #[derive(Drop)]
-pub struct TcpOut {
-    stream: TcpStream,
+pub struct TcpOut<R> {
+    connection: Arc<Connection<R>>,
+    watch: Watch,
     faults: u64,
 }
 
-impl Model for TcpOut {
+impl<R> Model for TcpOut<R> {
     ghost Value = { ℕ };
 
     ghost view = { λ a. a.faults };
 }
 
-impl TcpOut {
-    pub(crate) fn new(stream: TcpStream) -> TcpOut
+impl<R> TcpOut<R> {
+    pub(crate) fn new(connection: Arc<Connection<R>>) -> TcpOut<R>
         ensures { result ≡ 0 }
     {
-        TcpOut { stream, faults: 0 }
-    }
-
-    /// Ends the reply, and drops what the client still sends until it closes its side too: where bytes are left unread the
-    /// system resets the connection, and the client may lose the reply (RFC 9112, section 9.6).
-    pub(crate) fn end(self) {
-        if self.faults == 0 {
-            linger(self.stream);
+        let watch = Watch::new(connection.patience.rest);
+        TcpOut {
+            connection,
+            watch,
+            faults: 0,
         }
     }
 }
 
-fn linger(mut stream: TcpStream) {
-    if stream.shutdown(Shutdown::Write).is_err() {
-        return;
+impl<R> TcpOut<R>
+where
+    R: Net<Listener = TcpListener, Stream = TcpStream> + Clock + Log,
+{
+    /// Ends the reply, and drops what the peer still sends until it closes its side too: where bytes are left unread the
+    /// system resets the connection, and the peer may lose the reply (RFC 9112, section 9.6).
+    pub(crate) fn end(&self) {
+        if self.faults == 0 {
+            let _ = linger(&self.connection);
+        }
     }
-    let wait = Duration::from_millis(LINGER);
-    if stream.set_read_timeout(Some(wait)).is_err() {
-        return;
+
+    // Writes before the reply has taken too long, and answers how much was taken: not nothing.
+    fn write_in_time(&mut self, parts: &[IoSlice<'_>; 4]) -> io::Result<usize>
+        ensures some { IfOk result (λ m. 0 < m) }
+        ensures count { IfOk result (λ m. m ≤ length (io_slices_bytes parts.now)) }
+        ensures counts_none { self.new ≡ self.old }
+    {
+        for _ in 0..u64::MAX {
+            self.set_timeout()?;
+            match self.connection.stream()?.write_vectored(parts) {
+                Ok(0) => return Err(ErrorKind::WriteZero.into()),
+                Ok(count) => {
+                    self.watch.count(count);
+                    return Ok(count);
+                }
+                Err(error) => {
+                    if !self.watch.goes_on(error.kind()) {
+                        return Err(error);
+                    }
+                }
+            }
+        }
+        Err(ErrorKind::TimedOut.into())
     }
+
+    fn set_timeout(&mut self) -> io::Result<()>
+        ensures counts_none { self.new ≡ self.old }
+    {
+        let connection = &*self.connection;
+        let Patience { turn, pace, .. } = connection.patience;
+        match self.watch.timeout(&connection.runtime, turn, pace)? {
+            Some(timeout) => connection.stream()?.set_write_timeout(Some(timeout)),
+            None => Ok(()),
+        }
+    }
+}
+
+// Reads what the peer still sends, for no longer than a connection may rest.
+fn linger<R>(connection: &Connection<R>) -> io::Result<()>
+where
+    R: Net<Listener = TcpListener, Stream = TcpStream> + Clock + Log,
+{
+    let mut stream = connection.stream()?;
+    stream.shutdown(Shutdown::Write)?;
+    stream.set_read_timeout(Some(Duration::from_millis(LINGER)))?;
+    let mut watch = Watch::new(Duration::ZERO);
     let mut buf = [0; 16_384];
     for _ in 0..LINGERING_READS {
-        match stream.read(&mut buf) {
-            Ok(0) | Err(_) => return,
-            Ok(_) => {}
+        watch.timeout(&connection.runtime, connection.patience.rest, 0)?;
+        if stream.read(&mut buf)? == 0 {
+            break;
         }
     }
+    Ok(())
 }
 
-impl Sink for TcpOut {
+impl<R> Sink for TcpOut<R>
+where
+    R: Net<Listener = TcpListener, Stream = TcpStream> + Clock + Log,
+{
     ghost held = { λ _. None };
 
     ghost handed_on = { λ _. None };
@@ -91,26 +148,22 @@ impl Sink for TcpOut {
         ensures never_falls { self.old ≤ self.new }
     {
         let slices = io_slices(parts);
-        for _ in 0..u64::MAX {
-            match self.stream.write_vectored(&slices) {
-                Ok(0) => break,
-                Ok(count) => return Ok(count),
-                Err(error) => {
-                    if error.kind() != ErrorKind::Interrupted {
-                        break;
-                    }
-                }
+        match self.write_in_time(&slices) {
+            Ok(count) => Ok(count),
+            Err(_) => {
+                self.faults = self.faults.saturating_add(1);
+                Err(Failed)
             }
         }
-        self.faults = self.faults.saturating_add(1);
-        Err(Failed)
     }
 
-    // Nothing is kept back.
+    // Nothing is kept back. The reply has ended, and the next byte that comes begins a turn.
     fn flush(&mut self) -> Result<(), Failed>
         ensures done { OnErr result ⊥ }
         ensures sound { self.new ≡ self.old }
     {
+        self.watch.set_back();
+        self.connection.set_rests(true);
         Ok(())
     }
 }
