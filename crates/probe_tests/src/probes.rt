@@ -2,8 +2,7 @@
 ghost use Rattle.std.specs.Prelude.{IfSome};
 ghost use Rattle.leaf_probe.specs.Probe.{IsProbe};
 
-use crate::asked::Probe;
-use crate::probing::probe;
+use leaf_probe::{Probe, probe};
 use parent_rule::Steps;
 use std::alloc::{AllocError, Global};
 use std::test::Fail;

@@ -3,9 +3,9 @@ ghost use Rattle.std.specs.Prelude.{◌≡◌, ◌≤◌, All, IsTrue};
 ghost use Rattle.std.specs.Map.{values_of};
 ghost use Rattle.tile_pixels.specs.Tile.{HasShape};
 
-use crate::merging::{Tiles, merge_up};
 use byteorder::{BigEndian, ByteOrder};
 use healpix_nested::cells;
+use leaf_probe::{Tiles, merge_up};
 use parent_rule::{Depth, Steps};
 use pyramid_model::Shape;
 use pyramid_model::plain::{Leaves, exists, fits, pixels};
