@@ -26,7 +26,7 @@ struct Place {
 
 /// The history that all boards have seen in the end.
 #[derive(Drop)]
-pub(crate) struct Replay {
+pub struct Replay {
     places: Vec<Place>,
     last: Seen,
 }
@@ -121,7 +121,7 @@ fn push_places(places: &mut Vec<Place>, journal: &Journal) -> Result<(), AllocEr
 
 impl Replay {
     /// The history that leads to a state.
-    pub(crate) fn of(alloc: Global, state: &State) -> Result<Replay, AllocError> {
+    pub fn of(alloc: Global, state: &State) -> Result<Replay, AllocError> {
         let mut places = Vec::new(alloc);
         push_places(&mut places, state.journal())?;
         Ok(Replay {
@@ -288,7 +288,7 @@ impl Replay {
     /// # Errors
     ///
     /// Where it doesn't.
-    pub(crate) fn explain_all(&mut self, all: &[Told]) -> Result<(), Fail> {
+    pub fn explain_all(&mut self, all: &[Told]) -> Result<(), Fail> {
         let mut before = Seen { edits: 0, tip: 0 };
         let mut held = None;
         for told in all {
@@ -307,7 +307,7 @@ impl Replay {
     /// # Errors
     ///
     /// Where it isn't so.
-    pub(crate) fn end(&self) -> Result<(), Fail> {
+    pub fn end(&self) -> Result<(), Fail> {
         let mut most = 0;
         let mut k = 0;
         for place in &self.places {

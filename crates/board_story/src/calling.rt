@@ -12,27 +12,33 @@ use tile_pixels::Tile;
 
 /// A call of a board.
 #[derive(Clone, Copy)]
-pub(crate) enum Call {
+pub enum Call {
     /// One edit.
     Edit(Asked),
     /// So many edits, which begin with that one.
     Batch(Asked, u32),
+    /// A publication of all edits.
     Publish,
+    /// A look at what others did.
     Pin,
+    /// The last state seen is held.
     Hold,
+    /// The held state is let go.
     Release,
 }
 
 /// An edit: 0 to put, 1 to add, 2 to replace, 3 to remove, and the leaf.
 #[derive(Clone, Copy)]
-pub(crate) struct Asked {
-    pub(crate) kind: u32,
-    pub(crate) leaf: u32,
+pub struct Asked {
+    /// What is done with the leaf.
+    pub kind: u32,
+    /// Its number.
+    pub leaf: u32,
 }
 
 impl Asked {
     /// The edit that is so many behind it in its batch.
-    pub(crate) fn behind(self, at: u32) -> Asked {
+    pub fn behind(self, at: u32) -> Asked {
         Asked {
             kind: self.kind.wrapping_add(at) % 4,
             leaf: self.leaf.wrapping_add(at) % 16,
@@ -56,25 +62,29 @@ impl Asked {
 
 /// What a board answers.
 #[derive(Clone, Copy)]
-pub(crate) enum Answer {
+pub enum Answer {
     /// An edit or a batch is accepted: how many edits there are then, and whether the leaf of the only edit was absent.
     Accepted(u32, Option<bool>),
     /// The edit at that place has that fault after so many edits.
     Fault(u32, u8, u32),
+    /// What a publication is answered.
     Published(Published),
+    /// The call answers nothing.
     Nothing,
 }
 
 /// How many edits a state has, and how many of them are published.
 #[derive(Clone, Copy, PartialEq, Eq)]
-pub(crate) struct Seen {
-    pub(crate) edits: u32,
-    pub(crate) tip: u32,
+pub struct Seen {
+    /// How many edits it has.
+    pub edits: u32,
+    /// How many of these are published.
+    pub tip: u32,
 }
 
 impl Seen {
     /// Those of a state.
-    pub(crate) fn of(state: &State) -> Seen {
+    pub fn of(state: &State) -> Seen {
         Seen {
             edits: state.edits(),
             tip: state.tip(),
@@ -84,11 +94,15 @@ impl Seen {
 
 /// A call, what was answered, the last state seen then, and the one that is held.
 #[derive(Clone, Copy)]
-pub(crate) struct Told {
-    pub(crate) call: Call,
-    pub(crate) answer: Answer,
-    pub(crate) last: Seen,
-    pub(crate) held: Option<Seen>,
+pub struct Told {
+    /// The call.
+    pub call: Call,
+    /// What was answered.
+    pub answer: Answer,
+    /// The last state seen then.
+    pub last: Seen,
+    /// The one that is held.
+    pub held: Option<Seen>,
 }
 
 // What the board answers to an edit.
@@ -142,7 +156,7 @@ fn batch_of(alloc: Global, first: Asked, count: u32, tile: &Arc<Tile>) -> Option
 }
 
 /// What the board answers to a call; `None` where there is no memory.
-pub(crate) fn made<B: Board, R: Threads + Wait + Sync>(
+pub fn made<B: Board, R: Threads + Wait + Sync>(
     rt: &R,
     alloc: Global,
     board: &mut B,

@@ -13,15 +13,17 @@ use tile_pixels::Tile;
 
 /// A board with what it told, and how many of its calls were refused.
 #[derive(Drop)]
-pub(crate) struct Teller<'a, J: Naming> {
+pub struct Teller<'a, J: Naming> {
     board: Shared<'a, J>,
-    pub(crate) told: Vec<Told>,
-    pub(crate) refused: u32,
+    /// What it told.
+    pub told: Vec<Told>,
+    /// How many of its calls were refused.
+    pub refused: u32,
 }
 
 impl<'a, J: Naming> Teller<'a, J> {
     /// What the board answers to a call; `None` where there is no memory.
-    pub(crate) fn ask<R: Threads + Wait + Sync>(
+    pub fn ask<R: Threads + Wait + Sync>(
         &mut self,
         rt: &R,
         alloc: Global,
@@ -31,8 +33,12 @@ impl<'a, J: Naming> Teller<'a, J> {
         made(rt, alloc, &mut self.board, tile, call)
     }
 
-    /// What the board was answered, and what it sees then.
-    pub(crate) fn note(&mut self, call: Call, answer: Answer) -> Result<(), AllocError> {
+    /// Notes what the board was answered, and what it sees then.
+    ///
+    /// # Errors
+    ///
+    /// Where there is no memory.
+    pub fn note(&mut self, call: Call, answer: Answer) -> Result<(), AllocError> {
         let told = Told {
             call,
             answer,
@@ -49,7 +55,11 @@ impl<'a, J: Naming> Teller<'a, J> {
 }
 
 /// A board at each place.
-pub(crate) fn tellers<'a, J: Naming>(
+///
+/// # Errors
+///
+/// Where there is no memory.
+pub fn tellers<'a, J: Naming>(
     alloc: Global,
     survey: &'a Survey<J>,
     seats: Vec<SurveySeat<J>>,
@@ -66,10 +76,11 @@ pub(crate) fn tellers<'a, J: Naming>(
 }
 
 /// A tile of their survey.
-pub(crate) fn tile_of<'a, J: Naming>(
-    alloc: Global,
-    tellers: &[Teller<'a, J>],
-) -> Result<Arc<Tile>, Fail> {
+///
+/// # Errors
+///
+/// Where there is no board, its survey has other tiles, or there is no memory.
+pub fn tile_of<'a, J: Naming>(alloc: Global, tellers: &[Teller<'a, J>]) -> Result<Arc<Tile>, Fail> {
     let first = tellers.first().ok_or("no board")?;
     tile(alloc, first.board.last().conf().shape().depth)
 }
@@ -79,7 +90,7 @@ pub(crate) fn tile_of<'a, J: Naming>(
 /// # Errors
 ///
 /// Where there is no board.
-pub(crate) fn meet<'a, J: Naming>(tellers: &mut [Teller<'a, J>]) -> Result<(), Fail> {
+pub fn meet<'a, J: Naming>(tellers: &mut [Teller<'a, J>]) -> Result<(), Fail> {
     let (first, others) = tellers.split_first_mut().ok_or("no board")?;
     for _ in 0..2 {
         meet_each(&mut first.board, others)?;
@@ -102,10 +113,7 @@ fn meet_each<'a, J: Naming>(
 /// # Errors
 ///
 /// Where it doesn't, or the boards have seen different states.
-pub(crate) fn explained<'a, J: Naming>(
-    alloc: Global,
-    tellers: &[Teller<'a, J>],
-) -> Result<Seen, Fail> {
+pub fn explained<'a, J: Naming>(alloc: Global, tellers: &[Teller<'a, J>]) -> Result<Seen, Fail> {
     let first = tellers.first().ok_or("no board")?.board.last();
     let mut replay = replay_of(alloc, first)?;
     explain_each(&mut replay, tellers, Seen::of(first))

@@ -17,9 +17,11 @@ use tile_pixels::Tile;
 
 /// How the story ended: the last state, and how many calls were refused and made again.
 #[derive(Clone, Copy)]
-pub(crate) struct Ending {
-    pub(crate) last: Seen,
-    pub(crate) refused: u32,
+pub struct Ending {
+    /// The last state.
+    pub last: Seen,
+    /// How many calls were refused and made again.
+    pub refused: u32,
 }
 
 // The most calls of one board, with those that are refused.
@@ -62,10 +64,7 @@ static END: [(usize, Call); 10] = [
 /// # Errors
 ///
 /// Where there is no memory to begin it, or a call is refused again and again.
-pub(crate) fn play<R: Threads + Wait + Print + Sync>(
-    rt: &R,
-    alloc: Global,
-) -> Result<Ending, Fail> {
+pub fn play<R: Threads + Wait + Print + Sync>(rt: &R, alloc: Global) -> Result<Ending, Fail> {
     let state = first_state(rt, alloc)?;
     open::<Brand, R>(rt, alloc, SurveyBook::new(), state)
 }

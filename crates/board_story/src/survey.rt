@@ -1,4 +1,4 @@
-//! The survey of the tests, and the edits that fit it.
+//! The survey of the story and of the tests, and the edits that fit it.
 ghost use Rattle.std.specs.Prelude.{◌≡◌, [], map, All, IfOk, IsTrue};
 ghost use Rattle.std.specs.Arc.{arc_value};
 ghost use Rattle.edit_journal.specs.Edit.{edit_of};
@@ -53,16 +53,24 @@ fn first_generation<R: Threads + Sync>(
     Ok(Arc::new(alloc, generation)?)
 }
 
-// The first state of the survey, which has no leaf yet.
-pub(crate) fn first_state<R: Threads + Sync>(rt: &R, alloc: Global) -> Result<State, Fail>
+/// The first state of the survey, which has no leaf yet.
+///
+/// # Errors
+///
+/// Where there is no memory.
+pub fn first_state<R: Threads + Sync>(rt: &R, alloc: Global) -> Result<State, Fail>
     ensures { IfOk result (λ state. state.batches ≡ []) }
 {
     let generation = first_generation(rt, alloc, conf(alloc)?)?;
     Ok(State::start(alloc, generation)?)
 }
 
-// A tile of two columns and two lines of 16 bits.
-pub(crate) fn tile(alloc: Global, depth: Depth) -> Result<Arc<Tile>, Fail> {
+/// A tile of two columns and two lines of 16 bits.
+///
+/// # Errors
+///
+/// Where the depth is another, or there is no memory.
+pub fn tile(alloc: Global, depth: Depth) -> Result<Arc<Tile>, Fail> {
     if depth.bytes() != 2 {
         return Err("other tiles".into());
     }
@@ -70,8 +78,8 @@ pub(crate) fn tile(alloc: Global, depth: Depth) -> Result<Arc<Tile>, Fail> {
     Ok(Arc::new(alloc, tile)?)
 }
 
-// Whether the edit fits the survey of a state.
-pub(crate) fn fits(state: &State, edit: &Edit) -> bool
+/// Whether the edit fits the survey of a state.
+pub fn fits(state: &State, edit: &Edit) -> bool
     ensures { IsTrue result → FitsEdit state.now.conf.shape (edit_of edit.now) }
 {
     let shape = state.conf().shape();
@@ -84,7 +92,8 @@ pub(crate) fn fits(state: &State, edit: &Edit) -> bool
     }
 }
 
-pub(crate) fn all_fit(state: &State, edits: &[Edit]) -> bool
+/// Whether each of the edits fits it.
+pub fn all_fit(state: &State, edits: &[Edit]) -> bool
     ensures { IsTrue result → All (FitsEdit state.now.conf.shape) (map edit_of edits.now) }
 {
     for edit in edits {
