@@ -1,6 +1,6 @@
 //! A survey through the board of its only connection.
 use crate::calls::check_all;
-use crate::survey::first_state;
+use board_story::first_state;
 use reader_pin::Solo;
 use std::test::Fail;
 

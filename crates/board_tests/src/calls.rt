@@ -1,5 +1,5 @@
 //! Calls of boards as lines of text, and what they are answered.
-use crate::survey::{all_fit, fits, tile};
+use board_story::{all_fit, fits, tile};
 use edit_journal::Edit;
 use parent_rule::{Depth, Steps};
 use reader_pin::{Board, BoardBatch, BoardRefusal, Published};

@@ -1,28 +1,23 @@
 //! Tests of the boards of `reader_pin`, over the finished crate: in it they would have it proved a second time.
 //!
-//! The program plays a story of three boards, as `scripts/check-memory.sh` runs it with memory refused at one request after
+//! The program plays the story of `board_story`, as `scripts/check-memory.sh` runs it with memory refused at one request after
 //! another. It prints `begun` once the survey is open, and in the end how many edits there are, how many of them are published,
 //! and how many calls were refused and made again.
 #![tactic(auto)]
 
 #[cfg(test)]
 mod alone;
-mod calling;
 #[cfg(test)]
 mod calls;
 #[cfg(test)]
 mod gates;
-mod replay;
 #[cfg(test)]
 mod shared;
 #[cfg(test)]
 mod storm;
-mod story;
-mod survey;
-mod teller;
 
+use board_story::play;
 use std::test::Fail;
-use story::play;
 
 fn main(rt: HostRuntime) -> Result<(), Fail> {
     let ending = play(&rt, rt.alloc())?;

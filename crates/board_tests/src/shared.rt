@@ -4,7 +4,7 @@ ghost use Rattle.std.specs.Prelude.{◌≡◌, ◌<◌, ◌≤◌};
 use crate::calls::{check_all, edit};
 use crate::gates::{CountingGate, EditGate};
 use crate::storm::storm;
-use crate::survey::{first_state, fits};
+use board_story::{first_state, fits};
 use edit_journal::Edit;
 use parent_rule::Steps;
 use reader_pin::{Board, Published, Shared, Survey, SurveyBook, SurveySeat, open_shared};

@@ -1,6 +1,5 @@
 //! Many boards of one survey, whose random calls are explained by one history.
-use crate::calling::{Asked, Call};
-use crate::teller::{Teller, explained, meet, tellers, tile_of};
+use board_story::{Asked, Call, Teller, explained, meet, tellers, tile_of};
 use reader_pin::{Survey, SurveySeat};
 use shared_history::Naming;
 use std::alloc::Global;

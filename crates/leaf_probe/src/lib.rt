@@ -9,15 +9,12 @@ mod asked;
 mod fault;
 mod leaves;
 mod merging;
-#[cfg(test)]
-mod merging_tests;
 mod output;
 mod probing;
 mod records;
-#[cfg(test)]
-mod tests;
 
 pub use asked::Probe;
 pub use fault::ProbeFault;
+pub use merging::{Tiles, merge_up};
 pub use output::write_out;
 pub use probing::probe;

@@ -1,4 +1,0 @@
-use Rattle.board_tests.proofs.story.play.Given as goal
-
-abbrev pub ghosts-open : goal.ghosts-open
-ghosts-open g a = record { book = a.book }
