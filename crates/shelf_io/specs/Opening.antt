@@ -1,7 +1,7 @@
 -- What a shelf of files opens as: the description of a survey with its leaf tiles, or the first refusal that the files show.
 -- The paths of tiles are those of HiPS 1.0 (section 4); where the description stands, the limit on leaves and the order of
 -- the refusals are this project's profile.
-use Rattle.std.specs.Prelude.{◌≡◌, ℕ, ◌+◌, ◌*◌, max, nat_lt, if◌then◌else◌, List, length, filter, ℤ, Option, Some, None, option_map, option_and_then, Result, Ok, Err, codes, slice_get}
+use Rattle.std.specs.Prelude.{◌≡◌, ℕ, ◌+◌, ◌*◌, nat_lt, if◌then◌else◌, List, length, filter, ℤ, Option, Some, None, option_map, option_and_then, Result, Ok, Err, codes, slice_get}
 use Rattle.std.specs.List.{filter_map, range_with_len}
 use Rattle.std.specs.Option.{option_map_or, option_or}
 use Rattle.std.specs.Result.{result_ok, result_err}
@@ -14,10 +14,9 @@ use Rattle.survey_conf.specs.Description.{Description, description_of}
 use Rattle.survey_conf.specs.Faults.{fault_of}
 use Rattle.pyramid_model.specs.Shape.{PyramidShape}
 use Rattle.tile_pixels.specs.Tile.{PixelTile}
-use Rattle.fits_tile.specs.TileFile.{data_len}
 use Rattle.fits_tile.specs.Reading.{reads}
 use Rattle.fits_tile.specs.declared.fault.TileFault.{TileFault}
-use Rattle.edit_journal.specs.Leaves.{LeafTiles}
+use Rattle.edit_journal.specs.Leaves.{LeafTiles, leaf_charge}
 use Rattle.edit_journal.specs.Faults.{most_charge}
 use Rattle.generation.specs.Files.{leaf_map}
 use Rattle.generation.specs.Steps.{tiles_above}
@@ -50,9 +49,9 @@ leaf_path top leaf = spelling (TilePath (leaf_cell top leaf))
 unfoldable pub leaves_on : ShelfFiles → ℕ → List ℕ
 leaves_on files top = filter (λ leaf. contains_key files (leaf_path top leaf)) (range_with_len 0 (cell_count top))
 
--- what is charged for so many leaves: the stored bytes of each, and 1,024 at least
+-- what is charged for so many leaves
 abbrev pub charge_for : PyramidShape → ℕ → ℕ
-charge_for shape count = count * max 1024 (data_len shape)
+charge_for shape count = count * leaf_charge shape
 
 -- what the file of a leaf reads as, where there is one
 abbrev pub leaf_reads : ShelfFiles → Description → ℕ → Option (Result (List ℤ) TileFault)

@@ -1,17 +1,11 @@
 //! How many leaves a shelf may have.
-ghost use Rattle.std.specs.Prelude.{◌≡◌, max};
+ghost use Rattle.std.specs.Prelude.{◌≡◌};
 ghost use Rattle.std.specs.Result.{result_err};
-ghost use Rattle.fits_tile.specs.TileFile.{data_len};
 ghost use Rattle.shelf_io.specs.Opening.{count_refusal};
 
 use crate::refusal::LoadRefusal;
+use edit_journal::{MOST_CHARGE, leaf_charge};
 use pyramid_model::Shape;
-
-// The greatest charge of a survey's leaves, in bytes.
-const MOST_CHARGE: u64 = 1 << 29;
-
-// The least that a leaf is charged with.
-const LEAST_CHARGE: u64 = 1024;
 
 /// Judges how many leaves there are.
 ///
@@ -27,12 +21,4 @@ pub(crate) fn judge_count(shape: Shape, count: usize) -> Result<(), LoadRefusal>
         return Err(LoadRefusal::TooMany { leaves });
     }
     Ok(())
-}
-
-// What a leaf is charged with: its stored bytes, and 1,024 at least.
-fn leaf_charge(shape: Shape) -> u64
-    ensures { result ≡ max 1024 (data_len shape) }
-{
-    let numbers = 4u64.pow(u32::from(shape.n));
-    (numbers * u64::from(shape.depth.bitpix() / 8)).max(LEAST_CHARGE)
 }

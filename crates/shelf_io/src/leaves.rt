@@ -4,6 +4,7 @@ ghost use Rattle.std.specs.List.{filter_map, cons_option};
 ghost use Rattle.std.specs.Map.{keys_of};
 ghost use Rattle.std.specs.List.Sorted.{IsStrictlyIncreasing};
 ghost use Rattle.healpix_nested.specs.Cells.{cell_count};
+ghost use Rattle.dirty_plan.specs.Dirty.{steps_after};
 ghost use Rattle.tile_pixels.specs.Tile.{PixelTile, HasShape};
 ghost use Rattle.survey_link.specs.Link.{Rises};
 ghost use Rattle.leaf_store.specs.Store.{IsAscending};
@@ -52,10 +53,13 @@ pub(crate) fn read_leaves<R: Clock + Log, H: Shelf>(
     ensures kept { H.files shelf.new ≡ H.files shelf.old }
     ensures failed { IsErrOf result LoadRefusal.ShelfFault → Rises (H.faults shelf.old) (H.faults shelf.new) }
     ensures never_falls { H.faults shelf.old ≤ H.faults shelf.new }
+    ensures counted { IfOk result (λ tiles. steps.new ≡ steps_after steps.old (length tiles)) }
     ensures steps { IfOk result (λ tiles. steps.new ≤ steps.old + length tiles) }
     ensures steps_at_most { steps.new ≤ steps.old + length leaves.now }
     ensures steps_never_fall { steps.old ≤ steps.new }
 {
+    // A count fits 64 bits.
+    let _count = steps.count();
     let mut tiles = Store::new(alloc);
     let mut progress = Progress::begin(rt, "leaves read", leaves.len() as u64);
     for leaf in leaves {
@@ -88,6 +92,7 @@ fn add_leaf<H: Shelf>(
     ensures failed { IsErrOf result LoadRefusal.ShelfFault → Rises (H.faults shelf.old) (H.faults shelf.new) }
     ensures never_falls { H.faults shelf.old ≤ H.faults shelf.new }
     ensures count { length tiles.new ≤ length tiles.old + 1 }
+    ensures counted { OnOk result ((count : ℕ) → steps.old ≡ steps_after count (length tiles.old) → steps.new ≡ steps_after count (length tiles.new)) }
     ensures steps { OnOk result (steps.new + length tiles.old ≤ steps.old + length tiles.new) }
     ensures steps_at_most { steps.new ≤ steps.old + 1 }
     ensures steps_never_fall { steps.old ≤ steps.new }
@@ -127,10 +132,13 @@ fn read_leaf<H: Shelf>(
     ensures kept { H.files shelf.new ≡ H.files shelf.old }
     ensures failed { IsErrOf result LoadRefusal.ShelfFault → Rises (H.faults shelf.old) (H.faults shelf.new) }
     ensures never_falls { H.faults shelf.old ≤ H.faults shelf.new }
+    ensures counted { IfOk result (λ tile. steps.new ≡ steps_after steps.old (length (cons_option tile []))) }
     ensures steps { IfOk result (λ tile. steps.new ≤ steps.old + length (cons_option tile [])) }
     ensures steps_at_most { steps.new ≤ steps.old + 1 }
     ensures steps_never_fall { steps.old ≤ steps.new }
 {
+    // A count fits 64 bits.
+    let _count = steps.count();
     let cell = Cell::new(conf.shape().top, leaf).unwrap();
     let path = Path::Tile(cell).to_string(alloc)?;
     match shelf.get(alloc, &path)? {

@@ -3,6 +3,7 @@ ghost use Rattle.std.specs.Prelude.{◌≡◌, ◌+◌, ◌≤◌, [], length, I
 ghost use Rattle.std.specs.Result.{result_err};
 ghost use Rattle.std.specs.Arc.{arc_value};
 ghost use Rattle.survey_link.specs.Link.{Rises};
+ghost use Rattle.dirty_plan.specs.Dirty.{steps_after};
 ghost use Rattle.edit_journal.specs.Leaves.{charge_of, FitsLeaves};
 ghost use Rattle.edit_journal.specs.Faults.{most_charge};
 ghost use Rattle.generation.specs.Files.{leaf_map};
@@ -28,8 +29,8 @@ use tile_pixels::Tile;
 
 /// The generation that the shelf's files describe: that of `survey.conf` and of every path of a tile of the leaves' order. No
 /// edit is in it. Leaves are read one after another, by ascending number; one that is listed and gone when it is read counts
-/// as absent. The steps rise by one for each leaf, and by at most the number of tiles that exist above the leaves. The shelf
-/// stays as it is. How many leaves are read is logged, at most once a second.
+/// as absent. The steps rise by one for each leaf and for each tile that exists above the leaves. The shelf stays as it is.
+/// How many leaves are read is logged, at most once a second.
 ///
 /// # Errors
 ///
@@ -52,6 +53,8 @@ pub fn load<R: Threads + Sync + Clock + Log, H: Shelf, G: Gate + Sync>(
     ensures failed { IsErrOf result LoadRefusal.ShelfFault → Rises (H.faults shelf.old) (H.faults shelf.new) }
     ensures kept { H.files shelf.new ≡ H.files shelf.old }
     ensures never_falls { H.faults shelf.old ≤ H.faults shelf.new }
+    ensures counted { IfOk result (λ made. steps.new ≡ steps_after steps.old
+        (length made.leaves + tiles_above made.conf.shape (leaf_map made.leaves))) }
     ensures steps { IfOk result (λ made. steps.new ≤ steps.old
         + (length made.leaves + tiles_above made.conf.shape (leaf_map made.leaves))) }
     ensures steps_told { IfSome (H.files shelf.old) (λ files. steps.new ≤ steps.old + opening_steps files) }
@@ -85,6 +88,7 @@ fn read_survey<R: Clock + Log, H: Shelf>(
     ensures failed { IsErrOf result LoadRefusal.ShelfFault → Rises (H.faults shelf.old) (H.faults shelf.new) }
     ensures kept { H.files shelf.new ≡ H.files shelf.old }
     ensures never_falls { H.faults shelf.old ≤ H.faults shelf.new }
+    ensures counted { IfOk result (λ survey. steps.new ≡ steps_after steps.old (length survey.leaves)) }
     ensures steps { IfOk result (λ survey. steps.new ≤ steps.old + length survey.leaves) }
     ensures steps_told { IfSome (H.files shelf.old) (λ files. steps.new ≤ steps.old + leaf_count files) }
     ensures steps_never_fall { steps.old ≤ steps.new }
@@ -107,6 +111,7 @@ fn build<R: Threads + Sync, G: Gate + Sync>(
 ) -> Result<Generation, AllocError>
     requires { FitsLeaves survey.conf.shape survey.leaves }
     ensures made { IfOk result (λ made. made ≡ record { conf = survey.conf; prefix = 0; leaves = survey.leaves }) }
+    ensures counted { OnOk result (steps.new ≡ steps_after steps.old (tiles_above survey.conf.shape (leaf_map survey.leaves))) }
     ensures steps { steps.new ≤ steps.old + tiles_above survey.conf.shape (leaf_map survey.leaves) }
     ensures steps_never_fall { steps.old ≤ steps.new }
 {

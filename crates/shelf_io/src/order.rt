@@ -1,7 +1,7 @@
 //! Paths by the bytes of their spellings.
 ghost use Rattle.std.specs.Prelude.{◌≡◌, All, IfSome, Some, if◌then◌else◌};
 ghost use Rattle.tile_path.specs.Spelling.{IsPath};
-ghost use Rattle.shelf_io.specs.Comparing.{earlier_of as earlier_of_lem, earlier as earlier_lem, first_path as first_path_lem};
+ghost use Rattle.shelf_io.specs.Comparing.{earlier_of as spec_earlier_of, earlier as spec_earlier, first_path as spec_first_path};
 
 use std::cmp::Ordering;
 use tile_path::Path;
@@ -13,7 +13,7 @@ const LONGEST: usize = 38;
 pub(crate) fn first_path(paths: &[Path]) -> Option<Path>
     requires { All IsPath paths.now }
     ensures path { IfSome result IsPath }
-    ensures first { result ≡ first_path_lem paths.now }
+    ensures first { result ≡ spec_first_path paths.now }
 {
     let mut first = None;
     for path in paths {
@@ -27,7 +27,7 @@ pub(crate) fn first_after(first: Option<Path>, path: Path, agree: bool) -> Optio
     requires first { IfSome first IsPath }
     requires path { IsPath path }
     ensures path { IfSome result IsPath }
-    ensures first { result ≡ (if agree then first else Some (earlier_lem first path)) }
+    ensures first { result ≡ (if agree then first else Some (spec_earlier first path)) }
 {
     if agree {
         first
@@ -41,7 +41,7 @@ fn earlier(first: Option<Path>, path: Path) -> Path
     requires first { IfSome first IsPath }
     requires path { IsPath path }
     ensures path { IsPath result }
-    ensures earlier { result ≡ earlier_lem first path }
+    ensures earlier { result ≡ spec_earlier first path }
 {
     match first {
         Some(first) => earlier_of(first, path),
@@ -54,7 +54,7 @@ fn earlier_of(first: Path, path: Path) -> Path
     requires first { IsPath first }
     requires path { IsPath path }
     ensures path { IsPath result }
-    ensures earlier { result ≡ earlier_of_lem first path }
+    ensures earlier { result ≡ spec_earlier_of first path }
 {
     let mut first_text = [0; LONGEST];
     let mut text = [0; LONGEST];

@@ -6,7 +6,7 @@ ghost use Rattle.std.specs.FinMap.{get};
 ghost use Rattle.survey_link.specs.Link.{Rises};
 ghost use Rattle.tile_path.specs.Spelling.{IsPath, spelling};
 ghost use Rattle.generation.specs.Files.{paths_in, files_in};
-ghost use Rattle.shelf_io.specs.Comparing.{agrees_at, first_after as first_after_lem};
+ghost use Rattle.shelf_io.specs.Comparing.{agrees_at, first_after as spec_first_after};
 ghost use Rattle.shelf_io.specs.Survey.{IsVerdict, CountsFiles};
 
 use crate::buffer::{FRONT_LEN, buffer};
@@ -61,7 +61,7 @@ fn first_difference<R: Clock + Log, H: Shelf>(
     requires { IfSome first IsPath }
     ensures path { IfOk result (λ path. IfSome path IsPath) }
     ensures first { IfOk result (λ path. IfSome (H.files shelf.old) (λ files.
-        path ≡ fold (first_after_lem (files_in generation.now) files) first (paths_in generation.now))) }
+        path ≡ fold (spec_first_after (files_in generation.now) files) first (paths_in generation.now))) }
     ensures kept { H.files shelf.new ≡ H.files shelf.old }
     ensures failed { IsErrOf result LinkFault.Failed → Rises (H.faults shelf.old) (H.faults shelf.new) }
     ensures never_falls { H.faults shelf.old ≤ H.faults shelf.new }

@@ -30,6 +30,7 @@ loop-leaf-preserved g c =
       sound = sound_more (g.H.Shelf.files c.loop-leaf.shelf) (g.H.Shelf.files c.args.shelf.now) c.loop-leaf.invariant.kept c.args.conf.now c.args.leaves.now c.loop-leaf.leaf-index leaf c.loop-leaf-test.true at
           c.loop-leaf.invariant.sound c.in_ok-add_leaf.ensures.sound;
       count = omega (arith, c.add_leaf.ensures.count, c.loop-leaf.invariant.count);
+      counted = c.in_ok-add_leaf.ensures.counted c.args.steps.now c.loop-leaf.invariant.counted;
       steps = omega (arith, c.in_ok-add_leaf.ensures.steps, c.loop-leaf.invariant.steps);
       rises = omega (arith, c.add_leaf.ensures.steps_never_fall, c.loop-leaf.invariant.rises);
     }
