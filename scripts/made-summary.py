@@ -1,5 +1,5 @@
 #!/usr/bin/python3
-"""Prints the rows MADE of crates/hipsd/src/make_tests.rt, and one of scripts/check-statuses.sh: NUMBER, EDITS and the line that
+"""Prints the rows MADE of crates/run_tests/src/make.rt, and one of scripts/check-statuses.sh: NUMBER, EDITS and the line that
 `hipsd make` writes. The surveys are made here from docs/DEFINITIONS.md and docs/FORMATS.md, cell by cell, with nothing of the
 program, by survey_files.py.
 
@@ -13,7 +13,7 @@ from pathlib import Path
 from survey_files import Survey
 
 TOP_FOLDER = Path(__file__).parent.parent
-TABLES = ("crates/hipsd/src/make_tests.rt", "scripts/check-statuses.sh")
+TABLES = ("crates/run_tests/src/make.rt", "scripts/check-statuses.sh")
 # In the second the eighth edit takes a leaf away, in the third three leaves have one parent.
 ROWS = ((0, 1), (1479, 8), (26741, 8), (7, 4096))
 MADE = Survey("make", "Made survey", top=5, low=3, width=32)

@@ -1,5 +1,5 @@
 #!/usr/bin/python3
-"""Prints the table SCRIPTS of crates/survey_make/src/tests.rt: number, edits, length, sum of the bytes, sum of each byte times
+"""Prints the table SCRIPTS of crates/run_tests/src/script.rt: number, edits, length, sum of the bytes, sum of each byte times
 its place. The scripts are made here from docs/FORMATS.md, "The made survey", with nothing of the program.
 
 With --check it compares the rows with the table that stands there, and ends with status 1 where one differs or is missing.
@@ -10,7 +10,7 @@ import struct
 import sys
 from pathlib import Path
 
-TEST = Path(__file__).parent.parent / "crates/survey_make/src/tests.rt"
+TEST = Path(__file__).parent.parent / "crates/run_tests/src/script.rt"
 ROWS = ((0, 1), (0, 8), (7, 64), (7, 4096))
 PUBLISH = b"POST /publish HTTP/1.1\r\nHost: make\r\n\r\n"
 

@@ -1,39 +1,22 @@
 //! `hipsd`: a server for HiPS sky maps.
 //!
-//! `run` is the whole program over the ends that it is given; `main` makes the real ones. The commands of today are `probe`,
-//! `session`, `serve`, `export`, `verify` and `make`.
+//! `run` of the crate `hipsd_run` is the whole program over the ends that it is given; `main` makes the real ones and calls it.
+//! The commands of today are `probe`, `session`, `serve`, `export`, `verify` and `make`.
 #![tactic(auto)]
 
 ghost use Rattle.std.specs.Prelude.{◌≡◌, ◌⊎◌, ◌≤◌, IfOk, MatchResult};
 ghost use Rattle.std.specs.Process.{exit_status};
 ghost use Rattle.healpix_nested.specs.Cells.{cell_count};
 ghost use Rattle.leaf_probe.specs.declared.asked.Probe.{Probe as AskedProbe};
-ghost use Rattle.hipsd.specs.declared.command.Command.TheVariants.{Probe as ProbeCommand};
-ghost use Rattle.hipsd.specs.Command.{texts, Asks, IsCommand};
+ghost use Rattle.hipsd_run.specs.declared.command.Command.TheVariants.{Probe as ProbeCommand};
+ghost use Rattle.hipsd_run.specs.Command.{texts, Asks, IsCommand};
 
-mod command;
-#[cfg(test)]
-mod make_tests;
-mod run;
-#[cfg(test)]
-mod runs;
-#[cfg(test)]
-mod serve_tests;
-#[cfg(test)]
-mod session_tests;
-#[cfg(test)]
-mod survey_tests;
-#[cfg(test)]
-mod tests;
-#[cfg(test)]
-mod together_tests;
-
+use hipsd_run::{run, words};
 use log::sink::Console;
 use log::{LevelFilter, Log, Logged};
 use parent_rule::Steps;
-use run::run;
 use std::alloc::Global;
-use std::io::{BufReader, BufWriter, ErrorKind};
+use std::io::{BufReader, BufWriter};
 use std::net::{Net, TcpListener, TcpStream};
 use std::process::ExitCode;
 use std::rt::{Env, Runtime};
@@ -48,21 +31,6 @@ const NO_MEMORY: u8 = 11;
 
 /// How many doors there are.
 const DOORS: usize = 64;
-
-// The words of a command line, without the program's name; none where one is not UTF-8, since no command has such a word.
-fn words(alloc: Global, args: io::Result<env::Args>) -> io::Result<Vec<String>> {
-    let mut words = Vec::new(alloc);
-    match args {
-        Ok(args) => {
-            for word in args.skip(1) {
-                words.push(word)?;
-            }
-        }
-        Err(error) if error.kind() == ErrorKind::InvalidData => {}
-        Err(error) => return Err(error),
-    }
-    Ok(words)
-}
 
 // Runs the words over standard input and output and the current folder, and passes the status on.
 fn run_words<R>(rt: &R, words: &[String]) -> io::Result<u8>

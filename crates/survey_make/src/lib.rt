@@ -8,8 +8,6 @@ mod conf;
 mod edit;
 mod making;
 mod request;
-#[cfg(test)]
-mod tests;
 
 pub use conf::{make_conf, read_conf};
 pub use making::script;

@@ -1,6 +1,6 @@
 use Rattle.std.proofs.Common.{◌≡◌, length, ap, ◌∙◌, arith}
 use Rattle.std.proofs.lemmas.List.{length-replicate}
-use Rattle.hipsd.proofs.CommandLemmas.{none_for, none_at_all}
+use Rattle.hipsd.proofs.WordsLemmas.{none_for, none_at_all}
 use Rattle.hipsd.proofs.run_words.Goals as goal
 
 pub returns-clause-usage : goal.returns-clause-usage

@@ -1,0 +1,21 @@
+-- No command needs more doors than there are.
+use Rattle.std.proofs.Common.{ℕ, ◌≤◌, List, arith}
+use Rattle.hipsd_run.specs.Command.{Asks, IsCommand, IsCommandFor, doors_of}
+use Rattle.survey_commands.specs.Serve.{IsServe}
+use Rattle.hipsd_run.specs.declared.command.Command.{Command}
+use Rattle.hipsd_run.specs.declared.command.Command.TheVariants.{Probe as ProbeCommand, Session, Export, Verify, Make, Serve}
+
+-- words that ask for nothing ask for nothing, however many doors there are
+pub none_for : (words : List (List ℕ)) (doors : ℕ) → ¬ IsCommand words → ¬ IsCommandFor doors words
+none_for words doors none (command, asks, fits) = none (command, asks)
+
+few_doors : (words : List (List ℕ)) (command : Command) → Asks words command → doors_of command ≤ 64
+few_doors words (ProbeCommand asked) asks = omega arith
+few_doors words Session asks = omega arith
+few_doors words Export asks = omega arith
+few_doors words Verify asks = omega arith
+few_doors words (Make n m) asks = omega arith
+few_doors words (Serve n m) asks = let range : IsServe n m = asks.in_range in omega arith
+
+pub none_at_all : (words : List (List ℕ)) (doors : ℕ) → 64 ≤ doors → ¬ IsCommandFor doors words → ¬ IsCommand words
+none_at_all words doors many none (command, asks) = let few = few_doors words command asks in none (command, asks, omega arith)

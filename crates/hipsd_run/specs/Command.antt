@@ -1,0 +1,88 @@
+-- What the words of a command line ask for. Numbers are plain decimals, without a sign and without leading zeros.
+use Rattle.std.specs.Prelude.{◌≡◌, ℕ, ◌≤◌, Bool, true, false, List, [], ◌∷◌, map, codes, decimal, String, string_bytes, ⊤}
+use Rattle.std.specs.declared.alloc.Global.{Global}
+use Rattle.leaf_probe.specs.Probe.{IsProbe}
+use Rattle.survey_commands.specs.Make.{IsMake}
+use Rattle.survey_commands.specs.Serve.{IsServe}
+use Rattle.hipsd_run.specs.declared.command.Command.{Command}
+use Rattle.hipsd_run.specs.declared.command.Command.TheVariants.{Probe as ProbeCommand, Session, Export, Verify, Make, Serve}
+
+-- the bytes of each word
+abbrev pub texts : List (String Global) → List (List ℕ)
+texts words = map string_bytes words
+
+-- the words that ask for a command, where this is the address at which connections come in
+abbrev pub words_of : List ℕ → Command → List (List ℕ)
+words_of address (ProbeCommand asked) = codes "probe" ∷ decimal asked.top ∷ decimal asked.n ∷ decimal asked.order ∷ decimal asked.npix ∷ []
+words_of address Session = codes "session" ∷ []
+words_of address Export = codes "export" ∷ []
+words_of address Verify = codes "verify" ∷ []
+words_of address (Make number edits) = codes "make" ∷ decimal number ∷ decimal edits ∷ []
+words_of address (Serve connections places) = codes "serve" ∷ address ∷ decimal connections ∷ decimal places ∷ []
+
+abbrev pub IsInRange : Command → Type 0
+IsInRange (ProbeCommand asked) = IsProbe asked
+IsInRange Session = ⊤
+IsInRange Export = ⊤
+IsInRange Verify = ⊤
+IsInRange (Make number edits) = IsMake number edits
+IsInRange (Serve connections places) = IsServe connections places
+
+-- the words ask for this command; any word may be the address
+pub record Asks (words : List (List ℕ)) (command : Command) : Type 0 where
+  pub address : List ℕ
+  pub spelled : words ≡ words_of address command
+  pub in_range : IsInRange command
+
+-- the words are a row of the table of commands
+abbrev pub IsCommand : List (List ℕ) → Type 0
+IsCommand words = (command : Command) × Asks words command
+
+-- how many doors a command needs
+abbrev pub doors_of : Command → ℕ
+doors_of (ProbeCommand asked) = 0
+doors_of Session = 0
+doors_of Export = 0
+doors_of Verify = 0
+doors_of (Make number edits) = 0
+doors_of (Serve connections places) = places
+
+-- they are a row of it where there are so many doors
+abbrev pub IsCommandFor : ℕ → List (List ℕ) → Type 0
+IsCommandFor doors words = (command : Command) × Asks words command × (doors_of command ≤ doors)
+
+-- ---- what a command looks at
+
+abbrev pub reads_source : Command → Bool
+reads_source (ProbeCommand asked) = true
+reads_source Session = true
+reads_source Export = false
+reads_source Verify = false
+reads_source (Make number edits) = false
+reads_source (Serve connections places) = false
+
+abbrev pub opens_shelf : Command → Bool
+opens_shelf (ProbeCommand asked) = false
+opens_shelf Session = true
+opens_shelf Export = true
+opens_shelf Verify = true
+opens_shelf (Make number edits) = false
+opens_shelf (Serve connections places) = true
+
+-- only `export` writes files
+abbrev pub writes_files : Command → Bool
+writes_files (ProbeCommand asked) = false
+writes_files Session = false
+writes_files Export = true
+writes_files Verify = false
+writes_files (Make number edits) = false
+writes_files (Serve connections places) = false
+
+-- only `serve` takes connections
+abbrev pub opens_doors : Command → Bool
+opens_doors (ProbeCommand asked) = false
+opens_doors Session = false
+opens_doors Export = false
+opens_doors Verify = false
+opens_doors (Make number edits) = false
+opens_doors (Serve connections places) = true

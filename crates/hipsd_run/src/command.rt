@@ -1,0 +1,163 @@
+//! What the words of a command line ask for.
+ghost use Rattle.std.specs.Prelude.{◌≡◌, ◌≢◌, ℕ, ◌≤◌, List, [], ◌∷◌, IfSome, IfNone, MatchOption, codes, decimal};
+ghost use Rattle.hipsd_run.specs.Command.{texts, Asks, IsCommand, IsCommandFor, doors_of};
+ghost use Rattle.leaf_probe.specs.declared.asked.Probe.{Probe as AskedProbe};
+ghost use Rattle.hipsd_run.specs.declared.command.Command.TheVariants.{Probe as ProbeCommand, Make, Serve};
+
+use decimal_scale::plain_decimal;
+use leaf_probe::Probe;
+
+/// What the words of a command line ask for.
+#[derive(Clone, Copy, Debug, PartialEq, Eq)]
+pub enum Command {
+    /// One tile of the leaves that are read.
+    Probe(Probe),
+    /// One connection is served.
+    Session,
+    /// The survey's files are put on the shelf.
+    Export,
+    /// The shelf is compared with the survey.
+    Verify,
+    /// The survey that so many edits make is made, and summed up.
+    Make {
+        /// What its edits are made from.
+        number: u64,
+        /// How many edits.
+        edits: u32,
+    },
+    /// Connections are served at many doors at once.
+    Serve {
+        /// How many connections of each door.
+        connections: u32,
+        /// How many doors.
+        places: usize,
+    },
+}
+
+impl Command {
+    // How many doors it needs.
+    fn doors(self) -> usize
+        ensures { result ≡ doors_of self }
+    {
+        match self {
+            Command::Serve { places, .. } => places,
+            _ => 0,
+        }
+    }
+}
+
+/// The command that the words ask for, where there are so many doors; `None` exactly where they are no row of the table of
+/// commands, or it needs more doors.
+pub fn command_for(words: &[String], doors: usize) -> Option<Command>
+    ensures asked { IfSome result (Asks (texts words.now)) }
+    ensures fits { IfSome result (λ command. doors_of command ≤ doors) }
+    ensures none { IfNone result (¬ IsCommandFor doors (texts words.now)) }
+{
+    let command = read_command(words)?;
+    if command.doors() <= doors {
+        Some(command)
+    } else {
+        None
+    }
+}
+
+/// The command that the words ask for; `None` exactly where they are no row of the table of commands.
+pub fn read_command(words: &[String]) -> Option<Command>
+    ensures asked { IfSome result (Asks (texts words.now)) }
+    ensures none { IfNone result (¬ IsCommand (texts words.now)) }
+{
+    match words {
+        [name, top, n, order, npix] if name.as_str() == "probe" => {
+            let probe = read_probe(top.as_str(), n.as_str(), order.as_str(), npix.as_str())?;
+            Some(Command::Probe(probe))
+        }
+        [name, number, edits] if name.as_str() == "make" => {
+            read_make(number.as_str(), edits.as_str())
+        }
+        [name, _, connections, places] if name.as_str() == "serve" => {
+            read_serve(connections.as_str(), places.as_str())
+        }
+        [name] => read_name(name.as_str()),
+        _ => None,
+    }
+}
+
+// The command that its name alone asks for.
+fn read_name(name: &str) -> Option<Command>
+    ensures asked { IfSome result (Asks (name.now ∷ [])) }
+    ensures none { IfNone result (¬ IsCommand (name.now ∷ [])) }
+{
+    match name {
+        "session" => Some(Command::Session),
+        "export" => Some(Command::Export),
+        "verify" => Some(Command::Verify),
+        _ => None,
+    }
+}
+
+// The probe that the words after `probe` ask for.
+fn read_probe(top: &str, n: &str, order: &str, npix: &str) -> Option<Probe>
+    ensures asked { IfSome result (λ asked.
+        Asks (codes "probe" ∷ top.now ∷ n.now ∷ order.now ∷ npix.now ∷ []) (ProbeCommand asked)) }
+    ensures none { IfNone result ((asked : AskedProbe) →
+        ¬ Asks (codes "probe" ∷ top.now ∷ n.now ∷ order.now ∷ npix.now ∷ []) (ProbeCommand asked)) }
+{
+    let top = small_number(top, 3, 11)?;
+    let n = small_number(n, 1, 9)?;
+    let order = small_number(order, 0, top)?;
+    let npix = plain_decimal(npix.as_bytes())?;
+    Some(Probe {
+        top,
+        n,
+        order,
+        npix,
+    })
+}
+
+// What the words after `make` ask for.
+fn read_make(number: &str, edits: &str) -> Option<Command>
+    ensures asked { IfSome result (Asks (codes "make" ∷ number.now ∷ edits.now ∷ [])) }
+    ensures none { IfNone result ((n : ℕ) (m : ℕ) → ¬ Asks (codes "make" ∷ number.now ∷ edits.now ∷ []) (Make n m)) }
+{
+    let number = plain_decimal(number.as_bytes())?;
+    let edits = plain_decimal(edits.as_bytes())?;
+    if 1 <= edits && edits <= 4096 {
+        let edits = edits as u32;
+        Some(Command::Make { number, edits })
+    } else {
+        None
+    }
+}
+
+// What the words after `serve` and its address ask for.
+fn read_serve(connections: &str, places: &str) -> Option<Command>
+    ensures asked { IfSome result (λ command. (address : List ℕ) → Asks (codes "serve" ∷ address ∷ connections.now ∷ places.now ∷ []) command) }
+    ensures none { IfNone result ((address : List ℕ) (n : ℕ) (m : ℕ)
+        → ¬ Asks (codes "serve" ∷ address ∷ connections.now ∷ places.now ∷ []) (Serve n m)) }
+{
+    let connections = plain_decimal(connections.as_bytes())?;
+    let places = small_number(places, 1, 64)?;
+    if 1 <= connections && connections <= 65_536 {
+        let connections = connections as u32;
+        let places = usize::from(places);
+        Some(Command::Serve {
+            connections,
+            places,
+        })
+    } else {
+        None
+    }
+}
+
+// A number from `least` to `greatest`, in plain decimals.
+fn small_number(word: &str, least: u8, greatest: u8) -> Option<u8>
+    ensures { MatchOption result ((n : ℕ) → least ≤ n → n ≤ greatest → word.now ≢ decimal n)
+        (λ n. (word.now ≡ decimal n) × (least ≤ n) × (n ≤ greatest)) }
+{
+    let n = plain_decimal(word.as_bytes())?;
+    if u64::from(least) <= n && n <= u64::from(greatest) {
+        Some(n as u8)
+    } else {
+        None
+    }
+}

@@ -1,0 +1,208 @@
+//! The whole program, over whatever ends it is given.
+ghost use Rattle.std.specs.Prelude.{◌≡◌, ◌≢◌, ◌⊎◌, ℕ, ◌≤◌, List, Some, false, map, length, take, drop};
+ghost use Rattle.std.specs.Io.KnownBytes.{Appends, IsAtEnd};
+ghost use Rattle.survey_link.specs.Link.{Rises, AppendsPrefix};
+ghost use Rattle.healpix_nested.specs.Cells.{cell_count};
+ghost use Rattle.leaf_probe.specs.declared.asked.Probe.{Probe as AskedProbe};
+ghost use Rattle.hipsd_run.specs.declared.command.Command.{Command as AskedCommand};
+ghost use Rattle.hipsd_run.specs.declared.command.Command.TheVariants.{Probe as ProbeCommand, Session, Export, Verify, Make, Serve};
+ghost use Rattle.hipsd_run.specs.Command.{texts, Asks, IsCommandFor, reads_source, opens_shelf, writes_files, opens_doors};
+ghost use Rattle.leaf_probe.specs.Probe.{IsProbe, probe_answer, probe_steps};
+ghost use Rattle.leaf_probe.specs.Merging.{steps_after};
+ghost use Rattle.leaf_probe.specs.Reading.{ReadsToTheEnd};
+ghost use Rattle.hipsd_run.specs.Run.{usage_text, EndsBy};
+ghost use Rattle.survey_commands.specs.Survey.{RunsExport, RunsVerify};
+ghost use Rattle.survey_commands.specs.Session.{RunsSession, ends_of};
+ghost use Rattle.survey_commands.specs.Make.{RunsMake};
+ghost use Rattle.hips_place.specs.Place.{SomeRises};
+ghost use Rattle.survey_commands.specs.Serve.{RunsServe};
+
+use crate::command::{Command, command_for};
+use leaf_probe::{Probe, probe, write_out};
+use log::Log;
+use parent_rule::Steps;
+use std::alloc::Global;
+use std::sync::Wait;
+use std::thread::Threads;
+use std::time::Clock;
+use survey_commands::{run_export, run_make, run_serve, run_session, run_verify};
+use survey_link::{Door, Gate, Shelf, Sink, Source};
+
+/// Runs the command that the words ask for, over these ends, and answers its status.
+///
+/// | Status | Where |
+/// |---|---|
+/// | 0 | the command is done |
+/// | 1 | the words are no row of the table of commands; `usage: hipsd COMMAND` and LF are written |
+/// | 2 | the shelf has no `survey.conf`, and `conf absent` and LF are written; or this has a fault: `conf LINE KIND` and LF |
+/// | 3 | the file of a leaf is refused: `tile PATH FAULT` and LF are written; or there are too many: `leaves N` and LF |
+/// | 4 | `probe`: the input ends within a record; `session`: within a request |
+/// | 5, 6, 7 | the source's, the sink's, the shelf's count of faults rose |
+/// | 8 | `serve`: a door's count of faults rose; the other places went on to their ends |
+/// | 9 | `verify`: the shelf differs from the survey |
+/// | 10 | `probe`: no leaf lies at or under the asked tile |
+/// | 11 | there was no memory |
+/// | 12 | `probe`: the input goes on after 65,536 records; `session`: 65,536 requests were answered, and none asked to close |
+/// | 13 | `probe`: the asked tile is no cell of its order, or a record's number is no leaf's |
+/// | 14 | `session`: the framing of a request is refused |
+///
+/// Of a tile nothing is written with a status but 0 and 6.
+pub fn run<R, S, K, H, D, G>(
+    rt: &R,
+    words: &[String],
+    source: &mut S,
+    sink: &mut K,
+    shelf: &mut H,
+    doors: &mut Vec<D>,
+    gate: &G,
+    steps: &mut Steps,
+) -> u8
+where
+    R: AllocGlobal + Threads + Wait + Sync + Clock + Log,
+    S: Source,
+    K: Sink,
+    H: Shelf,
+    D: Door + Send,
+    D::In: Send,
+    D::Out: Send,
+    G: Gate + Sync,
+
+    // Words that are no command's.
+    ensures usage_only { result ≡ 1 → ¬ IsCommandFor (length doors.old.items) (texts words.now) }
+    ensures usage { ¬ IsCommandFor (length doors.old.items) (texts words.now) → (result ≡ 1) ⊎ (result ≡ 6) }
+    ensures usage_written { result ≡ 1 → Appends (K.held sink.old) (K.held sink.new) usage_text }
+    ensures usage_part { ¬ IsCommandFor (length doors.old.items) (texts words.now) → AppendsPrefix (K.held sink.old) (K.held sink.new) usage_text }
+    ensures usage_read { ¬ IsCommandFor (length doors.old.items) (texts words.now) → source.new ≡ source.old }
+
+    // `probe`, where the source tells its input.
+    ensures probe { (asked : AskedProbe) (input : List ℕ) → Asks (texts words.now) (ProbeCommand asked)
+        → S.left source.old ≡ Some input → EndsBy (probe_answer asked input).status result }
+    ensures probe_written { (asked : AskedProbe) (input : List ℕ) → Asks (texts words.now) (ProbeCommand asked)
+        → S.left source.old ≡ Some input → result ≡ 0 → Appends (K.held sink.old) (K.held sink.new) (probe_answer asked input).output }
+    ensures probe_part { (asked : AskedProbe) (input : List ℕ) → Asks (texts words.now) (ProbeCommand asked)
+        → S.left source.old ≡ Some input → result ≡ 6 → AppendsPrefix (K.held sink.old) (K.held sink.new) (probe_answer asked input).output }
+
+    // `probe`, whatever the source.
+    ensures probe_range { (asked : AskedProbe) → Asks (texts words.now) (ProbeCommand asked)
+        → cell_count asked.order ≤ asked.npix → (result ≡ 13) × (source.new ≡ source.old) }
+    ensures probe_untouched { (asked : AskedProbe) → Asks (texts words.now) (ProbeCommand asked)
+        → result ≢ 0 → result ≢ 6 → K.held sink.new ≡ K.held sink.old }
+    ensures probe_end { (asked : AskedProbe) → Asks (texts words.now) (ProbeCommand asked)
+        → result ≡ 0 → IsAtEnd (S.left source.new) }
+
+    // Each reading, what is handed on, and each step.
+    ensures probe_reads { (asked : AskedProbe) → Asks (texts words.now) (ProbeCommand asked)
+        → ReadsToTheEnd (S.left source.old) (S.left source.new) (S.readings source.old) (S.readings source.new) }
+    ensures probe_handed_on { (asked : AskedProbe) → Asks (texts words.now) (ProbeCommand asked)
+        → result ≡ 0 → K.handed_on sink.new ≡ K.held sink.new }
+    ensures probe_kept { (asked : AskedProbe) → Asks (texts words.now) (ProbeCommand asked)
+        → result ≢ 0 → result ≢ 6 → K.handed_on sink.new ≡ K.handed_on sink.old }
+    ensures usage_handed_on { result ≡ 1 → K.handed_on sink.new ≡ K.held sink.new }
+    ensures probe_counted { (asked : AskedProbe) (input : List ℕ) → Asks (texts words.now) (ProbeCommand asked)
+        → S.left source.old ≡ Some input → result ≡ 0 → steps.new ≡ steps_after (probe_steps asked input) steps.old }
+
+    // The survey on the shelf.
+    ensures export { Asks (texts words.now) Export → RunsExport (H.files shelf.old) (H.files shelf.new) result
+        (K.held sink.old) (K.held sink.new) (K.handed_on sink.old) (K.handed_on sink.new) }
+    ensures verify { Asks (texts words.now) Verify → RunsVerify (H.files shelf.old) result
+        (K.held sink.old) (K.held sink.new) (K.handed_on sink.old) (K.handed_on sink.new) }
+
+    // A connection over the source and the sink, where the source tells its input.
+    ensures session { (input : List ℕ) → Asks (texts words.now) Session → S.left source.old ≡ Some input
+        → RunsSession (H.files shelf.old) input
+        (ends_of (S.left source.old) (K.held sink.old) (K.handed_on sink.old) (S.faults source.old) (K.faults sink.old))
+        (ends_of (S.left source.new) (K.held sink.new) (K.handed_on sink.new) (S.faults source.new) (K.faults sink.new))
+        result }
+    ensures session_unread { Asks (texts words.now) Session → (result ≡ 2) ⊎ (result ≡ 3) → source.new ≡ source.old }
+
+    // A made survey.
+    ensures make { (number : ℕ) (edits : ℕ) → Asks (texts words.now) (Make number edits) → RunsMake number edits result
+        (K.held sink.old) (K.held sink.new) (K.handed_on sink.old) (K.handed_on sink.new) }
+
+    // The connections of doors, at once.
+    ensures serve { (connections : ℕ) (places : ℕ) → Asks (texts words.now) (Serve connections places) → places ≤ length doors.old.items
+        → RunsServe (H.files shelf.old) connections (map D.connections (take places doors.old.items)) (map D.connections (take places doors.new.items))
+        result (K.held sink.old) (K.held sink.new) (K.handed_on sink.old) (K.handed_on sink.new) }
+    ensures serve_beyond { (connections : ℕ) (places : ℕ) → Asks (texts words.now) (Serve connections places)
+        → drop places doors.new.items ≡ drop places doors.old.items }
+    ensures serve_closed { (result ≡ 2) ⊎ ((result ≡ 3) ⊎ (result ≡ 7)) → doors.new.items ≡ doors.old.items }
+
+    // What a command doesn't use stays.
+    ensures source { (command : AskedCommand) → Asks (texts words.now) command → reads_source command ≡ false → source.new ≡ source.old }
+    ensures shelf { (command : AskedCommand) → Asks (texts words.now) command → opens_shelf command ≡ false → shelf.new ≡ shelf.old }
+    ensures files { (command : AskedCommand) → Asks (texts words.now) command → writes_files command ≡ false
+        → H.files shelf.new ≡ H.files shelf.old }
+    ensures doors { (command : AskedCommand) → Asks (texts words.now) command → opens_doors command ≡ false → doors.new ≡ doors.old }
+    ensures usage_doors { ¬ IsCommandFor (length doors.old.items) (texts words.now) → doors.new ≡ doors.old }
+    ensures usage_shelf { ¬ IsCommandFor (length doors.old.items) (texts words.now) → shelf.new ≡ shelf.old }
+
+    ensures read_fault { result ≡ 5 → Rises (S.faults source.old) (S.faults source.new) }
+    ensures write_fault { result ≡ 6 → Rises (K.faults sink.old) (K.faults sink.new) }
+    ensures shelf_fault { result ≡ 7 → Rises (H.faults shelf.old) (H.faults shelf.new) }
+    ensures door_fault { result ≡ 8 → SomeRises (map D.faults doors.old.items) (map D.faults doors.new.items) }
+    ensures steps_never_fall { steps.old ≤ steps.new }
+{
+    match command_for(words, doors.len()) {
+        None => usage(sink),
+        Some(command) => match command {
+            Command::Probe(asked) => run_probe(rt.alloc(), &asked, source, sink, steps),
+            Command::Session => run_session(rt, source, sink, shelf, gate, steps),
+            Command::Export => run_export(rt, sink, shelf, gate, steps),
+            Command::Verify => run_verify(rt, sink, shelf, gate, steps),
+            Command::Make { number, edits } => run_make(rt, number, edits, sink, gate, steps),
+            Command::Serve {
+                connections,
+                places,
+            } => run_serve(rt, connections, places, sink, shelf, gate, steps, doors),
+        },
+    }
+}
+
+// Says how the program is called.
+fn usage<K: Sink>(sink: &mut K) -> u8
+    ensures status { (result ≡ 1) ⊎ (result ≡ 6) }
+    ensures written { result ≡ 1 → Appends (K.held sink.old) (K.held sink.new) usage_text }
+    ensures part { AppendsPrefix (K.held sink.old) (K.held sink.new) usage_text }
+    ensures handed_on { result ≡ 1 → K.handed_on sink.new ≡ K.held sink.new }
+    ensures fault { result ≡ 6 → Rises (K.faults sink.old) (K.faults sink.new) }
+{
+    match write_out(sink, b"usage: hipsd COMMAND\n") {
+        Ok(()) => 1,
+        Err(_) => 6,
+    }
+}
+
+// Runs `probe`, and answers its status.
+fn run_probe<S: Source, K: Sink>(
+    alloc: Global,
+    asked: &Probe,
+    source: &mut S,
+    sink: &mut K,
+    steps: &mut Steps,
+) -> u8
+    requires { IsProbe asked.now }
+    ensures status { (input : List ℕ) → S.left source.old ≡ Some input → EndsBy (probe_answer asked.now input).status result }
+    ensures written { (input : List ℕ) → S.left source.old ≡ Some input → result ≡ 0
+        → Appends (K.held sink.old) (K.held sink.new) (probe_answer asked.now input).output }
+    ensures part { (input : List ℕ) → S.left source.old ≡ Some input → result ≡ 6
+        → AppendsPrefix (K.held sink.old) (K.held sink.new) (probe_answer asked.now input).output }
+    ensures range { cell_count asked.now.order ≤ asked.now.npix → (result ≡ 13) × (source.new ≡ source.old) }
+    ensures untouched { result ≢ 0 → result ≢ 6 → K.held sink.new ≡ K.held sink.old }
+    ensures handed_on { result ≡ 0 → K.handed_on sink.new ≡ K.held sink.new }
+    ensures kept { result ≢ 0 → result ≢ 6 → K.handed_on sink.new ≡ K.handed_on sink.old }
+    ensures reads { ReadsToTheEnd (S.left source.old) (S.left source.new) (S.readings source.old) (S.readings source.new) }
+    ensures counted { (input : List ℕ) → S.left source.old ≡ Some input → result ≡ 0
+        → steps.new ≡ steps_after (probe_steps asked.now input) steps.old }
+    ensures end { result ≡ 0 → IsAtEnd (S.left source.new) }
+    ensures not_usage { result ≢ 1 }
+    ensures not_shelf { result ≢ 7 }
+    ensures not_door { result ≢ 8 }
+    ensures read_fault { result ≡ 5 → Rises (S.faults source.old) (S.faults source.new) }
+    ensures write_fault { result ≡ 6 → Rises (K.faults sink.old) (K.faults sink.new) }
+    ensures steps_never_fall { steps.old ≤ steps.new }
+{
+    match probe(alloc, asked, source, sink, steps) {
+        Ok(()) => 0,
+        Err(fault) => fault.status(),
+    }
+}
