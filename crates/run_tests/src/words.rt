@@ -1,96 +1,95 @@
-//! The words of a command line, as tables.
+//! The words of a command line, as tables. A row has a blank between two words.
 use hipsd_run::{Command, read_command};
 use leaf_probe::Probe;
 use std::alloc::Global;
 use std::test::Fail;
 
-fn strings(alloc: Global, words: &[&str]) -> Result<Vec<String>, Fail> {
-    let mut strings = Vec::new(alloc);
-    for word in words {
-        strings.push(String::from_str(alloc, word)?)?;
+// The command that the words of a row ask for.
+fn read(alloc: Global, row: &str) -> Result<Option<Command>, Fail> {
+    let mut words = Vec::new(alloc);
+    for word in row.split(' ') {
+        words.push(String::from_str(alloc, word)?)?;
     }
-    Ok(strings)
+    Ok(read_command(&words))
 }
 
+static PROBES: [(&str, u8, u8, u8, u64); 3] = [
+    ("probe 4 1 3 0", 4, 1, 3, 0),
+    ("probe 11 9 11 18446744073709551615", 11, 9, 11, u64::MAX),
+    ("probe 3 1 0 768", 3, 1, 0, 768),
+];
+
+static MADE: [(&str, u64, u32); 2] = [
+    ("make 0 1", 0, 1),
+    ("make 18446744073709551615 4096", u64::MAX, 4096),
+];
+
 #[test]
-fn reads_the_rows_of_the_table(rt: HostRuntime) -> Result<(), Fail> {
+fn reads_numbers_of_commands(rt: HostRuntime) -> Result<(), Fail> {
     let alloc = rt.alloc();
-    let last = "18446744073709551615";
-    for (words, top, n, order, npix) in [
-        (["probe", "4", "1", "3", "0"], 4, 1, 3, 0),
-        (["probe", "11", "9", "11", last], 11, 9, 11, u64::MAX),
-        (["probe", "3", "1", "0", "768"], 3, 1, 0, 768),
-    ] {
-        let asked = Command::Probe(Probe {
-            top,
-            n,
-            order,
-            npix,
-        });
-        assert_eq!(rt;
-            read_command(&strings(alloc, &words)?),
-            Some(asked),
-            "at {npix}"
-        );
+    for (row, top, n, order, npix) in &PROBES {
+        let asked = Probe {
+            top: *top,
+            n: *n,
+            order: *order,
+            npix: *npix,
+        };
+        let command = read(alloc, row)?;
+        assert!(rt; command == Some(Command::Probe(asked)), "{row}");
     }
-    for (words, number, edits) in [
-        (["make", "0", "1"], 0, 1),
-        (["make", last, "4096"], u64::MAX, 4096),
-    ] {
-        assert_eq!(rt;
-            read_command(&strings(alloc, &words)?),
-            Some(Command::Make { number, edits }),
-            "at {number}"
-        );
-    }
-    for (word, command) in [
-        ("session", Command::Session),
-        ("export", Command::Export),
-        ("verify", Command::Verify),
-    ] {
-        assert_eq!(rt;
-            read_command(&strings(alloc, &[word])?),
-            Some(command),
-            "at {word}"
-        );
+    for (row, number, edits) in &MADE {
+        let (number, edits) = (*number, *edits);
+        let command = read(alloc, row)?;
+        assert!(rt; command == Some(Command::Make { number, edits }), "{row}");
     }
     Ok(())
 }
 
 #[test]
+fn reads_names_of_commands(rt: HostRuntime) -> Result<(), Fail> {
+    let alloc = rt.alloc();
+    assert!(rt; read(alloc, "session")? == Some(Command::Session));
+    assert!(rt; read(alloc, "export")? == Some(Command::Export));
+    assert!(rt; read(alloc, "verify")? == Some(Command::Verify));
+    Ok(())
+}
+
+// No rows of the table of commands; the first one is an empty word, and in another a word is empty.
+static NONE: &str = "
+probe
+probe 4 1 3
+probe 4 1 3 0 0
+probe 4 1 5 0
+probe 2 1 2 0
+probe 12 1 3 0
+probe 4 0 3 0
+probe 4 10 3 0
+probe 04 1 3 0
+probe +4 1 3 0
+probe 4 1 3 -0
+probe 4 1 3 00
+probe 4 1 3 18446744073709551616
+probe  1 3 0
+Probe 4 1 3 0
+session 0
+sessions
+make
+make 0
+make 0 1 1
+make 0 0
+make 0 4097
+make 0 01
+make +0 1
+make 18446744073709551616 1
+Make 0 1
+";
+
+#[test]
 fn refuses_what_is_no_row_of_the_table(rt: HostRuntime) -> Result<(), Fail> {
     let alloc = rt.alloc();
-    let rows: [&[&str]; 27] = [
-        &[],
-        &["probe"],
-        &["probe", "4", "1", "3"],
-        &["probe", "4", "1", "3", "0", "0"],
-        &["probe", "4", "1", "5", "0"],
-        &["probe", "2", "1", "2", "0"],
-        &["probe", "12", "1", "3", "0"],
-        &["probe", "4", "0", "3", "0"],
-        &["probe", "4", "10", "3", "0"],
-        &["probe", "04", "1", "3", "0"],
-        &["probe", "+4", "1", "3", "0"],
-        &["probe", "4", "1", "3", "-0"],
-        &["probe", "4", "1", "3", "00"],
-        &["probe", "4", "1", "3", "18446744073709551616"],
-        &["probe", "", "1", "3", "0"],
-        &["Probe", "4", "1", "3", "0"],
-        &["session", "0"],
-        &["sessions"],
-        &["make"],
-        &["make", "0"],
-        &["make", "0", "1", "1"],
-        &["make", "0", "0"],
-        &["make", "0", "4097"],
-        &["make", "0", "01"],
-        &["make", "+0", "1"],
-        &["make", "18446744073709551616", "1"],
-        &["Make", "0", "1"],
-    ];
-    for (row, words) in rows.iter().enumerate() {
-        assert_eq!(rt; read_command(&strings(alloc, words)?), None, "at {row}");
+    assert!(rt; read_command(&Vec::new(alloc)) == None);
+    for row in NONE.lines() {
+        assert!(rt; read(alloc, row)? == None, "{row}");
     }
     Ok(())
 }
