@@ -1,12 +1,13 @@
 #!/bin/sh
 # Installs the tools of others that the checks of this repository call (Debian's fitsverify, python3-astropy,
-# python3-healpy, stilts, curl, nginx-light and gcc), where they are missing and this runs as root. Elsewhere it says what is missing;
+# python3-healpy, stilts, curl, nginx-light, slowhttptest and gcc), where they are missing and this runs as root. Elsewhere it says what is missing;
 # the checks decide what follows from that.
 missing=
 command -v fitsverify >/dev/null 2>&1 || missing="$missing fitsverify"
 command -v curl >/dev/null 2>&1 || missing="$missing curl"
 command -v cc >/dev/null 2>&1 || missing="$missing gcc libc6-dev"
 command -v nginx >/dev/null 2>&1 || [ -x /usr/sbin/nginx ] || missing="$missing nginx-light"
+command -v slowhttptest >/dev/null 2>&1 || missing="$missing slowhttptest"
 command -v stilts >/dev/null 2>&1 || missing="$missing stilts"
 /usr/bin/python3 -c 'import astropy' 2>/dev/null || missing="$missing python3-astropy"
 /usr/bin/python3 -c 'import healpy' 2>/dev/null || missing="$missing python3-healpy"
