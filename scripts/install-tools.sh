@@ -1,8 +1,8 @@
 #!/bin/sh
 # Installs the tools of others that the checks of this repository call (Debian's fitsverify, python3-astropy,
-# python3-healpy, stilts, curl, nginx-light, openssl, mandoc, systemd, nftables, iproute2, shellcheck, gcc, chromium with
-# chromium-driver, python3-selenium and python3-pil), where they are
-# missing and this runs as root. Elsewhere it says what is missing; the checks decide what follows from that.
+# python3-healpy, stilts, curl, nginx-light, openssl, mandoc, systemd, nftables, iproute2, shellcheck, slowhttptest, gcc,
+# chromium with chromium-driver, python3-selenium and python3-pil), where they are missing and this runs as root.
+# Elsewhere it says what is missing; the checks decide what follows from that.
 missing=
 command -v fitsverify >/dev/null 2>&1 || missing="$missing fitsverify"
 command -v curl >/dev/null 2>&1 || missing="$missing curl"
@@ -13,6 +13,7 @@ command -v mandoc >/dev/null 2>&1 || missing="$missing mandoc"
 command -v systemd-analyze >/dev/null 2>&1 || missing="$missing systemd"
 command -v nft >/dev/null 2>&1 || [ -x /usr/sbin/nft ] || missing="$missing nftables iproute2"
 command -v shellcheck >/dev/null 2>&1 || missing="$missing shellcheck"
+command -v slowhttptest >/dev/null 2>&1 || missing="$missing slowhttptest"
 command -v stilts >/dev/null 2>&1 || missing="$missing stilts"
 /usr/bin/python3 -c 'import astropy' 2>/dev/null || missing="$missing python3-astropy"
 /usr/bin/python3 -c 'import healpy' 2>/dev/null || missing="$missing python3-healpy"
