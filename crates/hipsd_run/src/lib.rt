@@ -6,6 +6,7 @@
 
 mod arguments;
 mod command;
+mod help;
 mod program;
 
 pub use arguments::words;

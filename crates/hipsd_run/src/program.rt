@@ -18,6 +18,7 @@ ghost use Rattle.hips_place.specs.Place.{SomeRises};
 ghost use Rattle.survey_commands.specs.Serve.{RunsServe};
 
 use crate::command::{Command, command_for};
+use crate::help::say_commands;
 use leaf_probe::{Probe, probe, write_out};
 use log::Log;
 use parent_rule::Steps;
@@ -143,7 +144,10 @@ where
     ensures steps_never_fall { steps.old ≤ steps.new }
 {
     match command_for(words, doors.len()) {
-        None => usage(sink),
+        None => {
+            say_commands(rt, words);
+            usage(sink)
+        }
         Some(command) => match command {
             Command::Probe(asked) => run_probe(rt.alloc(), &asked, source, sink, steps),
             Command::Session => run_session(rt, source, sink, shelf, gate, steps),

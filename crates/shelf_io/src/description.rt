@@ -1,12 +1,16 @@
 //! The description of a shelf's survey.
-ghost use Rattle.std.specs.Prelude.{◌≡◌, ◌≤◌, Ok, IfOk, IfErr, IfSome, IsErrOf};
+ghost use Rattle.std.specs.Prelude.{◌≡◌, ◌≤◌, Ok, IfOk, IfErr, OnOk, IfSome, IsErrOf, None};
 ghost use Rattle.std.specs.Result.{result_err};
 ghost use Rattle.survey_link.specs.Link.{Rises};
+ghost use Rattle.survey_conf.specs.Description.{description_of};
+ghost use Rattle.survey_conf.specs.Faults.{fault_of, IsRefusedBy as IsConfRefusal};
 ghost use Rattle.shelf_io.specs.Opening.{conf_on, IsRefusedBy};
 
 use crate::refusal::LoadRefusal;
+use crate::words::{say_conf_fault, say_likely_keys, say_no_conf};
+use log::Log;
 use std::alloc::Global;
-use survey_conf::Conf;
+use survey_conf::{Conf, ConfRefusal};
 use survey_link::Shelf;
 
 // Where the description stands.
@@ -18,7 +22,11 @@ const CONF: &str = "survey.conf";
 ///
 /// `NoConf` exactly where it has none; `Conf` with the first fault of its text; `ShelfFault` only where the shelf's count of
 /// faults rose; `OutOfMemory`.
-pub(crate) fn read_conf<H: Shelf>(alloc: Global, shelf: &mut H) -> Result<Conf, LoadRefusal>
+pub(crate) fn read_conf<R: Log, H: Shelf>(
+    rt: &R,
+    alloc: Global,
+    shelf: &mut H,
+) -> Result<Conf, LoadRefusal>
     ensures conf { IfOk result (λ conf. IfSome (H.files shelf.old) (λ files. conf_on files ≡ Ok conf)) }
     ensures refused { IfErr result (λ refusal. IfSome (H.files shelf.old) (λ files.
         IsRefusedBy (result_err (conf_on files)) refusal)) }
@@ -27,7 +35,29 @@ pub(crate) fn read_conf<H: Shelf>(alloc: Global, shelf: &mut H) -> Result<Conf, 
     ensures never_falls { H.faults shelf.old ≤ H.faults shelf.new }
 {
     match shelf.get(alloc, CONF)? {
-        Some(text) => Ok(Conf::read(alloc, &text)?),
-        None => Err(LoadRefusal::NoConf),
+        Some(text) => Ok(described(rt, alloc, &text)?),
+        None => {
+            say_no_conf(rt);
+            Err(LoadRefusal::NoConf)
+        }
+    }
+}
+
+// The description that a text gives.
+fn described<R: Log>(rt: &R, alloc: Global, text: &[u8]) -> Result<Conf, ConfRefusal>
+    ensures described { IfOk result (λ conf. conf ≡ description_of text.now) }
+    ensures accepted { OnOk result (fault_of text.now ≡ None) }
+    ensures refused { IfErr result (λ e. IsConfRefusal (fault_of text.now) e) }
+{
+    match Conf::read(alloc, text) {
+        Ok(conf) => {
+            say_likely_keys(rt, &conf);
+            Ok(conf)
+        }
+        Err(ConfRefusal::Fault(fault)) => {
+            say_conf_fault(rt, text, fault);
+            Err(ConfRefusal::Fault(fault))
+        }
+        Err(ConfRefusal::OutOfMemory) => Err(ConfRefusal::OutOfMemory),
     }
 }

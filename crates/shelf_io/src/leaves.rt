@@ -13,6 +13,7 @@ ghost use Rattle.shelf_io.specs.Opening.{leaf_tile, leaf_refusal, IsRefusedBy};
 
 use crate::progress::Progress;
 use crate::refusal::LoadRefusal;
+use crate::words::say_tile_fault;
 use fits_tile::{TileRefusal, decode};
 use healpix_nested::Cell;
 use leaf_store::Store;
@@ -63,14 +64,15 @@ pub(crate) fn read_leaves<R: Clock + Log, H: Shelf>(
     let mut tiles = Store::new(alloc);
     let mut progress = Progress::begin(rt, "leaves read", leaves.len() as u64);
     for leaf in leaves {
-        add_leaf(alloc, shelf, conf, *leaf, steps, &mut tiles)?;
+        add_leaf(rt, alloc, shelf, conf, *leaf, steps, &mut tiles)?;
         progress.part_done(rt);
     }
     Ok(tiles)
 }
 
 // Adds the tile of a leaf to those of leaves with lower numbers, where the leaf has a file.
-fn add_leaf<H: Shelf>(
+fn add_leaf<R: Log, H: Shelf>(
+    rt: &R,
     alloc: Global,
     shelf: &mut H,
     conf: &Conf,
@@ -97,7 +99,7 @@ fn add_leaf<H: Shelf>(
     ensures steps_at_most { steps.new ≤ steps.old + 1 }
     ensures steps_never_fall { steps.old ≤ steps.new }
 {
-    match read_leaf(alloc, shelf, conf, leaf, steps)? {
+    match read_leaf(rt, alloc, shelf, conf, leaf, steps)? {
         Some(tile) => Ok(put_tile(alloc, leaf, tile, tiles)?),
         None => Ok(()),
     }
@@ -115,7 +117,8 @@ fn put_tile(alloc: Global, leaf: u64, tile: Tile, tiles: &mut Store<Tile>) -> Re
 }
 
 // The tile of a leaf, where it has a file.
-fn read_leaf<H: Shelf>(
+fn read_leaf<R: Log, H: Shelf>(
+    rt: &R,
     alloc: Global,
     shelf: &mut H,
     conf: &Conf,
@@ -144,7 +147,10 @@ fn read_leaf<H: Shelf>(
     match shelf.get(alloc, &path)? {
         Some(bytes) => match decode(alloc, &bytes, conf, steps) {
             Ok(tile) => Ok(Some(tile)),
-            Err(TileRefusal::Fault(fault)) => Err(LoadRefusal::Tile { cell, fault }),
+            Err(TileRefusal::Fault(fault)) => {
+                say_tile_fault(rt, cell, &bytes, fault);
+                Err(LoadRefusal::Tile { cell, fault })
+            }
             Err(TileRefusal::OutOfMemory) => Err(LoadRefusal::OutOfMemory),
         },
         None => Ok(None),

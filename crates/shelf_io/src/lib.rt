@@ -18,6 +18,7 @@ mod spelling;
 mod strays;
 mod verdict;
 mod verifying;
+mod words;
 
 pub use exporting::export;
 pub use loading::load;

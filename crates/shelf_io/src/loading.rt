@@ -93,7 +93,7 @@ fn read_survey<R: Clock + Log, H: Shelf>(
     ensures steps_told { IfSome (H.files shelf.old) (λ files. steps.new ≤ steps.old + leaf_count files) }
     ensures steps_never_fall { steps.old ≤ steps.new }
 {
-    let conf = read_conf(alloc, shelf)?;
+    let conf = read_conf(rt, alloc, shelf)?;
     let shape = conf.shape();
     let numbers = shelf_leaves(alloc, shelf, shape.top)?;
     judge_count(shape, numbers.len())?;

@@ -10,20 +10,20 @@ use Rattle.shelf_io.specs.Refusals.{of_conf}
 use Rattle.shelf_io.proofs.LoadLemmas.{if_err_from, conf_read, conf_refused, conf_absent}
 use Rattle.shelf_io.proofs.description.read_conf.Goals as goal
 
-pub returns-in_err-read-in-Some-clause-refused : goal.returns-in_err-read-in-Some-clause-refused
-returns-in_err-read-in-Some-clause-refused g c =
+pub returns-in_err-described-in-Some-clause-refused : goal.returns-in_err-described-in-Some-clause-refused
+returns-in_err-described-in-Some-clause-refused g c =
     if_err_from (λ refusal. IfSome (g.H.Shelf.files c.args.shelf.now) (λ files. IsRefusedBy (result_err (conf_on files)) refusal))
-    c.from_residual-in_err-read-in-Some.result (of_conf c.in_err-read-in-Some.field-0.0) (err_from_is_err_and c.from_residual-in_err-read-in-Some.result c.from_residual-in_err-read-in-Some.ensures.1)
-    (conf_refused (g.H.Shelf.files c.args.shelf.now) c.in-Some.text c.in_err-read-in-Some.field-0.0
+    c.from_residual-in_err-described-in-Some.result (of_conf c.in_err-described-in-Some.field-0.0) (err_from_is_err_and c.from_residual-in_err-described-in-Some.result c.from_residual-in_err-described-in-Some.ensures.1)
+    (conf_refused (g.H.Shelf.files c.args.shelf.now) c.in-Some.text c.in_err-described-in-Some.field-0.0
     (subst (Finds (g.H.Shelf.files c.args.shelf.now) conf_path) c.in-Some.is c.in_ok-text.ensures.found)
-    (subst (λ text. IsConfRefusal (fault_of text) c.in_err-read-in-Some.field-0.0) c.deref.ensures.value c.in_err-read-in-Some.ensures.refused))
+    (subst (λ text. IsConfRefusal (fault_of text) c.in_err-described-in-Some.field-0.0) c.deref.ensures.value c.in_err-described-in-Some.ensures.refused))
 
-pub returns-in_ok-read-in-Some-clause-conf : goal.returns-in_ok-read-in-Some-clause-conf
-returns-in_ok-read-in-Some-clause-conf g c =
-    conf_read (g.H.Shelf.files c.args.shelf.now) c.in-Some.text c.in_ok-read-in-Some.field-0
+pub returns-in_ok-described-in-Some-clause-conf : goal.returns-in_ok-described-in-Some-clause-conf
+returns-in_ok-described-in-Some-clause-conf g c =
+    conf_read (g.H.Shelf.files c.args.shelf.now) c.in-Some.text c.in_ok-described-in-Some.field-0
     (subst (Finds (g.H.Shelf.files c.args.shelf.now) conf_path) c.in-Some.is c.in_ok-text.ensures.found)
-    (ap fault_of (sym c.deref.ensures.value) ∙ c.in_ok-read-in-Some.ensures.accepted)
-    (c.in_ok-read-in-Some.ensures.described ∙ ap description_of c.deref.ensures.value)
+    (ap fault_of (sym c.deref.ensures.value) ∙ c.in_ok-described-in-Some.ensures.accepted)
+    (c.in_ok-described-in-Some.ensures.described ∙ ap description_of c.deref.ensures.value)
 
 pub returns-in-None-clause-refused : goal.returns-in-None-clause-refused
 returns-in-None-clause-refused g c =

@@ -1,0 +1,47 @@
+//! What is said to the log of a survey's files.
+use fits_tile::TileFault;
+use healpix_nested::Cell;
+use log::{Log, error, warn};
+use survey_conf::{Conf, ConfFault, FaultWords, likely_key};
+use tile_path::Path;
+
+/// Says that there is no description.
+pub(crate) fn say_no_conf<R: Log>(rt: &R) {
+    error!(rt; "there is no file survey.conf, which describes the survey");
+}
+
+/// Says which fault the text of a description has.
+pub(crate) fn say_conf_fault<R: Log>(rt: &R, text: &[u8], fault: ConfFault) {
+    error!(rt; "survey.conf: {}", FaultWords::new(text, fault));
+}
+
+/// Says which extra keys of a description may be meant for known ones.
+pub(crate) fn say_likely_keys<R: Log>(rt: &R, conf: &Conf) {
+    for i in 0..usize::MAX {
+        let Some((key, _)) = conf.extra(i) else {
+            return;
+        };
+        if let Some(known) = likely_key(key) {
+            let (key, known) = (key.escape_ascii(), known.escape_ascii());
+            warn!(rt; "survey.conf: the key {key} has no meaning here; {known} is a known one");
+        }
+    }
+}
+
+/// Says which fault the file of a leaf has, and what it looks like.
+pub(crate) fn say_tile_fault<R: Log>(rt: &R, leaf: Cell, file: &[u8], fault: TileFault) {
+    let path = Path::Tile(leaf);
+    error!(rt; "{path} is no tile of this survey ({fault}); it looks like {}", look_of(file));
+}
+
+// What a file is by its first bytes.
+fn look_of(file: &[u8]) -> &'static str {
+    match file {
+        [] => "an empty file",
+        [0x1f, 0x8b, ..] => "gzip",
+        [0x89, b'P', b'N', b'G', ..] => "a PNG image",
+        [0xff, 0xd8, 0xff, ..] => "a JPEG image",
+        [b'S', b'I', b'M', b'P', b'L', b'E', b' ', b' ', ..] => "FITS",
+        _ => "none of FITS, gzip, PNG and JPEG",
+    }
+}
