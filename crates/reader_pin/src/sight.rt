@@ -145,7 +145,7 @@ impl<J: Naming> Sight<J> {
         desk: &mut SurveyDesk<J>,
         next: State,
     ) -> Result<(), AllocError>
-        requires seen { HasSeen desk.old self.old }
+        requires seen { HasSeen desk.old.newest self.old }
         requires conf { next.conf ≡ self.old.conf }
         requires opening { next.opening ≡ self.old.opening }
         requires step { IsStep self.old.opening (last_seen self.old) (survey_state next) }
@@ -278,7 +278,7 @@ impl<J: Naming> Sight<J> {
     ) -> (Result<Published, AllocError>, Steps)
         requires callable { (state : _) (before : _) → F.pre build.now state before }
         requires builds { (state : _) (before : _) (built : _) → F.post build.now state before built → Builds state.now before built }
-        requires seen { HasSeen desk.old self.old }
+        requires seen { HasSeen desk.old.newest self.old }
         ensures published { IfOk result.0 (TellsPublished self.old self.new) }
         ensures unchanged { OnErr result.0 (Stays self.old self.new) }
         ensures steps { OnOk result.0 (result.1 ≤ steps_after steps (publish_work self.old self.new)) }
@@ -301,7 +301,7 @@ impl<J: Naming> Sight<J> {
         desk: &mut SurveyDesk<J>,
         generation: Result<Generation, AllocError>,
     ) -> Result<Published, AllocError>
-        requires seen { HasSeen desk.old self.old }
+        requires seen { HasSeen desk.old.newest self.old }
         requires unpublished { (last_seen self.old).tip < edit_count (last_seen self.old) }
         requires whole { IfOk generation (λ generation. generation ≡ whole_generation (state_in self.old (last_seen self.old))) }
         ensures published { IfOk result (λ published. published ≡ Published.New (edit_count (last_seen self.old))) }
@@ -319,7 +319,7 @@ impl<J: Naming> Sight<J> {
         desk: &mut SurveyDesk<J>,
         generation: Generation,
     ) -> Result<Published, AllocError>
-        requires seen { HasSeen desk.old self.old }
+        requires seen { HasSeen desk.old.newest self.old }
         requires publishable { IsPublishable (state_in self.old (last_seen self.old)) generation }
         ensures published { IfOk result (λ published. published ≡ Published.New generation.prefix) }
         ensures event { OnOk result (Happens (Publishes generation.prefix) self.old self.new) }

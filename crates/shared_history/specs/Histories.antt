@@ -29,3 +29,8 @@ pub record GoesOn {S : Type 0} (mine other : SeenHistory S) : Type 0 where
 abbrev pub TellsMore : {S : Type 0} → SeenHistory S → SeenHistory S → Option (SeenHistory S) → Type 0
 TellsMore mine other (Some more) = (more ≡ other) × GoesOn mine other
 TellsMore mine other None = other ≡ mine
+
+-- all that was appended to a history, and what readers are shown of it
+pub record DeskContent (S : Type 0) : Type 0 where
+  pub newest : SeenHistory S
+  pub shown : SeenHistory S

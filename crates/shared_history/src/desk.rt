@@ -1,5 +1,5 @@
 //! What lies under the lock.
-ghost use Rattle.std.specs.Prelude.{◌≡◌, ◌<◌, ◌^◌, ◌++◌, ◌∷◌, [], length, All, IfOk, OnOk, OnErr};
+ghost use Rattle.std.specs.Prelude.{◌≡◌, ◌⊎◌, ◌<◌, ◌^◌, ◌++◌, ◌∷◌, [], length, All, IfOk, OnOk, OnErr};
 ghost use Rattle.shared_history.specs.Book.{head_of};
 ghost use Rattle.shared_history.specs.Histories.{and_then};
 
@@ -15,7 +15,7 @@ use std::marker::Model;
 use std::sync::{Arc, Wait};
 
 /// The right to append states to a history: its book's word, the writer that shows it to readers, and all of it. Contracts
-/// see the history. It can't be dropped: end it by `close`.
+/// see the history, and what readers are shown of it. It can't be dropped: end it by `close`.
 pub struct Desk<S: Drop, L: Law<S>, J: Naming>
 where
     Page<S, L>: Showable,
@@ -32,11 +32,11 @@ where
 {
     ghost use Rattle.std.specs.Prelude.{◌≡◌};
     ghost use Rattle.shared_history.specs.Book.{head_of};
-    ghost use Rattle.shared_history.specs.Histories.{SeenHistory};
+    ghost use Rattle.shared_history.specs.Histories.{DeskContent};
 
-    ghost Value = { SeenHistory S };
+    ghost Value = { DeskContent S };
 
-    ghost view = { λ d. d.newest };
+    ghost view = { λ d. record { newest = d.newest; shown = d.showing } };
 
     ghost invariant = { λ d. d.head ≡ head_of J.book };
 }
@@ -54,7 +54,8 @@ where
     ) -> Result<Desk<S, L, J>, AllocError>
         requires head { head ≡ head_of J.book }
         requires readers { (0 < readers) × (readers < 2 ^ 32) }
-        ensures { IfOk result (λ desk. desk ≡ newest) }
+        ensures newest { IfOk result (λ desk. desk.newest ≡ newest) }
+        ensures shown { IfOk result (λ desk. desk.shown ≡ newest) }
     {
         let showing = Showing::new(alloc, newest.page()?, newest.page()?, readers)?;
         Ok(Desk {
@@ -67,7 +68,7 @@ where
 
     /// A seat that has seen the history.
     pub(crate) fn seat(&self) -> Result<Seat<S, L, J>, AllocError>
-        ensures { IfOk result (λ seat. seat ≡ self.now) }
+        ensures { IfOk result (λ seat. seat ≡ self.now.newest) }
     {
         let seen = self.newest.again()?;
         Ok(Seat::new(Window::of(self.showing.reader()?), seen))
@@ -76,7 +77,7 @@ where
     /// So many seats.
     pub(crate) fn seats(&self, count: usize) -> Result<Vec<Seat<S, L, J>>, AllocError>
         ensures count { IfOk result (λ seats. length seats.items ≡ count) }
-        ensures seen { IfOk result (λ seats. All (λ seat. seat ≡ self.now) seats.items) }
+        ensures seen { IfOk result (λ seats. All (λ seat. seat ≡ self.now.newest) seats.items) }
     {
         let mut seats = Vec::new(self.alloc);
         for _ in 0..count {
@@ -87,7 +88,7 @@ where
 
     /// All of the history.
     pub fn newest(&self) -> &Shown<S, L, J>
-        ensures { result.now ≡ self.now }
+        ensures { result.now ≡ self.now.newest }
     {
         &self.newest
     }
@@ -100,9 +101,10 @@ where
     /// `AllocError` where there is no memory for the state: the history stays as it is. Where there is none to show the state,
     /// the history has it, and the next state is shown with it.
     pub fn append<R: Wait>(&mut self, rt: &R, next: S) -> Result<Shown<S, L, J>, AllocError>
-        requires legal { L.legal (self.old.states ++ next ∷ []) }
-        ensures appended { IfOk result (λ shown. shown ≡ and_then self.old next) }
-        ensures kept { OnOk result (self.new ≡ and_then self.old next) }
+        requires legal { L.legal (self.old.newest.states ++ next ∷ []) }
+        ensures appended { IfOk result (λ shown. shown ≡ and_then self.old.newest next) }
+        ensures kept { OnOk result (self.new.newest ≡ and_then self.old.newest next) }
+        ensures shown { (self.new.shown ≡ self.new.newest) ⊎ (self.new.shown ≡ self.old.shown) }
         ensures unchanged { OnErr result (self.new ≡ self.old) }
     {
         let last = Arc::new(self.alloc, next)?;
@@ -110,10 +112,18 @@ where
         let newest = self.newest.after(&self.head, last)?;
         let answer = newest.beside(same);
         self.newest = newest;
-        if let Ok(page) = self.newest.page() {
-            self.showing.show(rt, page);
-        }
+        let _shown = self.show_newest(rt);
         Ok(answer)
+    }
+
+    // Shows all of the history to readers; where there is no memory for it, they are shown what they were.
+    fn show_newest<R: Wait>(&mut self, rt: &R) -> Result<(), AllocError>
+        ensures newest { self.new.newest ≡ self.old.newest }
+        ensures shown { OnOk result (self.new.shown ≡ self.old.newest) }
+        ensures stays { OnErr result (self.new.shown ≡ self.old.shown) }
+    {
+        let page = self.newest.page()?;
+        self.showing.show(rt, page)
     }
 
     /// Ends it. It waits for readers that are still looking.

@@ -1,5 +1,5 @@
 //! What is shown of a book, at which readers look while it is changed.
-ghost use Rattle.std.specs.Prelude.{◌≡◌, ◌<◌, ◌^◌};
+ghost use Rattle.std.specs.Prelude.{◌≡◌, ◌<◌, ◌^◌, IfOk, OnOk, OnErr};
 
 use crate::book::{Law, Naming};
 use crate::page::{Page, Showable};
@@ -35,7 +35,7 @@ impl<S: Drop, L: Law<S>, J: Naming> Outcome<Page<S, L>, ()> for Finds<J> {
     ghost then = { λ _ _ page _. page.book ≡ J.book };
 }
 
-/// The writer of `left_right`, whose operations are whole new values. It can't be dropped: end it by `close`.
+/// The writer of `left_right`, whose operations are whole new values. Contracts see what it shows. It can't be dropped: end it by `close`.
 pub(crate) struct Showing<S: Drop, L: Law<S>, J: Naming>
 where
     Page<S, L>: Showable,
@@ -48,10 +48,11 @@ where
     Page<S, L>: Showable,
 {
     ghost use Rattle.std.specs.Prelude.{◌≡◌, All, drop};
+    ghost use Rattle.shared_history.specs.Histories.{SeenHistory};
 
-    ghost Value = { Unit {0} };
+    ghost Value = { SeenHistory S };
 
-    ghost view = { λ _. tt };
+    ghost view = { λ s. s.writer.desk.shown.value.history };
 
     ghost invariant = { λ s. All (λ page. page.book ≡ J.book) (drop s.writer.behind s.writer.log.items) };
 }
@@ -70,6 +71,7 @@ where
         requires readers { (0 < readers) × (readers < 2 ^ 32) }
         requires book { first.book ≡ J.book }
         requires alike { first ≡ second }
+        ensures { IfOk result (λ showing. showing ≡ first.history) }
     {
         Ok(Showing {
             writer: Writer::new(alloc, first, second, readers)?,
@@ -81,21 +83,37 @@ where
         self.writer.factory().reader()
     }
 
-    /// Shows what is seen now; where there is no memory for it, later or not at all. It waits for readers that are still looking
-    /// at what was shown before last.
-    pub(crate) fn show<R: Wait>(&mut self, rt: &R, page: Page<S, L>)
+    /// Shows what is seen now. It waits for readers that are still looking at what was shown before last.
+    ///
+    /// # Errors
+    ///
+    /// `AllocError` where there is no memory for it: what was shown before stays.
+    pub(crate) fn show<R: Wait>(&mut self, rt: &R, page: Page<S, L>) -> Result<(), AllocError>
         requires { page.book ≡ J.book }
+        ensures shown { OnOk result (self.new ≡ page.history) }
+        ensures stays { OnErr result (self.new ≡ self.old) }
     {
-        if self.writer.append(page).is_ok() {
-            replace_with(self, rt, |showing, rt| showing.published(rt));
-        }
+        replace_with(self, page, |showing, page| showing.with_page(rt, page))
     }
 
-    // It, once it has published what is pending.
-    fn published<R: Wait>(self, rt: &R) -> (Showing<S, L, J>, ()) {
-        let Showing { writer } = self;
-        let (writer, _published) = writer.publish_as::<Finds<J>, R>(rt);
-        (Showing { writer }, ())
+    // It, once it shows that, where there was memory for it.
+    fn with_page<R: Wait>(
+        self,
+        rt: &R,
+        page: Page<S, L>,
+    ) -> (Showing<S, L, J>, Result<(), AllocError>)
+        requires { page.book ≡ J.book }
+        ensures shown { OnOk result.1 (result.0 ≡ page.history) }
+        ensures stays { OnErr result.1 (result.0 ≡ self) }
+    {
+        let Showing { mut writer } = self;
+        match writer.append(page) {
+            Ok(()) => {
+                let (writer, published) = writer.publish_as::<Finds<J>, R>(rt);
+                return (Showing { writer }, published);
+            }
+            Err(_) => return (Showing { writer }, Err(AllocError)),
+        }
     }
 
     /// Ends it. It waits for readers that are still looking.

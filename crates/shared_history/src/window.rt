@@ -34,10 +34,7 @@ impl<S: Drop, L: Law<S>, J: Naming> Window<S, L, J> {
 fn looked<S: Drop, L: Law<S>, J: Naming>(
     reader: Reader<Page<S, L>, (), Named<J>>,
     seen: &Shown<S, L, J>,
-) -> (
-    Reader<Page<S, L>, (), Named<J>>,
-    Option<Shown<S, L, J>>,
-)
+) -> (Reader<Page<S, L>, (), Named<J>>, Option<Shown<S, L, J>>)
     ensures { IfSome result.1 (GoesOn seen.now) }
 {
     match reader.enter_as::<Finds<J>>() {

@@ -109,7 +109,20 @@ fn opened<J: Naming, R: Wait + Abort>(
         None => Err("no seat".into()),
     };
     history.close(rt);
-    told
+    told?;
+    match seats.pop() {
+        Some(seat) => ended(rt, seat),
+        None => Err("no seat".into()),
+    }
+}
+
+// Once the history has ended its window finds nothing, however often one looks, though less was seen than was shown.
+fn ended<J: Naming>(rt: &impl Abort, seat: Seat<u64, Numbers, J>) -> Result<(), Fail> {
+    let (mut window, first) = seat.into_parts();
+    assert_eq!(rt; seen(&first), (1, 7));
+    assert!(rt; window.look(&first).is_none());
+    assert!(rt; window.look(&first).is_none());
+    Ok(())
 }
 
 #[test]

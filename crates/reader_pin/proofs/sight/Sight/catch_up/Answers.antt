@@ -11,7 +11,7 @@ pub invariant_of-self : goal.invariant_of-self
 invariant_of-self g c =
     let told = subst (TellsMore c.self.inside.seen c.args.newest.now) c.in-Some.is c.in_ok-newer.ensures in
     let is : IsSeenHistory IsOneSurvey c.in-Some.newer = subst (IsSeenHistory IsOneSurvey) (sym told.0) c.last-newest.ensures.seen in
-    let prefix : IsPrefix c.self.inside.seen.states c.in-Some.newer.states = subst (λ (seen : SeenHistory StateContent). IsPrefix c.self.inside.seen.states seen.states) (sym told.0) told.1 in
+    let prefix : IsPrefix c.self.inside.seen.states c.in-Some.newer.states = subst (λ (seen : SeenHistory StateContent). IsPrefix c.self.inside.seen.states seen.states) (sym told.0) told.1.begins in
     rw c.move_on.ensures.seen
     (moved_sight c.self.inside.seen c.in-Some.newer (held_at arc_value c.self.inside.seen.last c.self.inside.held) (held_at arc_value c.in-Some.newer.last c.move_on.new.held)
     c.self.invariant is prefix c.move_on.ensures.held)
@@ -20,7 +20,7 @@ pub returns-in-Some-clause-stays : goal.returns-in-Some-clause-stays
 returns-in-Some-clause-stays g c =
     let told = subst (TellsMore c.self.inside.seen c.args.newest.now) c.in-Some.is c.in_ok-newer.ensures in
     let is : IsSeenHistory IsOneSurvey c.in-Some.newer = subst (IsSeenHistory IsOneSurvey) (sym told.0) c.last-newest.ensures.seen in
-    let prefix : IsPrefix c.self.inside.seen.states c.in-Some.newer.states = subst (λ (seen : SeenHistory StateContent). IsPrefix c.self.inside.seen.states seen.states) (sym told.0) told.1 in
+    let prefix : IsPrefix c.self.inside.seen.states c.in-Some.newer.states = subst (λ (seen : SeenHistory StateContent). IsPrefix c.self.inside.seen.states seen.states) (sym told.0) told.1.begins in
     rw (← c.self.view_is, c.move_on.ensures.seen)
     (moved_stays c.self.inside.seen c.in-Some.newer c.self.inside.own.items (held_at arc_value c.self.inside.seen.last c.self.inside.held) (held_at arc_value c.in-Some.newer.last c.move_on.new.held)
     c.self.invariant.seen is prefix c.move_on.ensures.held)

@@ -9,10 +9,10 @@ returns-in_err-reserve-clause-legal g c = seen_legal c.self.inside.seen c.self.i
 
 pub append-requires : goal.append-requires
 append-requires g c =
-    let all : IsSeenHistory IsOneSurvey c.args.desk.now = subst (IsSeenHistory IsOneSurvey) c.newest.ensures c.last-all.ensures.seen in
+    let all : IsSeenHistory IsOneSurvey c.args.desk.now.newest = subst (IsSeenHistory IsOneSurvey) c.newest.ensures c.last-all.ensures.seen in
     record {
-      legal = survey_more c.args.desk.now c.args.next all (c.requires.conf ∙ c.requires.seen.conf) (c.requires.opening ∙ c.requires.seen.opening)
-          (step_at c.args.desk.now c.args.self.now c.args.next c.requires.seen all c.requires.step);
+      legal = survey_more c.args.desk.now.newest c.args.next all (c.requires.conf ∙ c.requires.seen.conf) (c.requires.opening ∙ c.requires.seen.opening)
+          (step_at c.args.desk.now.newest c.args.self.now c.args.next c.requires.seen all c.requires.step);
     }
 
 pub returns-in_err-newest-clause-legal : goal.returns-in_err-newest-clause-legal
