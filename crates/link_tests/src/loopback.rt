@@ -269,16 +269,18 @@ fn check_said<R: Outside, S: Source>(
     Ok(())
 }
 
-// A call to the door's address: both ways.
-fn check_dialed<R: Outside>(rt: &R, door: &mut TcpDoor<R>) -> Result<(), Fail> {
-    let address = format!(in rt.alloc(); "{}", door.listen()?)?;
-    let (mut input, mut output) = dial(rt, address.as_str())?;
-    write_whole(&mut output, b"first")?;
+// What the caller has said comes to the door, and then both ends are heard.
+fn check_called<R: Outside>(
+    rt: &R,
+    door: &mut TcpDoor<R>,
+    input: &mut TcpIn<R>,
+    output: &mut TcpOut<R>,
+) -> Result<(), Fail> {
     match door.accept()? {
         Some((mut theirs, mut ours)) => {
             assert_eq!(rt; read_some(&mut theirs), Some(5));
-            check_said(rt, &mut ours, &mut input)?;
-            check_said(rt, &mut output, &mut theirs)
+            check_said(rt, &mut ours, input)?;
+            check_said(rt, output, &mut theirs)
         }
         None => Err(Fail::new("no connection")),
     }
@@ -287,7 +289,10 @@ fn check_dialed<R: Outside>(rt: &R, door: &mut TcpDoor<R>) -> Result<(), Fail> {
 #[test]
 fn a_call_goes_through(rt: HostRuntime) -> Result<(), Fail> {
     let mut doors = tcp_doors(&rt, FREE, 1)?;
-    check_dialed(&rt, &mut doors[0])
+    let address = format!(in rt.alloc(); "{}", doors[0].listen()?)?;
+    let (mut input, mut output) = dial(&rt, address.as_str())?;
+    write_whole(&mut output, b"first")?;
+    check_called(&rt, &mut doors[0], &mut input, &mut output)
 }
 
 #[test]
