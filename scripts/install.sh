@@ -53,9 +53,9 @@ filled() {
         -e "s#^ExecStart=/usr/local/bin/#ExecStart=$prefix/bin/#" "$1"
 }
 
-# examples: the names of the files that stand in examples/.
+# examples: the files below examples/.
 examples() {
-    (cd examples && find . -maxdepth 1 -type f ! -name '.*' | sed 's#^\./##' | sort)
+    (cd examples && find . -type f ! -name '.*' | sed 's#^\./##' | sort)
 }
 
 install_all() {
@@ -93,9 +93,8 @@ install_all() {
 take_away() {
     while read -r path; do rm -f "$into/$path"; done <"$list"
     rm "$list"
-    for own in "$doc/examples" "$doc"; do
-        [ ! -d "$own" ] || rmdir "$own" || echo "install: $own stays, since something else is in it" >&2
-    done
+    find "$doc" -depth -type d -empty -delete
+    [ ! -d "$doc" ] || echo "install: $doc stays, since something else is in it" >&2
 }
 
 remove_all() {
