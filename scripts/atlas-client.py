@@ -5,7 +5,7 @@ hipsd serves surveys of each depth with known numbers (gradient_survey.py); exam
 runs without a window. Pixels of screenshots are compared with the numbers that healpy and astropy's WCS (wcslib) say are there: which
 direction a pixel of the picture shows, which cell that is, and which number this has.
 
-- Each survey as a whole and near, at the order of its leaves; where the picture ends, and what is blank; what is said under the pointer.
+- Each survey as a whole and near, at the order of its leaves, and one at an order between; where the picture ends, and what is blank; what is said under the pointer.
 - An edit changes nothing that is seen, its publication does, and the cells that changed are marked, those and no others.
 - While 16 leaves in view are published together over and over, through a proxy that delays each reply at random, each picture shows
   one generation, that which the page names.
@@ -224,7 +224,8 @@ class Trial:
         return "#" + urlencode({"ra": view[0], "dec": view[1], "width": view[2], "low": repr(low), "high": repr(high)}) + "&" + switches
 
 
-# The middle of a picture of each survey near its leaves, and its width in degrees.
+# The middle of a picture of each survey near its leaves, and its width in degrees; and of one that is drawn at an order between.
+BETWEEN = {32: ((84, 21, 25), 5)}
 NEAR = {8: (200, -35, 12), 16: (83, 21, 9), 32: (84, 21, 3), 64: (20, 83, 6)}
 
 
@@ -240,6 +241,11 @@ def looks_at_each(trial):
             trial.blame(f"{depth} bits near: {trial.text('shown')} in place of {expected}")
         trial.compare(f"{depth} bits, near", near, survey.deep)
         points_at(trial, depth, near)
+        for view, order in [BETWEEN[depth]] if depth in BETWEEN else []:
+            trial.open(trial.hash(view))
+            if trial.text("shown") != f"tiles of order {order}":
+                trial.blame(f"{depth} bits, {view[2]} degrees: {trial.text('shown')} in place of order {order}")
+            trial.compare(f"{depth} bits, order {order}", view, order + survey.bits)
         trial.end()
 
 
