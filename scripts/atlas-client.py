@@ -407,7 +407,7 @@ def goes_through_nginx(trial):
         free.close()
         for path in (folder, *folder.rglob("*")):
             path.chmod(0o755)
-        block = block.replace("/usr/share/hipsd/atlas", str(folder / "atlas"))
+        block = block.replace("/usr/local/share/doc/hipsd/examples/atlas", str(folder / "atlas"))
         (folder / "nginx.conf").write_text(NGINX.format(folder=folder, port=port, survey=trial.address, block=block))
         subprocess.run(["nginx", "-c", folder / "nginx.conf", "-p", folder], check=True, stderr=subprocess.DEVNULL)
         base, trial.base = trial.base, f"http://127.0.0.1:{port}"
