@@ -1,5 +1,6 @@
 -- What the answers of a board tell.
 use Rattle.std.specs.Prelude.{◌≡◌, ℕ, ◌≤◌, List, [], ◌∷◌, not, Some}
+use Rattle.dirty_plan.specs.Dirty.{steps_after}
 use Rattle.edit_journal.specs.Edit.{LeafEdit, leaf_of}
 use Rattle.edit_journal.specs.Leaves.{LeafTiles, leaves_of}
 use Rattle.edit_journal.specs.Faults.{edit_fault, batch_fault, has_leaf}
@@ -13,7 +14,7 @@ use Rattle.reader_pin.specs.declared.answer.BoardBatch.{BoardBatch}
 use Rattle.reader_pin.specs.declared.answer.BoardBatch.TheVariants.{Fault as Faulty, OutOfMemory as NoMemory}
 use Rattle.reader_pin.specs.declared.answer.Published.{Published}
 use Rattle.reader_pin.specs.declared.answer.Published.TheVariants.{New, Already}
-use Rattle.reader_pin.specs.Board.{BoardContent, Stays, Happens, InOne, Publishes, IsPublished, last_of, last_seen, edit_count}
+use Rattle.reader_pin.specs.Board.{BoardContent, Stays, Happens, InOne, Publishes, IsPublished, last_of, last_seen, edit_count, publish_work}
 
 -- the batch stands at the end of the last state's: one event
 abbrev pub Appends : List LeafEdit → BoardContent → BoardContent → Type 0
@@ -52,3 +53,9 @@ TellsBatchRefusal batch old new NoMemory = Unit {0}
 abbrev pub TellsPublished : BoardContent → BoardContent → Published → Type 0
 TellsPublished old new (New k) = Happens (Publishes k) old new × (edit_count (last_seen old) ≤ k)
 TellsPublished old new (Already k) = Stays old new × IsPublished k (last_seen new)
+
+-- how many steps there are after a publication, where there were so many before it and one generation was built, which is
+-- published; without an event none was
+abbrev pub CountsOnce : BoardContent → BoardContent → ℕ → ℕ → Published → Type 0
+CountsOnce old new before after (New k) = after ≡ steps_after before (publish_work old new)
+CountsOnce old new before after (Already k) = after ≡ before

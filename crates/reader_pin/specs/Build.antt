@@ -1,5 +1,5 @@
 -- What is built for a publication: the generation of all edits of a state.
-use Rattle.std.specs.Prelude.{◌≡◌, ℕ, ◌≤◌, length, take, Option, Some, None, IfOk}
+use Rattle.std.specs.Prelude.{◌≡◌, ℕ, ◌≤◌, length, take, Option, Some, None, IfOk, OnOk}
 use Rattle.dirty_plan.specs.Dirty.{work, steps_after}
 use Rattle.edit_journal.specs.Leaves.{leaves_of}
 use Rattle.generation.specs.Generation.{GenerationContent}
@@ -18,9 +18,11 @@ whole_generation state = record {
 abbrev pub build_work : StateContent → ℕ
 build_work state = work state.conf.shape.top state.conf.shape.low (touched (state_edits state) state.tip (length (state_edits state)))
 
--- the generation was built of the state, or there was no memory; the steps, so many before, rose by at most that work
+-- the generation was built of the state, and the steps, so many before, rose by just that work; or there was no memory, and they
+-- rose by at most that
 pub record Builds (state : StateContent) (before : ℕ) (built : Built) : Type 0 where
   pub generation : IfOk built.generation (λ generation. generation ≡ whole_generation state)
+  pub counted : OnOk built.generation (built.steps ≡ steps_after before (build_work state))
   pub steps : built.steps ≤ steps_after before (build_work state)
   pub never_falls : before ≤ built.steps
 

@@ -24,8 +24,14 @@ use survey_link::Gate;
 ///
 /// The calls that may wait for another board take the runtime; the others never wait, and take no memory.
 pub trait Board {
+    ghost use Rattle.reader_pin.specs.declared.answer.Published.{Published};
+
     /// What the board has seen and holds.
     ghost content: { Self → BoardContent };
+
+    /// What it tells of the steps, so many before a publication and so many after it, beyond the bounds below. A board that
+    /// other boards share tells nothing more: it builds outside the lock, and what it built may be published by others by then.
+    ghost counts: { BoardContent → BoardContent → ℕ → ℕ → Published → Type 0 };
 
     /// Looks for newer states. It makes no event.
     fn pin(&mut self)
@@ -90,6 +96,7 @@ pub trait Board {
         requires builds { (state : _) (before : _) (built : _) → F.post build.now state before built → Builds state.now before built }
         ensures published { IfOk result.0 (TellsPublished (content self.old) (content self.new)) }
         ensures unchanged { OnErr result.0 (Stays (content self.old) (content self.new)) }
+        ensures counted { IfOk result.0 (counts (content self.old) (content self.new) steps result.1) }
         ensures steps { OnOk result.0 (result.1 ≤ steps_after steps (2 * publish_work (content self.old) (content self.new))) }
         ensures never_falls { steps ≤ result.1 };
 
@@ -108,6 +115,7 @@ pub trait Board {
     ) -> Result<Published, AllocError>
         ensures published { IfOk result (TellsPublished (content self.old) (content self.new)) }
         ensures unchanged { OnErr result (Stays (content self.old) (content self.new)) }
+        ensures counted { IfOk result (counts (content self.old) (content self.new) steps.old steps.new) }
         ensures steps { OnOk result (steps.new ≤ steps_after steps.old (2 * publish_work (content self.old) (content self.new))) }
         ensures never_falls { steps.old ≤ steps.new }
     {

@@ -74,6 +74,8 @@ impl<'a, J: Naming> Shared<'a, J> {
 impl<'a, J: Naming> Board for Shared<'a, J> {
     ghost content = { λ board. board };
 
+    ghost counts = { λ old new before after published. Unit {0} };
+
     fn pin(&mut self) {
         self.sight.look(&mut self.window);
     }

@@ -1,5 +1,5 @@
 //! The board of a survey that nobody else changes.
-ghost use Rattle.std.specs.Prelude.{◌≡◌, ℕ, ◌*◌, ◌<◌, ◌≤◌, [], map, length, All, option_map, IfOk, IfErr, OnOk, OnErr};
+ghost use Rattle.std.specs.Prelude.{◌≡◌, ℕ, ◌*◌, ◌<◌, ◌≤◌, [], map, length, All, option_map, IsOk, IfOk, IfErr, OnOk, OnErr};
 ghost use Rattle.edit_journal.specs.Edit.{edit_of, leaf_of};
 ghost use Rattle.edit_journal.specs.Leaves.{FitsEdit, leaves_of};
 ghost use Rattle.edit_journal.specs.Faults.{has_leaf};
@@ -8,7 +8,7 @@ ghost use Rattle.survey_core.specs.History.{edits_at, IsStep, IsHistory};
 ghost use Rattle.survey_core.specs.State.{state_edits, survey_state};
 ghost use Rattle.reader_pin.specs.Board.{Stays, Happens, Publishes, last_seen, state_in, edit_count, holding_last, holding_none, publish_work};
 ghost use Rattle.reader_pin.specs.Build.{Builds, whole_generation};
-ghost use Rattle.reader_pin.specs.Answers.{Accepts, AcceptsAll, TellsRefusal, TellsBatchRefusal, TellsPublished};
+ghost use Rattle.reader_pin.specs.Answers.{Accepts, AcceptsAll, TellsRefusal, TellsBatchRefusal, TellsPublished, CountsOnce};
 
 use crate::answer::{Accepted, BoardBatch, BoardRefusal, Published};
 use crate::board::Board;
@@ -97,6 +97,7 @@ impl Solo {
     ) -> Result<Published, AllocError>
         requires unpublished { (last_seen self.old).tip < edit_count (last_seen self.old) }
         requires whole { IfOk generation (λ generation. generation ≡ whole_generation (state_in self.old (last_seen self.old))) }
+        ensures built { OnOk result (IsOk generation) }
         ensures published { IfOk result (λ published. published ≡ Published.New (edit_count (last_seen self.old))) }
         ensures event { OnOk result (Happens (Publishes (edit_count (last_seen self.old))) self.old self.new) }
         ensures edits { OnOk result (edits_at (last_seen self.new) ≡ edits_at (last_seen self.old)) }
@@ -112,8 +113,11 @@ impl Solo {
 
 impl Board for Solo {
     ghost use Rattle.reader_pin.specs.Solo.{IsAlone};
+    ghost use Rattle.reader_pin.specs.Answers.{CountsOnce};
 
     ghost content = { λ board. board };
+
+    ghost counts = { CountsOnce };
 
     /// There are no newer states.
     fn pin(&mut self) {
@@ -175,6 +179,7 @@ impl Board for Solo {
         requires builds { (state : _) (before : _) (built : _) → F.post build.now state before built → Builds state.now before built }
         ensures published { IfOk result.0 (TellsPublished self.old self.new) }
         ensures unchanged { OnErr result.0 (Stays self.old self.new) }
+        ensures counted { IfOk result.0 (CountsOnce self.old self.new steps result.1) }
         ensures steps { OnOk result.0 (result.1 ≤ steps_after steps (2 * publish_work self.old self.new)) }
         ensures once { OnOk result.0 (result.1 ≤ steps_after steps (publish_work self.old self.new)) }
         ensures never_falls { steps ≤ result.1 }
