@@ -20,6 +20,7 @@ use tile_pixels::Tile;
 ///
 /// Where there is no such depth: never.
 pub fn shape_of(top: u8) -> Result<Shape, Fail>
+    requires { IsShape top 0 1 }
     ensures { IfOk result (λ shape. (shape.top ≡ top) × (shape.low ≡ 0) × (shape.n ≡ 1)) }
 {
     let depth = Depth::new(16, -32_768).ok_or("no depth")?;
