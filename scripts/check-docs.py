@@ -1,7 +1,7 @@
 #!/usr/bin/env python3
 """Looks through the documents for what no longer is: dead links, and names of files, functions and types that are gone.
 
-README has at most 1,200 words. Prints a line for each fault; the status is 1 where there is one.
+README has at most 1,200 words, HEADLINE 6,000, and a sentence 40. Prints a line for each fault; the status is 1 if there is one.
 """
 
 import re
@@ -10,7 +10,10 @@ import sys
 from pathlib import Path
 
 ROOT = Path(__file__).resolve().parent.parent
-MOST_WORDS = {"README.md": 1200}
+MOST_WORDS = {"README.md": 1200, "docs/HEADLINE.md": 6000}
+MOST_IN_A_SENTENCE = 40
+# What ends a sentence: a full stop, behind which emphasis or a bracket may close; the end of a table's cell or of a paragraph.
+SENTENCE_END = re.compile(r"(?<=[.!?])[*)]*\s+|\s+\|\s+|\n\s*\n|\n(?=\s*(?:[-*|#]|\d+\.)\s)")
 # Words in a path that stand for others.
 PLACEHOLDERS = ("NEW", "NAME", "NUMBER", "FILE", "..")
 # Files that documents name and the repository doesn't have: one of a survey's folder, and one of a change that was tried.
@@ -26,6 +29,14 @@ def tracked():
 
 def without_blocks(text):
     return re.sub(r"```.*?```", "", text, flags=re.S)
+
+
+def sentences(prose):
+    # A row that a script takes from the head of a file of definitions isn't written here.
+    prose = re.sub(r"^\| `\w+/specs/.*$", "", prose, flags=re.M)
+    # A name in code and the address of a link are one word each.
+    plain = re.sub(r"\]\([^)]*\)", "]", re.sub(r"`[^`\n]*`", "`..`", prose))
+    return SENTENCE_END.split(plain)
 
 
 def names_in_code(paths):
@@ -54,6 +65,9 @@ def faults_of(document, paths, declared, owners):
     if words > MOST_WORDS.get(document, words):
         yield f"{words} words, {MOST_WORDS[document]} at most"
     prose = without_blocks(text)
+    for sentence in sentences(prose):
+        if len(sentence.split()) > MOST_IN_A_SENTENCE:
+            yield f"over {MOST_IN_A_SENTENCE} words: {' '.join(sentence.split())[:100]}.."
     for link in re.findall(r"\]\(([^)#\s]+)(?:#[^)]*)?\)", prose):
         if "://" not in link and not (ROOT / document).parent.joinpath(link).exists():
             yield f"the link {link} leads nowhere"
