@@ -9,7 +9,7 @@ use std::test::Fail;
 use std::{fs, io};
 use survey_link::{FolderShelf, LinkFault, Shelf};
 
-// Each line: a word, a path, and a text or a number.
+// Each line: a word, a path, and a text or a number. What is said of the last fault has the system's words.
 static STEPS: &str = "\
 lacks shelf/a/b -
 removed shelf/a/b -
@@ -38,18 +38,23 @@ lacks shelf/c -
 lacks shelf/a/b/c -
 removed shelf/a/b/c -
 faults - 0
+says - nothing
 unreadable shelf/a -
 faults - 1
+says - can't read shelf/a: Is a directory (os error 21)
 unwritable shelf/a x
 faults - 2
+says - can't move the whole file to shelf/a: Is a directory (os error 21)
 gone shelf/a.unfinished -
 unwritable shelf/a/b/c x
 faults - 3
+says - can't make the folder shelf/a/b: File exists (os error 17)
 unreadable shelf/e.unfinished -
 unwritable shelf/e.unfinished x
 unwritable ../shelf-x x
 unreadable shelf/../shelf/a/b -
 faults - 7
+says - can't read shelf/../shelf/a/b: no file of a survey may lie there
 holds shelf/a/b one
 listed - 1
 ";
@@ -61,6 +66,17 @@ fn count<H: Shelf>(alloc: Global, shelf: &mut H) -> Result<usize, LinkFault> {
         .iter()
         .filter(|path| path.as_str().starts_with("shelf/"));
     Ok(ours.count())
+}
+
+// Whether this is said of the last fault.
+fn says<R>(alloc: Global, shelf: &FolderShelf<R>, text: &str) -> bool {
+    match shelf.last_fault() {
+        Some(fault) => match format!(in alloc; "{fault}") {
+            Ok(said) => said.as_str() == text,
+            Err(_) => false,
+        },
+        None => text == "nothing",
+    }
 }
 
 // Whether the step goes as its word says.
@@ -79,6 +95,7 @@ fn goes<R: Files + AllocGlobal + Clone + Drop>(
         "removed" => shelf.remove(path).is_ok(),
         "listed" => count(alloc, shelf).ok() == text.parse::<usize>().ok(),
         "faults" => Some(shelf.faults()) == text.parse::<u64>().ok(),
+        "says" => says(alloc, shelf, text),
         "unreadable" => shelf.get(alloc, path).is_err(),
         "unwritable" => shelf.put(path, text.as_bytes()).is_err(),
         "left" => fs::write(rt, path, text).is_ok(),
@@ -92,7 +109,7 @@ fn files_lie_in_a_folder(rt: HostRuntime) -> Result<(), Fail> {
     let _ = fs::remove_dir_all(&rt, "shelf");
     let mut shelf = FolderShelf::here(rt.clone()?);
     for line in STEPS.lines() {
-        let mut words = line.split(' ');
+        let mut words = line.splitn(3, ' ');
         let (word, path, text) = (words.next(), words.next(), words.next());
         let went = match (word, path, text) {
             (Some(word), Some(path), Some(text)) => goes(&rt, &mut shelf, word, path, text),

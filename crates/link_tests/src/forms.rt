@@ -318,11 +318,22 @@ impl Read for Bumpy {
     }
 }
 
+// Whether there is an error of this kind.
+fn is_of_kind(error: Option<io::Error>, kind: ErrorKind) -> bool {
+    match error {
+        Some(error) => error.kind() == kind,
+        None => false,
+    }
+}
+
 #[test]
 fn streams_of_the_outside(rt: HostRuntime) -> Result<(), Fail> {
     let alloc = rt.alloc();
     assert!(rt; gives_all(alloc, &mut StreamSource::new(TEXT), &mut [0; 2], 0)?);
-    assert!(rt; StreamSource::new(Broken).read(&mut [0; 2]).is_err());
+    let mut broken = StreamSource::new(Broken);
+    assert!(rt; broken.last_error().is_none());
+    assert!(rt; broken.read(&mut [0; 2]).is_err());
+    assert!(rt; is_of_kind(broken.last_error(), ErrorKind::ConnectionReset));
     let mut buf = [0; 2];
     let mut bumpy = StreamSource::new(Bumpy::new(alloc));
     assert!(rt; bumpy.read(&mut buf).is_ok_and(|count| count == 1));
@@ -344,9 +355,12 @@ fn streams_to_the_outside(rt: HostRuntime) {
     assert!(rt; bumpy.taken.as_slice() == b"hello, world!".as_slice());
     assert!(rt; bumpy.flushes == 1);
     let mut broken = StreamSink::new(Broken);
+    assert!(rt; broken.last_error().is_none());
     assert!(rt; write_whole(&mut broken, b"hello").is_err());
+    assert!(rt; is_of_kind(broken.last_error(), ErrorKind::WriteZero));
     assert!(rt; broken.write_parts([b"", b"h", b"", b""]).is_err());
     assert!(rt; broken.flush().is_err());
+    assert!(rt; is_of_kind(broken.last_error(), ErrorKind::ConnectionReset));
 }
 
 // Whether the sink takes so many bytes of the parts by one call, `None` where it fails, and then holds these.

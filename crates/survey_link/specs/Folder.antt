@@ -6,17 +6,18 @@ use Rattle.std.specs.declared.io.ErrorKind.{ErrorKind}
 use Rattle.std.specs.declared.io.ErrorKind.TheVariants.{NotFound, NotADirectory, Interrupted}
 use Rattle.std.specs.declared.io.ErrorKind.TheVariants as Kind
 use Rattle.survey_link.specs.Shelf.{ShelfFiles}
-use Rattle.survey_link.specs.declared.file_fault.FileFault.{FileFault}
-use Rattle.survey_link.specs.declared.file_fault.FileFault.TheVariants.{Absent, OutOfMemory, Failed}
+use Rattle.survey_link.specs.declared.file_fault.Meaning.{Meaning}
+use Rattle.survey_link.specs.declared.file_fault.Meaning.TheVariants.{Absent, OutOfMemory, Failed}
+use Rattle.survey_link.specs.declared.file_fault.Meaning.TheVariants as Says
 
--- what an error of this kind says of a call on a file: nothing where the call was interrupted, and is to be made again; that
--- there is no such file, also where a folder on the way isn't there or is none; that there was no memory; else that it failed
-abbrev pub fault_of : ErrorKind → Option FileFault
-fault_of Interrupted = None
-fault_of NotFound = Some Absent
-fault_of NotADirectory = Some Absent
-fault_of Kind.OutOfMemory = Some OutOfMemory
-fault_of _ = Some Failed
+-- what an error of this kind says of a call on a file: that it was interrupted, and is to be made again; that there is no such
+-- file, also where a folder on the way isn't there or is none; that there was no memory; else that it failed
+abbrev pub meaning_of : ErrorKind → Meaning
+meaning_of Interrupted = Says.Interrupted
+meaning_of NotFound = Absent
+meaning_of NotADirectory = Absent
+meaning_of Kind.OutOfMemory = OutOfMemory
+meaning_of _ = Failed
 
 -- the file that stood at the one path stands at the other, in place of what stood there
 abbrev pub moved_file : List ℕ → List ℕ → ShelfFiles → Option (List ℕ) → ShelfFiles

@@ -1,12 +1,26 @@
 //! Why a call on a file was refused, and what an error of the outside says of it.
 ghost use Rattle.std.specs.Prelude.{◌≡◌, ◌≢◌, IfOk, IfErr, IsErrOf};
-ghost use Rattle.survey_link.specs.Folder.{fault_of};
+ghost use Rattle.survey_link.specs.Folder.{meaning_of};
 
+use crate::failed_call::FailedCall;
 use std::io::ErrorKind;
 
 /// Why a call on a file was refused.
-#[derive(Clone, Copy, Debug, PartialEq, Eq)]
+#[derive(Drop)]
 pub(crate) enum FileFault {
+    /// There is no such file or folder.
+    Absent,
+    /// There was no memory.
+    OutOfMemory,
+    /// All else.
+    Failed(FailedCall),
+}
+
+/// What an error says of a call on a file.
+#[derive(Clone, Copy, Debug, PartialEq, Eq)]
+pub(crate) enum Meaning {
+    /// The call was interrupted, and is to be made again.
+    Interrupted,
     /// There is no such file or folder.
     Absent,
     /// There was no memory.
@@ -15,15 +29,15 @@ pub(crate) enum FileFault {
     Failed,
 }
 
-/// What an error of this kind says; `None` where the call was interrupted and is to be made again.
-pub(crate) fn fault_of(kind: ErrorKind) -> Option<FileFault>
-    ensures { result ≡ fault_of kind }
+/// What an error of this kind says of a call on a file.
+pub(crate) fn meaning_of(kind: ErrorKind) -> Meaning
+    ensures { result ≡ meaning_of kind }
 {
     match kind {
-        ErrorKind::Interrupted => None,
-        ErrorKind::NotFound | ErrorKind::NotADirectory => Some(FileFault::Absent),
-        ErrorKind::OutOfMemory => Some(FileFault::OutOfMemory),
-        _ => Some(FileFault::Failed),
+        ErrorKind::Interrupted => Meaning::Interrupted,
+        ErrorKind::NotFound | ErrorKind::NotADirectory => Meaning::Absent,
+        ErrorKind::OutOfMemory => Meaning::OutOfMemory,
+        _ => Meaning::Failed,
     }
 }
 

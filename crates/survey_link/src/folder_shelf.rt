@@ -1,10 +1,11 @@
 //! The shelf over the current folder.
-ghost use Rattle.std.specs.Prelude.{◌≡◌, ◌≤◌, None, Bool, true, false, All, Err, string_bytes, IfOk, OnOk, OnErr, IsErrOf};
+ghost use Rattle.std.specs.Prelude.{◌≡◌, ◌≤◌, ◌↔◌, IsNone, None, Bool, true, false, All, Err, string_bytes, IfOk, OnOk, OnErr, IsErrOf};
 ghost use Rattle.survey_link.specs.Link.{next_count};
 ghost use Rattle.survey_link.specs.Folder.{IsPut};
 ghost use Rattle.survey_link.specs.Shelf.{OthersStay};
 ghost use Rattle.survey_link.specs.ShelfPath.{is_left_over, is_shelf_path, unfinished};
 
+use crate::failed_call::{FailedCall, FileCall};
 use crate::faults::LinkFault;
 use crate::file_fault::FileFault;
 use crate::folder::{Folder, put_by_way_of};
@@ -12,6 +13,8 @@ use crate::here::Here;
 use crate::shelf::Shelf;
 use crate::shelf_path::{is_shelf_path, unfinished};
 use std::alloc::Global;
+use std::io;
+use std::io::ErrorKind;
 use std::marker::Model;
 use std::rt::Files;
 
@@ -22,15 +25,18 @@ use std::rt::Files;
 ///
 /// What it answers as `Failed` counts as a fault: also a name that isn't UTF-8, a folder in place of a file, and a path that
 /// no file on the shelf may have, since it would leave the folder, spell a path otherwise than listed, or is a left-over's.
-/// An interrupted call is made again and counts as none, nor does want of memory.
+/// An interrupted call is made again and counts as none, nor does want of memory. The last call that failed is kept, for whoever
+/// wants to say it.
 #[derive(Drop)]
 pub struct FolderShelf<R> {
     alloc: Global,
     folder: Here<R>,
     faults: u64,
+    last: Option<FailedCall>,
 }
 
 impl<R> Model for FolderShelf<R> {
+    ghost use Rattle.std.specs.Prelude.{◌≡◌, ◌↔◌, IsNone};
     ghost use Rattle.survey_link.specs.Folder.{FolderState, folder_code};
 
     ghost Value = { FolderState };
@@ -38,6 +44,8 @@ impl<R> Model for FolderShelf<R> {
     ghost coded = { folder_code };
 
     ghost view = { λ a. record { faults = a.faults } };
+
+    ghost invariant = { λ a. IsNone a.last ↔ (a.faults ≡ 0) };
 }
 
 impl<R: AllocGlobal> FolderShelf<R> {
@@ -47,8 +55,9 @@ impl<R: AllocGlobal> FolderShelf<R> {
     {
         FolderShelf {
             alloc: rt.alloc(),
-            folder: Here::new(rt),
+            folder: Here::new(rt.alloc(), rt),
             faults: 0,
+            last: None,
         }
     }
 }
@@ -61,10 +70,42 @@ impl<R> FolderShelf<R> {
         self.faults
     }
 
+    /// The last call that failed; `None` exactly where none did.
+    pub fn last_fault(&self) -> Option<&FailedCall>
+        ensures { IsNone result ↔ (self.now.faults ≡ 0) }
+    {
+        self.last.as_ref()
+    }
+
+    // Counts a call that failed.
+    fn fail<T>(&mut self, failed: FailedCall) -> Result<T, LinkFault>
+        ensures failed { IsErrOf result LinkFault.Failed }
+        ensures counted { self.new.faults ≡ next_count self.old.faults }
+        ensures never_falls { self.old.faults ≤ self.new.faults }
+    {
+        self.faults = self.faults.saturating_add(1);
+        self.last = Some(failed);
+        Err(LinkFault::Failed)
+    }
+
+    // Counts a call on a path that no file on the shelf may have.
+    fn refuse<T>(&mut self, call: FileCall, path: &str) -> Result<T, LinkFault>
+        ensures failed { IsErrOf result LinkFault.Failed }
+        ensures counted { self.new.faults ≡ next_count self.old.faults }
+        ensures never_falls { self.old.faults ≤ self.new.faults }
+    {
+        let error = io::Error::new(ErrorKind::InvalidInput, "no file of a survey may lie there");
+        self.fail(FailedCall::new(self.alloc, call, path, error))
+    }
+
     // Counts what is answered as `Failed`.
-    fn answer<T>(&mut self, outcome: Result<T, FileFault>) -> Result<T, LinkFault>
+    fn answer<T>(
+        &mut self,
+        call: FileCall,
+        path: &str,
+        outcome: Result<T, FileFault>,
+    ) -> Result<T, LinkFault>
         ensures value { IfOk result (λ value. outcome ≡ Ok value) }
-        ensures refused { IsErrOf outcome FileFault.Failed → IsErrOf result LinkFault.Failed }
         ensures sound { OnOk result (self.new ≡ self.old) }
         ensures failed { IsErrOf result LinkFault.Failed → self.new.faults ≡ next_count self.old.faults }
         ensures out_of_memory { IsErrOf result LinkFault.OutOfMemory → self.new ≡ self.old }
@@ -73,9 +114,10 @@ impl<R> FolderShelf<R> {
         match outcome {
             Ok(value) => Ok(value),
             Err(FileFault::OutOfMemory) => Err(LinkFault::OutOfMemory),
-            Err(_) => {
-                self.faults = self.faults.saturating_add(1);
-                Err(LinkFault::Failed)
+            Err(FileFault::Failed(failed)) => self.fail(failed),
+            Err(FileFault::Absent) => {
+                let error = io::Error::from(ErrorKind::NotFound);
+                self.fail(FailedCall::new(self.alloc, call, path, error))
             }
         }
     }
@@ -110,7 +152,7 @@ impl<R: Files + AllocGlobal + Clone + Drop> Shelf for FolderShelf<R> {
         ensures never_falls { self.old.faults ≤ self.new.faults }
     {
         let outcome = self.folder.paths(alloc);
-        self.answer(outcome)
+        self.answer(FileCall::List, ".", outcome)
     }
 
     fn get(&mut self, alloc: Global, path: &str) -> Result<Option<Vec<u8>>, LinkFault>
@@ -121,10 +163,10 @@ impl<R: Files + AllocGlobal + Clone + Drop> Shelf for FolderShelf<R> {
         ensures never_falls { self.old.faults ≤ self.new.faults }
     {
         if !is_shelf_path(path) {
-            return self.answer(Err(FileFault::Failed));
+            return self.refuse(FileCall::Read, path);
         }
         let outcome = self.folder.read(alloc, path);
-        self.answer(outcome)
+        self.answer(FileCall::Read, path, outcome)
     }
 
     fn put(&mut self, path: &str, bytes: &[u8]) -> Result<(), LinkFault>
@@ -135,10 +177,10 @@ impl<R: Files + AllocGlobal + Clone + Drop> Shelf for FolderShelf<R> {
         ensures never_falls { self.old.faults ≤ self.new.faults }
     {
         if !is_shelf_path(path) {
-            return self.answer(Err(FileFault::Failed));
+            return self.refuse(FileCall::Put, path);
         }
         let outcome = put_at(&mut self.folder, self.alloc, path, bytes);
-        self.answer(outcome)
+        self.answer(FileCall::Put, path, outcome)
     }
 
     fn remove(&mut self, path: &str) -> Result<(), LinkFault>
@@ -149,9 +191,9 @@ impl<R: Files + AllocGlobal + Clone + Drop> Shelf for FolderShelf<R> {
         ensures never_falls { self.old.faults ≤ self.new.faults }
     {
         if !is_shelf_path(path) {
-            return self.answer(Err(FileFault::Failed));
+            return self.refuse(FileCall::Remove, path);
         }
         let outcome = self.folder.remove(path);
-        self.answer(outcome)
+        self.answer(FileCall::Remove, path, outcome)
     }
 }

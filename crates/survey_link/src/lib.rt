@@ -6,6 +6,7 @@
 
 mod calls;
 mod door;
+mod failed_call;
 mod faults;
 mod file_fault;
 mod folder;
@@ -26,6 +27,7 @@ mod stream;
 mod sure_source;
 
 pub use door::Door;
+pub use failed_call::FailedCall;
 pub use faults::{DoorFault, Failed, LinkFault};
 pub use folder_shelf::FolderShelf;
 pub use gate::{Gate, OpenGate};

@@ -1,5 +1,5 @@
 //! The forms over std's readers and writers.
-ghost use Rattle.std.specs.Prelude.{◌≡◌, ◌<◌, ◌≤◌, None, length, take, IfOk, OnOk, OnErr, Ok};
+ghost use Rattle.std.specs.Prelude.{◌≡◌, ◌<◌, ◌≤◌, ◌↔◌, IsNone, IsErr, None, length, take, IfOk, OnOk, OnErr, Ok};
 ghost use Rattle.std.specs.Io.KnownBytes.{Appends, Consumes, IsAtEnd, Keeps};
 ghost use Rattle.std.specs.Io.Slices.{io_slices_bytes};
 ghost use Rattle.survey_link.specs.Link.{next_count, parts_bytes};
@@ -7,6 +7,7 @@ ghost use Rattle.survey_link.specs.Link.{next_count, parts_bytes};
 use crate::faults::Failed;
 use crate::sink::Sink;
 use crate::source::Source;
+use std::io;
 use std::io::{ErrorKind, IoSlice, Read, Write};
 use std::marker::Model;
 
@@ -17,9 +18,11 @@ use std::marker::Model;
 pub struct StreamSource<R> {
     stream: R,
     faults: u64,
+    last: Option<io::Error>,
 }
 
 impl<R> Model for StreamSource<R> {
+    ghost use Rattle.std.specs.Prelude.{◌≡◌, ◌↔◌, IsNone};
     ghost use Rattle.survey_link.specs.Stream.{StreamState, stream_code};
 
     ghost Value = { StreamState R };
@@ -27,6 +30,8 @@ impl<R> Model for StreamSource<R> {
     ghost coded = { stream_code R.code };
 
     ghost view = { λ a. record { stream = a.stream; faults = a.faults } };
+
+    ghost invariant = { λ a. IsNone a.last ↔ (a.faults ≡ 0) };
 }
 
 impl<R> StreamSource<R> {
@@ -34,7 +39,30 @@ impl<R> StreamSource<R> {
     pub fn new(stream: R) -> StreamSource<R>
         ensures { result ≡ record { stream = stream; faults = 0 } }
     {
-        StreamSource { stream, faults: 0 }
+        StreamSource {
+            stream,
+            faults: 0,
+            last: None,
+        }
+    }
+
+    /// What was answered by the last call that failed; `None` exactly where none did.
+    pub fn last_error(&self) -> Option<io::Error>
+        ensures { IsNone result ↔ (self.now.faults ≡ 0) }
+    {
+        self.last
+    }
+
+    // Counts a call that failed.
+    fn fail<T>(&mut self, error: io::Error) -> Result<T, Failed>
+        ensures failed { IsErr result }
+        ensures kept { self.new.stream ≡ self.old.stream }
+        ensures counted { self.new.faults ≡ next_count self.old.faults }
+        ensures never_falls { self.old.faults ≤ self.new.faults }
+    {
+        self.faults = self.faults.saturating_add(1);
+        self.last = Some(error);
+        Err(Failed)
     }
 }
 
@@ -60,13 +88,12 @@ impl<R: Read> Source for StreamSource<R> {
                 Ok(count) => return Ok(count),
                 Err(error) => {
                     if error.kind() != ErrorKind::Interrupted {
-                        break;
+                        return self.fail(error);
                     }
                 }
             }
         }
-        self.faults = self.faults.saturating_add(1);
-        Err(Failed)
+        self.fail(io::Error::from(ErrorKind::Interrupted))
     }
 }
 
@@ -78,9 +105,11 @@ impl<R: Read> Source for StreamSource<R> {
 pub struct StreamSink<W> {
     stream: W,
     faults: u64,
+    last: Option<io::Error>,
 }
 
 impl<W> Model for StreamSink<W> {
+    ghost use Rattle.std.specs.Prelude.{◌≡◌, ◌↔◌, IsNone};
     ghost use Rattle.survey_link.specs.Stream.{StreamState, stream_code};
 
     ghost Value = { StreamState W };
@@ -88,6 +117,8 @@ impl<W> Model for StreamSink<W> {
     ghost coded = { stream_code W.code };
 
     ghost view = { λ a. record { stream = a.stream; faults = a.faults } };
+
+    ghost invariant = { λ a. IsNone a.last ↔ (a.faults ≡ 0) };
 }
 
 impl<W> StreamSink<W> {
@@ -95,7 +126,30 @@ impl<W> StreamSink<W> {
     pub fn new(stream: W) -> StreamSink<W>
         ensures { result ≡ record { stream = stream; faults = 0 } }
     {
-        StreamSink { stream, faults: 0 }
+        StreamSink {
+            stream,
+            faults: 0,
+            last: None,
+        }
+    }
+
+    /// What was answered by the last call that failed; `None` exactly where none did.
+    pub fn last_error(&self) -> Option<io::Error>
+        ensures { IsNone result ↔ (self.now.faults ≡ 0) }
+    {
+        self.last
+    }
+
+    // Counts a call that failed.
+    fn fail<T>(&mut self, error: io::Error) -> Result<T, Failed>
+        ensures failed { IsErr result }
+        ensures kept { self.new.stream ≡ self.old.stream }
+        ensures counted { self.new.faults ≡ next_count self.old.faults }
+        ensures never_falls { self.old.faults ≤ self.new.faults }
+    {
+        self.faults = self.faults.saturating_add(1);
+        self.last = Some(error);
+        Err(Failed)
     }
 }
 
@@ -118,17 +172,16 @@ impl<W: Write> Sink for StreamSink<W> {
     {
         for _ in 0..u64::MAX {
             match self.stream.write(buf) {
-                Ok(0) => break,
+                Ok(0) => return self.fail(io::Error::from(ErrorKind::WriteZero)),
                 Ok(count) => return Ok(count),
                 Err(error) => {
                     if error.kind() != ErrorKind::Interrupted {
-                        break;
+                        return self.fail(error);
                     }
                 }
             }
         }
-        self.faults = self.faults.saturating_add(1);
-        Err(Failed)
+        self.fail(io::Error::from(ErrorKind::Interrupted))
     }
 
     // By one call of the writer's `write_vectored`.
@@ -145,17 +198,16 @@ impl<W: Write> Sink for StreamSink<W> {
         let slices = io_slices(parts);
         for _ in 0..u64::MAX {
             match self.stream.write_vectored(&slices) {
-                Ok(0) => break,
+                Ok(0) => return self.fail(io::Error::from(ErrorKind::WriteZero)),
                 Ok(count) => return Ok(count),
                 Err(error) => {
                     if error.kind() != ErrorKind::Interrupted {
-                        break;
+                        return self.fail(error);
                     }
                 }
             }
         }
-        self.faults = self.faults.saturating_add(1);
-        Err(Failed)
+        self.fail(io::Error::from(ErrorKind::Interrupted))
     }
 
     fn flush(&mut self) -> Result<(), Failed>
@@ -169,13 +221,12 @@ impl<W: Write> Sink for StreamSink<W> {
                 Ok(()) => return Ok(()),
                 Err(error) => {
                     if error.kind() != ErrorKind::Interrupted {
-                        break;
+                        return self.fail(error);
                     }
                 }
             }
         }
-        self.faults = self.faults.saturating_add(1);
-        Err(Failed)
+        self.fail(io::Error::from(ErrorKind::Interrupted))
     }
 }
 

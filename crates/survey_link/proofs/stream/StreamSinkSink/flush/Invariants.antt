@@ -4,6 +4,6 @@ use Rattle.survey_link.proofs.stream.StreamSinkSink.flush.Given as goal
 
 abbrev pub invariant-loop : goal.invariant-loop
 invariant-loop g l = record {
-  faults : l.self-inside.faults ≡ l.fn.self.faults;
-  kept : Keeps (g.W.Write.contents l.fn.self.stream) (g.W.Write.contents l.self-inside.stream);
+  faults : l.self.faults ≡ l.fn.self.faults;
+  kept : Keeps (g.W.Write.contents l.fn.self.stream) (g.W.Write.contents l.self.stream);
 }
