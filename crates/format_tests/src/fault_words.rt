@@ -5,18 +5,32 @@ use std::test::Fail;
 use survey_conf::{Conf, ConfRefusal, FaultWords, likely_key};
 
 // Another line in place of one of eight, from 0, or after them, and the fault of the description in words.
-static WORDS: [(usize, &str, &str); 10] = [
-    (8, "no sign", "line 9: not of the form key = value"),
-    (8, "key = \u{7f}", "line 9: not of the form key = value"),
+static WORDS: [(usize, &str, &str); 12] = [
+    (8, "no sign", "line 9, no sign: there is no ="),
+    (
+        8,
+        "\u{feff}key = 1",
+        "line 9, \\xef\\xbb\\xbfkey = 1: a key is at most 64 of a to z, 0 to 9 and _, a letter first",
+    ),
+    (
+        8,
+        "key = \u{7f}",
+        "line 9, key = \\x7f: a value is 1 to 1024 bytes, none of them a control character",
+    ),
+    (
+        8,
+        "0123456789012345678901234567890123456789012345678901234567890123456789012345678901234",
+        "line 9, 01234567890123456789012345678901234567890123456789012345678901234567890123456789..: there is no =",
+    ),
     (
         8,
         "survey_versions = 1",
-        "line 9, survey_versions = 1: no key of a description; survey_version is one",
+        "line 9, survey_versions = 1: this version has no such key; survey_version is one",
     ),
     (
         8,
         "survey_colour = caf\u{e9}",
-        "line 9, survey_colour = caf\\xc3\\xa9: no key of a description begins so",
+        "line 9, survey_colour = caf\\xc3\\xa9: this version has no such key, and survey_ is for its own",
     ),
     (
         8,

@@ -58,8 +58,8 @@ pub(crate) fn pair(written: &[u8]) -> Option<(&[u8], &[u8])>
     }
 }
 
-// What stands before the first `=` and after it, trimmed.
-fn parts(written: &[u8]) -> Option<(&[u8], &[u8])>
+/// What stands before the first `=` and after it, trimmed.
+pub(crate) fn parts(written: &[u8]) -> Option<(&[u8], &[u8])>
     ensures { option_map {U = List ℕ × List ℕ} (λ p. (p.0.now, p.1.now)) result
         ≡ (if list_any is_equals written.now then Some (key_in written.now, value_in written.now) else None) }
 {
@@ -76,8 +76,9 @@ fn place_of(byte: u8, bytes: &[u8]) -> Option<usize>
     memchr(byte, bytes)
 }
 
+/// Whether the bytes are a key.
 #[tactic(auto, unfolding(crate::specs::Lines::is_key))]
-fn is_key(bytes: &[u8]) -> bool
+pub(crate) fn is_key(bytes: &[u8]) -> bool
     ensures { result ≡ Lines.is_key bytes.now }
 {
     match bytes {

@@ -1,11 +1,15 @@
 //! What is wrong with a description, in words for whoever wrote it. What is shown stands in no clause; tests show it.
 use crate::fault::{ConfFault, ConfKind};
 use crate::key::{KNOWN, Key};
-use crate::line::{content, is_skipped, pair};
+use crate::line::{content, is_key, is_skipped, pair, parts};
 use std::fmt;
 
+// The greatest number of bytes that are shown of a line that is no pair.
+const MOST_SHOWN: usize = 80;
+
 /// A fault of a description in words: its line, the key, the value, and what is allowed, as in
-/// `line 5, hips_order = 12: an order is 3 to 11`. All but printable ASCII is shown as `\xff` and the like.
+/// `line 5, hips_order = 12: an order is 3 to 11`. Of a line that is no key with a value its first 80 bytes are shown. All but
+/// printable ASCII is shown as `\xff` and the like.
 #[derive(Clone, Copy)]
 pub struct FaultWords<'a> {
     text: &'a [u8],
@@ -22,11 +26,11 @@ impl<'a> FaultWords<'a> {
 impl<'a> fmt::Display for FaultWords<'a> {
     fn fmt<W: fmt::Write>(&self, f: &mut fmt::Formatter<W>) -> fmt::Result {
         let line = self.fault.line;
-        let Some((key, value)) = written_at(self.text, line).and_then(pair) else {
-            return match missing(self.text) {
-                Some(key) if line == 0 => write!(f, "{} is missing", key.name().escape_ascii()),
-                _ => write!(f, "line {line}: not of the form key = value"),
-            };
+        let Some(written) = written_at(self.text, line) else {
+            return fmt_missing(self.text, f);
+        };
+        let Some((key, value)) = pair(written) else {
+            return fmt_syntax(line, written, f);
         };
         write!(
             f,
@@ -42,6 +46,35 @@ impl<'a> fmt::Display for FaultWords<'a> {
     }
 }
 
+// Which required key is missing.
+fn fmt_missing<W: fmt::Write>(text: &[u8], f: &mut fmt::Formatter<W>) -> fmt::Result {
+    match missing(text) {
+        Some(key) => write!(f, "{} is missing", key.name().escape_ascii()),
+        None => f.write_str("a required key is missing"),
+    }
+}
+
+// Why a line is no key with its value.
+fn fmt_syntax<W: fmt::Write>(line: u64, written: &[u8], f: &mut fmt::Formatter<W>) -> fmt::Result {
+    write!(f, "line {line}, ")?;
+    match written.get(..MOST_SHOWN) {
+        Some(front) => write!(f, "{}..: ", front.escape_ascii())?,
+        None => write!(f, "{}: ", written.escape_ascii())?,
+    }
+    f.write_str(not_a_pair(written))
+}
+
+// What is missing in what is written to be a key with its value.
+fn not_a_pair(written: &[u8]) -> &'static str {
+    match parts(written) {
+        None => "there is no =",
+        Some((key, _)) if !is_key(key) => {
+            "a key is at most 64 of a to z, 0 to 9 and _, a letter first"
+        }
+        Some(_) => "a value is 1 to 1024 bytes, none of them a control character",
+    }
+}
+
 // Why a key is unknown.
 fn fmt_unknown<W: fmt::Write>(key: &[u8], f: &mut fmt::Formatter<W>) -> fmt::Result {
     if Key::of(key).is_some() {
@@ -50,10 +83,10 @@ fn fmt_unknown<W: fmt::Write>(key: &[u8], f: &mut fmt::Formatter<W>) -> fmt::Res
     match likely_key(key) {
         Some(known) => write!(
             f,
-            "no key of a description; {} is one",
+            "this version has no such key; {} is one",
             known.escape_ascii()
         ),
-        None => f.write_str("no key of a description begins so"),
+        None => f.write_str("this version has no such key, and survey_ is for its own"),
     }
 }
 
