@@ -79,8 +79,8 @@ after_call files shelf = record shelf { files = files; calls = next_count shelf.
 abbrev pub after_failed_call : ShelfState → ShelfState
 after_failed_call shelf = record shelf { calls = next_count shelf.calls; faults = next_count shelf.faults }
 
--- a door: the connections it was given, how many of them it handed out, those given back, the calls that fail, and how many
--- calls came and failed
+-- a door: the connections it was given, how many of them it handed out, those given back, the calls that fail, how many calls
+-- came and failed, and how many found no memory
 pub record DoorState : Type 0 where
   pub all : List (SourceState × SinkState)
   pub next : ℕ
@@ -88,12 +88,14 @@ pub record DoorState : Type 0 where
   pub fails : List ℕ
   pub calls : ℕ
   pub faults : ℕ
+  pub wants : ℕ
 
 -- what is told of a connection in memory
 abbrev pub connection_of : SourceState × SinkState → Connection
 connection_of ends = record {
   unread = Some ends.0.unread;
   written = Some ends.1.written;
+  handed_on = Some ends.1.handed_on;
   source_faults = ends.0.faults;
   sink_faults = ends.1.faults;
 }
@@ -117,6 +119,10 @@ after_none door = record door { calls = next_count door.calls }
 -- an accept failed
 abbrev pub after_failed_accept : DoorState → DoorState
 after_failed_accept door = record door { calls = next_count door.calls; faults = next_count door.faults }
+
+-- there was no memory for the next connection
+abbrev pub after_wanting : DoorState → DoorState
+after_wanting door = record door { wants = next_count door.wants }
 
 -- a connection was given back: it is kept where fewer were given back than handed out
 abbrev pub after_done : SourceState × SinkState → DoorState → DoorState

@@ -1,5 +1,5 @@
 //! Where connections come through.
-ghost use Rattle.std.specs.Prelude.{◌≡◌, ℕ, ◌≤◌, Option, IfOk, OnErr, IsErrOf, MatchOption, option_map};
+ghost use Rattle.std.specs.Prelude.{◌≡◌, ℕ, ◌≤◌, Option, IfOk, OnOk, OnErr, IsErrOf, MatchOption, option_map};
 ghost use Rattle.survey_link.specs.Link.{Rises};
 ghost use Rattle.survey_link.specs.Door.{Connections, Takes, NoneWaits, given_back};
 
@@ -21,22 +21,29 @@ pub trait Door {
     /// How often it has failed. The count never falls.
     ghost faults: { Self → ℕ };
 
+    /// How often there was no memory to accept a connection. The count never falls.
+    ghost wants: { Self → ℕ };
+
     /// The next connection; `None` exactly where none is left, where that is told.
     ///
     /// # Errors
     ///
-    /// `DoorFault::Failed` only where the count of faults rose; `DoorFault::OutOfMemory`. The connections stay.
+    /// `DoorFault::Failed` exactly where the count of faults rose, `DoorFault::OutOfMemory` exactly where that of wants did, but
+    /// for a count that stands at its type's end. The connections stay.
     fn accept(&mut self) -> Result<Option<(Self::In, Self::Out)>, DoorFault>
         ensures next { IfOk result (λ next. MatchOption next
             (NoneWaits (connections self.old) × (connections self.new ≡ connections self.old))
             (λ taken. Takes (connections self.old) (connections self.new) (record {
               unread = Self.In.left taken.0;
               written = Self.Out.held taken.1;
+              handed_on = Self.Out.handed_on taken.1;
               source_faults = Self.In.faults taken.0;
               sink_faults = Self.Out.faults taken.1;
             }))) }
         ensures kept { OnErr result (connections self.new ≡ connections self.old) }
-        ensures failed { IsErrOf result DoorFault.Failed → Rises (faults self.old) (faults self.new) }
+        ensures sound { OnOk result ((faults self.new ≡ faults self.old) × (wants self.new ≡ wants self.old)) }
+        ensures failed { IsErrOf result DoorFault.Failed → Rises (faults self.old) (faults self.new) × (wants self.new ≡ wants self.old) }
+        ensures wanted { IsErrOf result DoorFault.OutOfMemory → Rises (wants self.old) (wants self.new) × (faults self.new ≡ faults self.old) }
         ensures never_falls { faults self.old ≤ faults self.new };
 
     /// How often the door has failed.
@@ -48,8 +55,10 @@ pub trait Door {
         ensures returned { connections self.new ≡ option_map (given_back (record {
           unread = Self.In.left input;
           written = Self.Out.held output;
+          handed_on = Self.Out.handed_on output;
           source_faults = Self.In.faults input;
           sink_faults = Self.Out.faults output;
         })) (connections self.old) }
-        ensures faults { faults self.new ≡ faults self.old };
+        ensures faults { faults self.new ≡ faults self.old }
+        ensures wants { wants self.new ≡ wants self.old };
 }

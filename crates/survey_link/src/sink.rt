@@ -51,10 +51,11 @@ pub trait Sink {
     ///
     /// # Errors
     ///
-    /// `Failed` only where the count of faults rose; what is held stays.
+    /// `Failed` only where the count of faults rose; what is held stays, and so does what was handed on.
     fn flush(&mut self) -> Result<(), Failed>
         ensures kept { held self.new ≡ held self.old }
         ensures handed { OnOk result (handed_on self.new ≡ held self.new) }
+        ensures stays { OnErr result (handed_on self.new ≡ handed_on self.old) }
         ensures failed { OnErr result (Rises (faults self.old) (faults self.new)) }
         ensures never_falls { faults self.old ≤ faults self.new };
 }

@@ -183,6 +183,8 @@ where
 
     ghost faults = { λ door. door.faults };
 
+    ghost wants = { λ _. 0 };
+
     // A real door has no last connection.
     fn accept(&mut self) -> Result<Option<(TcpIn<R>, TcpOut<R>)>, DoorFault>
         ensures comes { IfOk result (λ next. IfSome next (λ halves. (halves.0 ≡ 0) × (halves.1 ≡ 0)) × IsSome next) }
