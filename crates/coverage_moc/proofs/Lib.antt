@@ -6,6 +6,7 @@ pub mod MergeLemmas
 pub mod EditLemmas
 pub mod CanonLemmas
 pub mod FileLemmas
+pub mod WrittenLemmas
 pub mod CountLemmas
 pub mod LeafLemmas
 pub mod PlainLemmas

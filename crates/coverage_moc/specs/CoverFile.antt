@@ -4,6 +4,7 @@ use Rattle.std.specs.Prelude.{◌≡◌, ℕ, ◌<◌, ◌^◌, drop, slice_inde
 use Rattle.byteorder.specs.Endian.{big_bytes}
 use Rattle.fits_header.specs.WrittenCards.{logical_card, integer_card, text_card, end_card}
 use Rattle.fits_header.specs.FitsFile.{header_text, fits_file}
+use Rattle.coverage_moc.specs.Cover.{cover}
 
 -- there are no data before the table
 unfoldable pub primary_cards : List (List ℕ)
@@ -48,3 +49,7 @@ IsRow row = (0 < row) × (row < 2 ^ 64)
 -- behind the two headers stand these rows, and after them nothing but zero bytes
 abbrev pub HoldsRows : List ℕ → List ℕ → Type 0
 HoldsRows bytes rows = (rest : List ℕ) × (drop 5760 bytes ≡ row_bytes rows ++ rest) × ((i : ℕ) → slice_index rest i ≡ 0)
+
+-- the bytes are the coverage file of some leaves
+abbrev pub IsCoverFile : ℕ → List ℕ → Type 0
+IsCoverFile top bytes = (leaves : List ℕ) × (moc_file top (cover top leaves) ≡ bytes)

@@ -3,3 +3,4 @@ pub mod CoverFile
 pub mod Rows
 pub mod Laws
 pub mod Texts
+pub mod WrittenRows

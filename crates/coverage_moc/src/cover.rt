@@ -3,14 +3,13 @@ ghost use Rattle.std.specs.Prelude.{◌≡◌, ◌≢◌, ◌<◌, ◌≤◌, �
 ghost use Rattle.std.specs.Map.{keys_of};
 ghost use Rattle.healpix_nested.specs.Cells.{cell_count};
 ghost use Rattle.coverage_moc.specs.Cover.{IsAscending, cover, leaves_under, without};
-ghost use Rattle.coverage_moc.specs.CoverFile.{moc_file};
+ghost use Rattle.coverage_moc.specs.CoverFile.{IsCoverFile, moc_file};
 
 use crate::edit::{rows_with, rows_without};
-use crate::file::{encode_cover, read_rows};
+use crate::file::{encode_cover, is_cover_file, read_rows};
 use crate::leaves::{leaf_count, leaves_of};
 use crate::merge::push_cover;
 use crate::refusal::CoverRefusal;
-use crate::tree::is_canonical;
 use leaf_store::Store;
 use std::alloc::{AllocError, Global};
 use std::marker::Model;
@@ -110,8 +109,8 @@ impl Cover {
     ///
     /// # Errors
     ///
-    /// `NotCover` exactly where the bytes are not the coverage file of any leaves of that order; `OutOfMemory` where there
-    /// is no memory for the rows, or for the file that they are compared with.
+    /// `NotCover` exactly where the bytes are not the coverage file of any leaves of that order; `OutOfMemory` where they
+    /// are one, and there is no memory for its rows.
     pub fn decode(alloc: Global, top: u8, bytes: &[u8]) -> Result<Cover, CoverRefusal>
         requires least { 3 ≤ top }
         requires greatest { top ≤ 11 }
@@ -120,16 +119,13 @@ impl Cover {
         ensures cover { IfOk result (λ read. read.rows ≡ cover top (leaves_under top read.rows)) }
         ensures exact { (leaves : List ℕ) → moc_file top (cover top leaves) ≡ bytes.now → IfOk result (λ read. read.rows ≡ cover top leaves) }
         ensures refused { result ≡ Err CoverRefusal.NotCover → (leaves : List ℕ) → moc_file top (cover top leaves) ≢ bytes.now }
+        ensures memory { result ≡ Err CoverRefusal.OutOfMemory → IsCoverFile top bytes.now }
     {
+        let is_cover = is_cover_file(top, bytes);
+        if !is_cover {
+            return Err(CoverRefusal::NotCover);
+        }
         let rows = read_rows(alloc, top, bytes)?;
-        let canonical = is_canonical(top, &rows);
-        if !canonical {
-            return Err(CoverRefusal::NotCover);
-        }
-        let file = encode_cover(alloc, top, &rows)?;
-        if file.as_slice() != bytes {
-            return Err(CoverRefusal::NotCover);
-        }
         Ok(Cover::of_rows(top, rows))
     }
 

@@ -1,20 +1,17 @@
 //! The coverage file.
-ghost use Rattle.std.specs.Prelude.{ℕ, List, All, ◌≡◌, ◌+◌, ◌*◌, ◌<◌, ◌≤◌, ◌^◌, IfOk, length};
+ghost use Rattle.std.specs.Prelude.{ℕ, List, IsTrue, ◌↔◌, ◌≡◌, ◌+◌, ◌*◌, ◌<◌, ◌≤◌, ◌^◌, ◌++◌, IfOk, ◌==◌, length, drop};
+ghost use Rattle.std.specs.List.{list_all};
 ghost use Rattle.fits_header.specs.Cards.{whole_blocks as spec_whole_blocks};
-ghost use Rattle.fits_header.specs.FitsFile.{in_blocks, fits_file};
+ghost use Rattle.fits_header.specs.FitsFile.{header_text, in_blocks, fits_file};
 ghost use Rattle.coverage_moc.specs.Cover.{cover, leaves_under};
-ghost use Rattle.coverage_moc.specs.CoverFile.{IsRow, HoldsRows, primary_cards as spec_primary_cards, table_cards as spec_table_cards, row_bytes, moc_file};
+ghost use Rattle.coverage_moc.specs.CoverFile.{IsCoverFile, primary_cards as spec_primary_cards, table_cards as spec_table_cards, row_bytes, moc_file};
 
+use crate::tree::is_canonical;
+use crate::written::{HEADERS_LEN, ROW_LEN, WrittenRows};
 use byteorder::{BigEndian, ByteOrder};
 use fits_header::laws::made_cards_are_cards;
-use fits_header::{BLOCK_LEN, Card, whole_blocks, write_cards};
+use fits_header::{Card, whole_blocks, write_cards};
 use std::alloc::{AllocError, Global};
-
-// The length of a row in bytes.
-const ROW_LEN: usize = 8;
-
-// The length of the two headers.
-const HEADERS_LEN: usize = 2 * BLOCK_LEN;
 
 /// The coverage file of the rows of a cover.
 pub(crate) fn encode_cover(alloc: Global, top: u8, rows: &[u64]) -> Result<Vec<u8>, AllocError>
@@ -67,28 +64,56 @@ fn write_rows(rows: &[u64], out: &mut [u8])
     out[len..].fill(0);
 }
 
-/// The rows of the coverage file that these bytes may be.
+/// Whether the bytes are the coverage file of some leaves. It takes no memory.
+pub(crate) fn is_cover_file(top: u8, bytes: &[u8]) -> bool
+    requires { top ≤ 11 }
+    ensures { IsTrue result ↔ IsCoverFile top bytes.now }
+{
+    made_cards_are_cards();
+    let rows = WrittenRows::of(bytes);
+    is_canonical(top, &rows) && is_file_of(top, &rows, bytes)
+}
+
+/// The rows of a coverage file.
 pub(crate) fn read_rows(alloc: Global, top: u8, bytes: &[u8]) -> Result<Vec<u64>, AllocError>
     requires { top ≤ 11 }
     ensures { IfOk result (λ rows. (leaves : List ℕ) → moc_file top (cover top leaves) ≡ bytes.now → rows.items ≡ cover top leaves) }
 {
     made_cards_are_cards();
-    rows_in(alloc, bytes)
+    WrittenRows::of(bytes).to_vec(alloc)
 }
 
-// The numbers behind the two headers, up to the first that is 0, since no cell has the number 0.
-fn rows_in(alloc: Global, bytes: &[u8]) -> Result<Vec<u64>, AllocError>
-    ensures { IfOk result (λ read. (rows : List ℕ) → All IsRow rows → HoldsRows bytes.now rows → read.items ≡ rows) }
+// Whether the bytes, in which these rows stand behind the headers, are the coverage file of the rows.
+fn is_file_of(top: u8, rows: &WrittenRows<'_>, bytes: &[u8]) -> bool
+    requires few { length rows.now < 2 ^ 32 }
+    requires written { row_bytes rows.now ++ drop (5760 + 8 * length rows.now) bytes.now ≡ drop 5760 bytes.now }
+    ensures { IsTrue result ↔ (moc_file top rows.now ≡ bytes.now) }
 {
-    let mut rows = Vec::new(alloc);
-    for i in 0..bytes.len().saturating_sub(HEADERS_LEN) / ROW_LEN {
-        let row = BigEndian::read_u64(&bytes[HEADERS_LEN + ROW_LEN * i..]);
-        if row == 0 {
-            return Ok(rows);
-        }
-        rows.push(row)?;
+    made_cards_are_cards();
+    let len = ROW_LEN * rows.len();
+    if bytes.len() != HEADERS_LEN + whole_blocks(len) {
+        return false;
     }
-    Ok(rows)
+    let headers = headers(top, rows.len());
+    bytes[..HEADERS_LEN] == headers[..] && are_zero(&bytes[HEADERS_LEN + len..])
+}
+
+// Whether all bytes are 0.
+fn are_zero(bytes: &[u8]) -> bool
+    ensures { result ≡ list_all (λ byte. byte == 0) bytes.now }
+{
+    bytes.iter().all(|byte| *byte == 0)
+}
+
+// The two headers of a file of so many rows.
+fn headers(top: u8, count: usize) -> [u8; HEADERS_LEN]
+    requires { count < 2 ^ 32 }
+    ensures { result ≡ header_text spec_primary_cards ++ header_text (spec_table_cards top count) }
+{
+    let mut headers = [0; HEADERS_LEN];
+    let start = write_cards(&primary_cards(), &mut headers);
+    write_cards(&table_cards(top, count), &mut headers[start..]);
+    headers
 }
 
 #[tactic(auto, unfolding(crate::specs::CoverFile::primary_cards))]

@@ -14,6 +14,7 @@ pub mod plain;
 mod refusal;
 mod rows;
 mod tree;
+mod written;
 
 pub use cover::Cover;
 pub use refusal::CoverRefusal;

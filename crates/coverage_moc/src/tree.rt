@@ -1,10 +1,12 @@
 //! Rows as a tree of cells: the number of a cell, its children, and whether it is covered.
 ghost use Rattle.std.specs.Prelude.{All, IsTrue, ◌↔◌, ◌≡◌, ◌+◌, ◌*◌, ◌^◌, ◌<◌, ◌≤◌};
+ghost use Rattle.std.specs.List.{list_all};
 ghost use Rattle.healpix_nested.specs.Cells.{cell_count, uniq_number};
-ghost use Rattle.coverage_moc.specs.Cover.{IsAscending, cover, is_under, leaves_under};
+ghost use Rattle.coverage_moc.specs.Cover.{has, IsAscending, cover, is_under, leaves_under};
 ghost use Rattle.coverage_moc.specs.Rows.{children as spec_children, is_alone, IsMaximalRow};
 
-use crate::rows::{has_row, has_rows};
+use crate::rows::has_row;
+use crate::written::WrittenRows;
 use healpix_nested::Cell;
 
 /// The number of a cell among the cells of all orders.
@@ -45,7 +47,7 @@ pub(crate) fn is_covered(rows: &[u64], order: u8, npix: u64) -> bool
 }
 
 /// Whether these are the rows of a cover: ascending cells of orders up to `top`, none under another, and no four siblings.
-pub(crate) fn is_canonical(top: u8, rows: &[u64]) -> bool
+pub(crate) fn is_canonical(top: u8, rows: &WrittenRows<'_>) -> bool
     requires { top ≤ 11 }
     ensures { IsTrue result ↔ (rows.now ≡ cover top (leaves_under top rows.now)) }
 {
@@ -53,11 +55,11 @@ pub(crate) fn is_canonical(top: u8, rows: &[u64]) -> bool
 }
 
 // Whether each row is below the next.
-fn is_ascending(rows: &[u64]) -> bool
+fn is_ascending(rows: &WrittenRows<'_>) -> bool
     ensures { IsTrue result ↔ IsAscending rows.now }
 {
     for i in 1..rows.len() {
-        if rows[i] <= rows[i - 1] {
+        if rows.at(i) <= rows.at(i - 1) {
             return false;
         }
     }
@@ -65,13 +67,13 @@ fn is_ascending(rows: &[u64]) -> bool
 }
 
 // Whether all rows are cells of orders up to `top` that lie under no other row and don't stand with their three siblings.
-fn are_maximal(top: u8, rows: &[u64]) -> bool
+fn are_maximal(top: u8, rows: &WrittenRows<'_>) -> bool
     requires top { top ≤ 11 }
     requires ascending { IsAscending rows.now }
     ensures { IsTrue result ↔ All (IsMaximalRow top rows.now) rows.now }
 {
-    for row in rows {
-        let maximal = is_maximal(top, rows, *row);
+    for i in 0..rows.len() {
+        let maximal = is_maximal(top, rows, rows.at(i));
         if !maximal {
             return false;
         }
@@ -80,7 +82,7 @@ fn are_maximal(top: u8, rows: &[u64]) -> bool
 }
 
 // Whether a row is the number of such a cell.
-fn is_maximal(top: u8, rows: &[u64], row: u64) -> bool
+fn is_maximal(top: u8, rows: &WrittenRows<'_>, row: u64) -> bool
     requires top { top ≤ 11 }
     requires ascending { IsAscending rows.now }
     ensures { IsTrue result ↔ IsMaximalRow top rows.now row }
@@ -92,12 +94,21 @@ fn is_maximal(top: u8, rows: &[u64], row: u64) -> bool
 }
 
 // Whether a cell lies under no row of a lower order and doesn't stand with its three siblings.
-fn stands_alone(rows: &[u64], order: u8, npix: u64) -> bool
+fn stands_alone(rows: &WrittenRows<'_>, order: u8, npix: u64) -> bool
     requires order { order ≤ 11 }
     requires cell { npix < cell_count order }
     requires ascending { IsAscending rows.now }
     ensures { result ≡ is_alone rows.now order npix }
 {
-    order == 0
-        || !is_covered(rows, order - 1, npix / 4) && !has_rows(rows, &children(order, npix / 4))
+    order == 0 || !rows.covers(order - 1, npix / 4) && !has_children(rows, order, npix / 4)
+}
+
+// Whether all four children of a cell of the order above are rows.
+fn has_children(rows: &WrittenRows<'_>, order: u8, parent: u64) -> bool
+    requires order { order ≤ 11 }
+    requires cells { 4 * parent + 4 ≤ cell_count order }
+    requires ascending { IsAscending rows.now }
+    ensures { result ≡ list_all (has rows.now) (spec_children order parent) }
+{
+    children(order, parent).iter().all(|row| rows.has(*row))
 }

@@ -1,9 +1,9 @@
 //! The merges of one order, by as many workers as there are processors.
-ghost use Rattle.std.specs.Prelude.{◌≡◌, ◌+◌, ◌*◌, ◌/◌, ◌<◌, ◌≤◌, ◌^◌, ◌++◌, max, IfOk, All};
+ghost use Rattle.std.specs.Prelude.{◌≡◌, ◌+◌, ◌-◌, ◌*◌, ◌/◌, ◌<◌, ◌≤◌, ◌^◌, ◌++◌, length, IfOk, All};
 ghost use Rattle.std.specs.Thread.{IsSync};
 ghost use Rattle.rebuild_worker.specs.Level.{merges_of, IsAboveLeaves, HaveShape, ShowsItsCell};
 ghost use Rattle.rebuild_worker.specs.Shown.{all_shown};
-ghost use Rattle.rebuild_worker.specs.Workers.{merges_of_a_worker, workers_on};
+ghost use Rattle.rebuild_worker.specs.Workers.{AreRepaid, workers_on};
 
 use crate::named::Named;
 use crate::permits::Permits;
@@ -55,8 +55,7 @@ pub fn level_parallel<R: Threads + Sync, G: Gate + Sync>(
 fn workers_for(rt: &impl Threads, merges: usize, n: u8) -> usize
     requires { n ≤ 9 }
     ensures some { 0 < result }
-    ensures repaid { result ≤ max 2 (merges / merges_of_a_worker n) }
-    ensures within { result ≤ max 1 merges }
+    ensures repaid { AreRepaid result merges n }
 {
     if merges < 2 {
         return 1;
@@ -79,7 +78,7 @@ fn workers_on(processors: usize, merges: usize, n: u8) -> usize
 }
 
 // The workers are halved at each step, and the back half goes to a new thread, so the stack grows as the logarithm of their
-// number.
+// number. The permits are shared out alike, so that those of each half repay its workers.
 #[cycle(runs)]
 fn merge_by<R: Threads + Sync, G: Gate + Sync>(
     rt: &R,
@@ -90,6 +89,7 @@ fn merge_by<R: Threads + Sync, G: Gate + Sync>(
     mut todo: Permits,
     workers: usize,
 ) -> Result<Vec<Named>, AllocError>
+    requires repaid { AreRepaid workers (length todo) shape.n }
     requires cells { All (IsAboveLeaves shape) todo }
     requires children { HaveShape shape children.now }
     ensures merges { IfOk result (λ level. all_shown level.items ≡ merges_of shape children.now todo) }
@@ -103,12 +103,12 @@ fn merge_by<R: Threads + Sync, G: Gate + Sync>(
     let at = front_of(todo.len(), near, far);
     let rest = todo.split_off(at)?;
     let front = move || -> Result<Vec<Named>, AllocError>
-        requires { IsSync R.row × IsSync G.row × All (IsAboveLeaves shape) todo × HaveShape shape children.now }
+        requires { IsSync R.row × IsSync G.row × AreRepaid near (length todo) shape.n × All (IsAboveLeaves shape) todo × HaveShape shape children.now }
         ensures { IfOk result (λ level. (all_shown level.items ≡ merges_of shape children.entry.now todo)
             × All (ShowsItsCell shape children.entry.now) (all_shown level.items)) }
     { merge_by(rt, alloc, gate, shape, children, todo, near) };
     let back = move || -> Result<Vec<Named>, AllocError>
-        requires { IsSync R.row × IsSync G.row × All (IsAboveLeaves shape) rest × HaveShape shape children.now }
+        requires { IsSync R.row × IsSync G.row × AreRepaid far (length rest) shape.n × All (IsAboveLeaves shape) rest × HaveShape shape children.now }
         ensures { IfOk result (λ level. (all_shown level.items ≡ merges_of shape children.entry.now rest)
             × All (ShowsItsCell shape children.entry.now) (all_shown level.items)) }
     { merge_by(rt, alloc, gate, shape, children, rest, far) };
@@ -120,7 +120,9 @@ fn merge_by<R: Threads + Sync, G: Gate + Sync>(
 fn front_of(permits: usize, near: usize, far: usize) -> usize
     requires workers { near + far < 2 ^ 64 }
     requires some { 0 < near + far }
-    ensures { result ≤ permits }
+    ensures within { result ≤ permits }
+    ensures front { permits / (near + far) * near ≤ result }
+    ensures back { permits / (near + far) * far ≤ permits - result }
 {
     let workers = near + far;
     permits / workers * near + (permits % workers).min(near)

@@ -1,10 +1,13 @@
-use Rattle.std.proofs.Common.{◌≡◌, ◌∙◌, ap, take, drop, Vec, Global}
+use Rattle.std.proofs.Common.{◌≡◌, ◌-◌, ◌/◌, ◌∙◌, ap, length, take, drop, subst, sym, rules, Vec, Global}
 use Rattle.rebuild_worker.specs.declared.named.Named.{Named}
 use Rattle.std.specs.Prelude.{All}
+use Rattle.std.proofs.lemmas.List.Elements.{All-drop, All-take}
 use Rattle.std.proofs.lemmas.Result.{IfOk-at_ok, IfOk-weaker}
-use Rattle.rebuild_worker.specs.Level.{merges_of, ShowsItsCell}
+use Rattle.rebuild_worker.specs.Level.{merges_of, IsAboveLeaves, ShowsItsCell}
 use Rattle.rebuild_worker.specs.Shown.{all_shown}
 use Rattle.rebuild_worker.proofs.Levels.{two_runs, all_of_two}
+use Rattle.rebuild_worker.specs.Workers.{AreRepaid}
+use Rattle.rebuild_worker.proofs.Shares.{front_repays, back_repays}
 use Rattle.rebuild_worker.proofs.parallel.+runs.Goals as goal
 
 pub returns-clause-merges : goal.returns-clause-merges
@@ -25,3 +28,13 @@ returns-clause-pixels g t c =
     let back = IfOk-at_ok (λ level. (all_shown level.items ≡ merges_of c.args.shape c.args.children.now c.in_ok-rest.rest)
     × All (ShowsItsCell c.args.shape c.args.children.now) (all_shown level.items)) c.in_ok-last.was c.join-last.ensures.first in
     IfOk-weaker _ _ _ (λ (all : Vec Named Global) is. all_of_two c.args.shape c.args.children.now c.in_ok-first.field-0.items c.in_ok-last.field-0.items all.items is front.1 back.1) c.joined.ensures
+
+pub join-last-requires-after_bounds : goal.join-last-requires-after_bounds
+join-last-requires-after_bounds g t c κs within =
+    let front : AreRepaid (c.args.workers / 2) (length c.split_off.new.self) c.args.shape.n =
+    front_repays c.args.workers c.len.result c.front_of-at.result c.args.shape.n c.args.todo c.split_off.new.self c.len.ensures c.requires.repaid c.front_of-at.ensures.within c.front_of-at.ensures.front c.in_ok-rest.ensures.front in
+    let back : AreRepaid (c.args.workers - c.args.workers / 2) (length c.in_ok-rest.rest) c.args.shape.n =
+    back_repays c.args.workers c.len.result c.front_of-at.result c.args.shape.n c.args.todo c.in_ok-rest.rest c.len.ensures c.requires.repaid c.front_of-at.ensures.back c.in_ok-rest.ensures.back in
+    let front_cells : All (IsAboveLeaves c.args.shape) c.split_off.new.self = subst (All (IsAboveLeaves c.args.shape)) (sym c.in_ok-rest.ensures.front) (All-take (IsAboveLeaves c.args.shape) c.front_of-at.result c.args.todo c.requires.cells) in
+    let back_cells : All (IsAboveLeaves c.args.shape) c.in_ok-rest.rest = subst (All (IsAboveLeaves c.args.shape)) (sym c.in_ok-rest.ensures.back) (All-drop (IsAboveLeaves c.args.shape) c.front_of-at.result c.args.todo c.requires.cells) in
+    search rules

@@ -1,7 +1,8 @@
-use Rattle.std.proofs.Common.{◌∙◌, sym, true≢false}
+use Rattle.std.proofs.Common.{◌∙◌, sym, subst, IfOk, true≢false}
 use Rattle.coverage_moc.proofs.TreeLemmas.{is_cover}
 use Rattle.coverage_moc.proofs.cover.Cover.decode.Goals as goal
 
-pub returns-then-not-canonical-clause-refused : goal.returns-then-not-canonical-clause-refused
-returns-then-not-canonical-clause-refused c = λ refused leaves e.
-    true≢false (sym (c.is_canonical-canonical.ensures.1 (is_cover c.args.top c.deref.result.now leaves (c.deref.ensures.value ∙ c.in_ok-rows.ensures leaves e))) ∙ c.if-not-canonical.true)
+pub of_rows-requires-clause-rows : goal.of_rows-requires-clause-rows
+of_rows-requires-clause-rows c =
+    let file = c.is_cover_file-is_cover.ensures.0 c.if-not-is_cover.false in
+    is_cover c.args.top c.in_ok-rows.rows.items file.0 (c.in_ok-rows.ensures file.0 file.1)

@@ -1,0 +1,8 @@
+use Rattle.std.proofs.Common.{◌-◌, ℕ, ◌<◌, ◌≤◌, length, get_or}
+use Rattle.coverage_moc.proofs.written.WrittenRows.has.Given as goal
+
+abbrev pub invariant-loop-low : goal.invariant-loop-low
+invariant-loop-low l = (l.low ≤ l.high) × (l.high ≤ length l.self) × ((k : ℕ) → k < l.low → get_or l.self k 0 < l.row) × ((k : ℕ) → l.high ≤ k → k < length l.self → l.row ≤ get_or l.self k 0)
+
+abbrev pub decreases-loop-low : goal.decreases-loop-low
+decreases-loop-low l = l.high - l.low
