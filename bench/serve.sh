@@ -9,19 +9,26 @@
 # one too, so times are compared once more at one rate, below what either can do: each connection pauses after a reply. With
 # --equal that is all that is done; it takes two and a half minutes.
 #
+# What the log costs at `info` is timed by pairs of runs against a second hipsd, which says nothing: requests a second of both, and
+# the middle of the pairs' ratios. With --log that is all that is done; it takes two minutes.
+#
 # wrk takes processors too: on a machine with few of them all three share. PROGRAM is the proved build; one of `rt try` has checks
-# in it, and its times say nothing. Best of RUNS, each of SECONDS, 3 of 3 if not said; at one rate the middle of RUNS, 5 of 7.
+# in it, and its times say nothing. Best of RUNS, each of SECONDS, 3 of 3 if not said; at one rate the middle of RUNS, 5 of 7; of the
+# log the middle of RUNS pairs, 9 of 2.
 #
 #   bench/serve.sh [RUNS [SECONDS]]         (HIPSD=PROGRAM: another program than crates/hipsd/out/hipsd)
 #   bench/serve.sh --equal [RUNS [SECONDS]]
+#   bench/serve.sh --log [RUNS [SECONDS]]
 set -u
 here=$(cd "$(dirname "$0")" && pwd)
-only_equal=
-[ "${1:-}" = --equal ] && only_equal=yes && shift
+only=
+case ${1:-} in --equal | --log) only=$1 && shift ;; esac
 runs=${1:-3}
 seconds=${2:-3}
 equal_runs=${1:-5}
 equal_seconds=${2:-7}
+log_runs=9 log_seconds=2
+[ "$only" = --log ] && log_runs=${1:-9} log_seconds=${2:-2}
 for tool in wrk nginx curl gcc; do
     command -v "$tool" >/dev/null 2>&1 || { echo "serve.sh: there is no $tool here, so there is nothing to time with"; exit 0; }
 done
@@ -29,10 +36,12 @@ hipsd=$(realpath -e "${HIPSD:-$here/../crates/hipsd/out/hipsd}") || { echo "serv
 work=$(mktemp -d) || exit 1
 chmod 755 "$work"
 server=
+quiet_server=
 web_server=
 # shellcheck disable=SC2317 # it is called by the trap
 end() {
     [ -n "$server" ] && kill "$server" 2>/dev/null
+    [ -n "$quiet_server" ] && kill "$quiet_server" 2>/dev/null
     [ -n "$web_server" ] && kill "$web_server" 2>/dev/null
     rm -rf "$work"
 }
@@ -61,6 +70,7 @@ free_port() {
 }
 web=$(free_port)
 port=$(free_port)
+quiet=$(free_port)
 cat >"$work/nginx.conf" <<CONF
 worker_processes 4;
 pid $work/nginx.pid;
@@ -79,9 +89,11 @@ CONF
 # 15 in 100 of its rate, beside a hipsd that is in one group with wrk.
 nginx -c "$work/nginx.conf" -p "$work" -g 'daemon off;' &
 web_server=$!
-"$hipsd" serve "127.0.0.1:$port" 65536 64 2>"$work/log" &
+HIPSD_LOG=info "$hipsd" serve "127.0.0.1:$port" 65536 64 2>"$work/log" &
 server=$!
-for from in $web $port; do
+HIPSD_LOG=off "$hipsd" serve "127.0.0.1:$quiet" 65536 64 2>"$work/quiet.log" &
+quiet_server=$!
+for from in $web $port $quiet; do
     for _ in $(seq 200); do curl -s "http://127.0.0.1:$from/properties" >/dev/null && break; sleep 0.05; done
 done
 for path in properties Norder3/Dir0/Npix7.fits Norder3/Allsky.fits; do
@@ -140,7 +152,7 @@ paced() {
 }
 # middle COLUMN FILE
 middle() {
-    cut -d ' ' -f "$1" "$2" | sort -n | sed -n "$(((equal_runs + 1) / 2))p"
+    cut -d ' ' -f "$1" "$2" | sort -n | sed -n "$((($(wc -l <"$2") + 1) / 2))p"
 }
 # times FILE: of its runs the middle rate and times, and the least and greatest 99th percentile.
 times() {
@@ -164,10 +176,51 @@ equal_rates() {
     equal "all-sky mosaic, 6.4 MB" Norder3/Allsky.fits 16 120
 }
 
+# ---- what the log costs, by pairs
+
+# rate PORT PATH CONNECTIONS
+rate() {
+    seconds=$log_seconds
+    load "$@" | cut -d ' ' -f 1
+}
+# log_costs NAME PATH CONNECTIONS: the server that says nothing goes first in every other pair.
+log_costs() {
+    : >"$work/pairs"
+    for turn in $(seq "$log_runs"); do
+        [ $((turn % 2)) = 0 ] && info=$(rate "$port" "$2" "$3")
+        off=$(rate "$quiet" "$2" "$3")
+        [ $((turn % 2)) = 1 ] && info=$(rate "$port" "$2" "$3")
+        echo "$off $info $(echo "scale=6; 100 - 100 * $info / $off" | bc)" >>"$work/pairs"
+    done
+    printf '%-28s %3d  off   %9.0f  info  %9.0f  the log costs %.2f in 100 (%.2f to %.2f)\n' "$1" "$3" "$(middle 1 "$work/pairs")" \
+        "$(middle 2 "$work/pairs")" "$(middle 3 "$work/pairs")" \
+        "$(cut -d ' ' -f 3 "$work/pairs" | sort -n | head -n 1)" "$(cut -d ' ' -f 3 "$work/pairs" | sort -n | tail -n 1)"
+}
+# publishes PORT ..: a leaf is put and published each second at each of them.
+publishes() {
+    while :; do
+        for at in "$@"; do
+            curl -s -o "$work/edited" -T "$work/tile" -H 'Expect:' "http://127.0.0.1:$at/$tile" --next -s -o "$work/published" -X POST "http://127.0.0.1:$at/publish"
+        done
+        sleep 1
+    done
+}
+log_rates() {
+    echo "what the log costs at info, connections kept open, both while a leaf is put and published each second:"
+    publishes "$port" "$quiet" &
+    editor=$!
+    log_costs "properties" properties 4
+    log_costs "properties" properties 16
+    log_costs "tile, 529,920 bytes" "$tile" 4
+    kill "$editor" 2>/dev/null
+    wait "$editor" 2>/dev/null
+}
+
 # ---- what is timed
 
-[ "$only_equal" = yes ] && equal_rates && exit
+[ "$only" = --equal ] && equal_rates && exit
 command -v bc >/dev/null 2>&1 || { echo "serve.sh: there is no bc here"; exit 0; }
+[ "$only" = --log ] && log_rates && exit
 echo "requests a second, connections kept open:"
 for connections in 1 4 16 64; do compare "tile, 529,920 bytes" "$tile" "$connections"; done
 for connections in 1 4 16 64; do compare "properties" properties "$connections"; done
@@ -175,12 +228,7 @@ for connections in 1 4 16; do compare "all-sky mosaic, 6.4 MB" Norder3/Allsky.fi
 echo "connections closed after each reply:"
 for connections in 1 4 16; do compare "properties" properties "$connections" 'Connection: close'; done
 echo "while a leaf is put and published each second:"
-(
-    while :; do
-        curl -s -o "$work/edited" -T "$work/tile" -H 'Expect:' "http://127.0.0.1:$port/$tile" --next -s -o "$work/published" -X POST "http://127.0.0.1:$port/publish"
-        sleep 1
-    done
-) &
+publishes "$port" &
 editor=$!
 for connections in 1 4 16; do compare "tile, 529,920 bytes" "$tile" "$connections"; done
 for connections in 1 4 16; do compare "properties" properties "$connections"; done
@@ -188,3 +236,4 @@ kill "$editor" 2>/dev/null
 wait "$editor" 2>/dev/null
 echo "the last publication: $(cat "$work/published")"
 equal_rates
+log_rates

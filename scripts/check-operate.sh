@@ -1,7 +1,7 @@
 #!/bin/bash
 # Tries what an operator and an editor use beside the program, as they do: examples/nginx.conf (with openssl, for TLS), edit.sh with
 # its journal, import-hipsgen.py, the service of systemd (by systemd's own verifiers, since systemd isn't running here), the man
-# page (mandoc) and scripts/install.sh. What it starts it ends, and nothing is written outside a folder of its own.
+# page (mandoc), scripts/install.sh and what the program says. What it starts it ends, and nothing is written outside a folder of its own.
 #
 #     scripts/check-operate.sh [PROGRAM]
 #
@@ -553,6 +553,111 @@ imports() {
 }
 imports
 
+# ---- what is said to whoever runs it
+
+# says STATUS TEXT WORD ..: hipsd's status, and a text that stands in what it says.
+says() {
+    status=$1 text=$2
+    shift 2
+    timeout 20 "$program" "$@" </dev/null >"$folder/output" 2>"$folder/said"
+    got=$?
+    [ "$got" = "$status" ] || blame "hipsd $*: status $got in place of $status: $(cat "$folder/said")"
+    [ -z "$text" ] || grep -qF -- "$text" "$folder/said" || blame "hipsd $*: no '$text' in: $(cat "$folder/said")"
+}
+# first TEXT OTHER: the line with one text stands before that with the other in what was last said.
+first() {
+    grep -nF -- "$1" "$folder/said" | head -n 1 | cut -d : -f 1 >"$folder/one"
+    grep -nF -- "$2" "$folder/said" | head -n 1 | cut -d : -f 1 >"$folder/two"
+    [ "$(cat "$folder/one")" -lt "$(cat "$folder/two")" ] 2>/dev/null || blame "'$1' isn't said before '$2': $(cat "$folder/said")"
+}
+# constant NAME: what the source says of the program.
+constant() {
+    sed -n "s/^pub const $1: .* = \"\(.*\)\";\$/\1/p" "$top/crates/hipsd_run/src/version.rt"
+}
+
+# wrong_words: which word is wrong and which bound it passes, or which commands there are.
+wrong_words() {
+    says 1 'no command is named'
+    grep -qF '  hipsd serve ADDRESS CONNECTIONS PLACES' "$folder/said" || blame "without words no command is named: $(cat "$folder/said")"
+    says 1 'there is no command "--version"' --version
+    says 1 'EDITS = 5000: 1 to 4096' make 1 5000
+    says 1 'NUMBER = -1: a number from 0 to 18446744073709551615, in plain decimals' make -1 5
+    says 1 'CONNECTIONS = 65537: 1 to 65536' serve 127.0.0.1:1 65537 1
+    says 1 'PLACES = 0: 1 to 64' serve 127.0.0.1:1 1 0
+    says 1 'serve takes 3 words after its name, and here are 2' serve 127.0.0.1:1 1
+    grep -qF 'hipsd serve ADDRESS CONNECTIONS PLACES (' "$folder/said" || blame "too few words, and the right ones aren't said: $(cat "$folder/said")"
+    says 1 'K = 12: 3 to 11' probe 12 1 3 0
+    says 1 'k = 5: 0 to K, which is 4' probe 4 1 5 0
+    says 1 'export takes 0 words after its name, and here are 1' export all
+}
+
+# its_version: the log has version and toolchain, as the manual page has and `rt` where it is here.
+its_version() {
+    version=$(constant VERSION) toolchain=$(constant TOOLCHAIN)
+    says 1 "hipsd $version, toolchain $toolchain" --version
+    says 8 "hipsd $version, toolchain $toolchain" serve nowhere.invalid:1 1 1
+    DESTDIR=$folder/page PROGRAM=$program "$scripts/install.sh" /usr >"$folder/output" 2>&1 || blame "install.sh: $(cat "$folder/output")"
+    tr '\n' ' ' <"$folder/page/usr/share/man/man1/hipsd.1" | grep -qF "version $version," || blame "the manual page isn't of version $version"
+    grep -qF "built with $toolchain." "$folder/page/usr/share/man/man1/hipsd.1" || blame "the manual page isn't of $toolchain"
+    if command -v rt >/dev/null 2>&1; then
+        [ "$(rt version | head -n 1)" = "$toolchain" ] || blame "the program names $toolchain, and rt is $(rt version | head -n 1)"
+    fi
+}
+
+# wrong_descriptions: the line, the key, its value and what is allowed; what is missing; what this version doesn't know.
+wrong_descriptions() {
+    mkdir "$folder/described" && cd "$folder/described" || exit 1
+    described() {
+        sed "$3" "$folder/survey/survey.conf" >survey.conf
+        says "$1" "$2" verify
+    }
+    line=$(grep -n '^hips_order ' "$folder/survey/survey.conf" | cut -d : -f 1)
+    described 2 "survey.conf: line $line, hips_order = 12: an order is 3 to 11" 's/^hips_order .*/hips_order = 12/'
+    described 2 "survey.conf: line $line, hips_order 5: there is no =" 's/^hips_order .*/hips_order 5/'
+    described 2 'survey.conf: survey_blank is missing' '/^survey_blank /d'
+    described 2 'survey_colour = red: this version has no such key' "\$a survey_colour = red"
+    described 2 'survey_rule = median: only survey_version = 2 has this key' "\$a survey_rule = median"
+    described 9 'WARN ' "\$a hips_frames = equatorial"
+    grep -qF 'the key hips_frames has no meaning here; hips_frame is a known one' "$folder/said" || blame "a key one letter away: $(cat "$folder/said")"
+    cp "$folder/survey/survey.conf" . && mkdir -p "$(dirname "$leaf")" && gzip -c "$folder/leaf" >"$leaf"
+    says 3 'it looks like gzip' verify
+    cd "$folder/survey" || exit 1
+}
+
+# addresses: they are tried before the survey is loaded, by number and by name.
+addresses() {
+    says 8 'can'"'"'t listen at "nowhere.invalid:1": ' serve nowhere.invalid:1 1 1
+    first 'nowhere.invalid' 'loaded '
+    says 8 'ADDRESS is an IP address or a host'"'"'s name, with a port' serve 8080 1 1
+    says 8 "can't listen at 127.0.0.1:$port yet: " serve "127.0.0.1:$port" 1 1
+    first "127.0.0.1:$port yet" 'loaded '
+    (cd "$folder" && says 2 'there is no file survey.conf' serve nowhere.invalid:1 1 1)
+    [ "$(cat "$folder/output")" = 'conf absent' ] || blame "no description and no address: $(cat "$folder/output")"
+    named=$(free_port)
+    "$program" serve "localhost:$named" 1 1 >"$folder/output" 2>"$folder/said" &
+    ending=$!
+    curl -s -o "$folder/body" --retry 20 --retry-delay 1 --retry-connrefused "http://localhost:$named/properties" || blame "serve localhost:$named: $(cat "$folder/said")"
+    wait "$ending"
+    got=$?
+    [ "$got" = 0 ] || blame "serve localhost:$named: status $got: $(cat "$folder/said")"
+    grep -qF "Edits that weren't copied from here are gone now" "$folder/said" || blame "the end doesn't say what is gone: $(cat "$folder/said")"
+}
+
+# levels: what names none is said, and nothing is said at `off`.
+levels() {
+    HIPSD_LOG=loud says 1 'HIPSD_LOG = "loud": off, error, warn, info, debug or trace' --version
+    HIPSD_LOG=off says 8 '' serve nowhere.invalid:1 1 1
+    [ -s "$folder/said" ] && blame "at off it says $(cat "$folder/said")"
+}
+
+start
+wrong_words
+its_version
+wrong_descriptions
+addresses
+levels
+stop
+
 # ---- the service, the man page, and what is installed
 
 # service UNIT: systemd takes it, and finds what it is exposed to small.
@@ -575,7 +680,7 @@ installs() {
         [ -s "$root/usr/$file" ] || blame "install.sh: there is no $file"
     done
     [ -x "$root/usr/share/doc/hipsd/examples/edit.sh" ] || blame "edit.sh can't be run where it is installed"
-    grep -rqE '@(PREFIX|REVISION|TOOLCHAIN)@' "$root/usr/share/man" "$root/usr/lib" && blame "install.sh leaves a word unfilled"
+    grep -rqE '@(PREFIX|VERSION|REVISION|TOOLCHAIN)@' "$root/usr/share/man" "$root/usr/lib" && blame "install.sh leaves a word unfilled"
     grep -q '^ExecStart=/usr/bin/hipsd serve 127.0.0.1:' "$root/usr/lib/systemd/system/hipsd.service" || blame "the service starts another program"
     if command -v mandoc >/dev/null 2>&1; then
         for page in "$top/docs/hipsd.1" "$root/usr/share/man/man1/hipsd.1"; do

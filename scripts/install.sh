@@ -44,12 +44,15 @@ put() {
     echo "$into/$3"
 }
 
+# named CONSTANT: what the program says of itself.
+named() {
+    sed -n "s/^pub const $1: .* = \"\(.*\)\";\$/\1/p" crates/hipsd_run/src/version.rt
+}
+
 # filled FROM: writes the text with what is known only here.
 filled() {
     revision=$(git rev-parse --short HEAD 2>/dev/null) || revision='an unknown revision'
-    toolchain=$(rt version 2>/dev/null | head -n 1)
-    [ -n "$toolchain" ] || toolchain='a toolchain that is not known here'
-    sed -e "s#@PREFIX@#$prefix#g" -e "s#@REVISION@#$revision#g" -e "s#@TOOLCHAIN@#$toolchain#g" \
+    sed -e "s#@PREFIX@#$prefix#g" -e "s#@VERSION@#$(named VERSION)#g" -e "s#@REVISION@#$revision#g" -e "s#@TOOLCHAIN@#$(named TOOLCHAIN)#g" \
         -e "s#^ExecStart=/usr/local/bin/#ExecStart=$prefix/bin/#" "$1"
 }
 

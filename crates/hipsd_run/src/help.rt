@@ -1,4 +1,6 @@
 //! What is said to the log where the words are no command's. It stands in no clause.
+use crate::version::say_version;
+use decimal_scale::plain_decimal;
 use log::{Log, error};
 
 // The name of a command, the words after it, and what these may be.
@@ -6,7 +8,7 @@ static COMMANDS: [(&str, &str, &str); 6] = [
     (
         "serve",
         "ADDRESS CONNECTIONS PLACES",
-        "an IP address with a port, 1 to 65536 connections at each place, 1 to 64 places",
+        "an IP address or a host's name with a port, 1 to 65536 connections at each place, 1 to 64 places",
     ),
     ("session", "", "no other word"),
     ("export", "", "no other word"),
@@ -23,18 +25,88 @@ static COMMANDS: [(&str, &str, &str); 6] = [
     ),
 ];
 
-/// Says which words the command takes; of a name that is no command's, which commands there are.
+// The numbers among the words after a command's name: of which command, which word, counted from 0, the least and the greatest.
+static NUMBERS: [(&str, usize, u64, u64); 8] = [
+    ("serve", 1, 1, 65_536),
+    ("serve", 2, 1, 64),
+    ("make", 0, 0, u64::MAX),
+    ("make", 1, 1, 4096),
+    ("probe", 0, 3, 11),
+    ("probe", 1, 1, 9),
+    ("probe", 2, 0, 11),
+    ("probe", 3, 0, u64::MAX),
+];
+
+/// Says what is wrong with the words of a command, and which words it takes; of a name that is no command's, which commands
+/// there are, and which program this is.
 pub(crate) fn say_commands<R: Log>(rt: &R, words: &[String]) {
-    let name = words.first().map_or("", |word| word.as_str());
+    let Some((name, given)) = words.split_first() else {
+        error!(rt; "no command is named, or a word is not UTF-8");
+        return say_all(rt);
+    };
+    let name = name.as_str();
     match COMMANDS.iter().find(|command| command.0 == name) {
-        Some((name, words, bounds)) => {
-            error!(rt; "the words are: hipsd {name} {words} ({bounds}), numbers in plain decimals");
+        Some((name, wanted, bounds)) => {
+            say_wrong(rt, name, wanted, given);
+            error!(rt; "the words are: hipsd {name} {wanted} ({bounds})");
         }
         None => {
-            error!(rt; "there is no command {name:?}; there are:");
-            for (name, words, _) in COMMANDS.iter() {
-                error!(rt; "  hipsd {name} {words}");
-            }
+            error!(rt; "there is no command {name:?}");
+            say_all(rt);
         }
     }
+}
+
+// Says which commands there are, and which program this is.
+fn say_all<R: Log>(rt: &R) {
+    error!(rt; "the commands are:");
+    for (name, words, _) in COMMANDS.iter() {
+        error!(rt; "  hipsd {name} {words}");
+    }
+    say_version(rt);
+}
+
+// Says what is wrong with the words after the name of a command: how many they are, or each number that isn't in its bounds.
+fn say_wrong<R: Log>(rt: &R, name: &str, wanted: &str, given: &[String]) {
+    let count = wanted.split_whitespace().count();
+    if given.len() != count {
+        error!(rt; "{name} takes {count} words after its name, and here are {}", given.len());
+        return;
+    }
+    for (command, at, least, greatest) in NUMBERS.iter() {
+        if *command == name {
+            say_bound(rt, wanted, given, *at, *least, *greatest);
+        }
+    }
+    if name == "probe" {
+        say_depth(rt, given);
+    }
+}
+
+// Says where a word is no number from `least` to `greatest`.
+fn say_bound<R: Log>(rt: &R, wanted: &str, given: &[String], at: usize, least: u64, greatest: u64) {
+    let word = given.get(at).map_or("", |word| word.as_str());
+    let shown = wanted.split_whitespace().nth(at).unwrap_or("");
+    match plain_decimal(word.as_bytes()) {
+        Some(number) if least <= number && number <= greatest => {}
+        Some(number) => error!(rt; "{shown} = {number}: {least} to {greatest}"),
+        None => {
+            error!(rt; "{shown} = {}: a number from {least} to {greatest}, in plain decimals", word.as_bytes().escape_ascii());
+        }
+    }
+}
+
+// Says where the order that a probe asks for is deeper than that of its leaves.
+fn say_depth<R: Log>(rt: &R, given: &[String]) {
+    match (number_at(given, 0), number_at(given, 2)) {
+        (Some(top), Some(order)) if top < order => {
+            error!(rt; "k = {order}: 0 to K, which is {top}");
+        }
+        _ => {}
+    }
+}
+
+// The number that a word spells.
+fn number_at(given: &[String], at: usize) -> Option<u64> {
+    plain_decimal(given.get(at)?.as_bytes())
 }

@@ -8,7 +8,9 @@ mod arguments;
 mod command;
 mod help;
 mod program;
+mod version;
 
 pub use arguments::words;
 pub use command::{Command, command_for, read_command};
 pub use program::run;
+pub use version::{TOOLCHAIN, VERSION, say_version};

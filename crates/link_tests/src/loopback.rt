@@ -11,7 +11,9 @@ use std::time::{Clock, Duration, Instant};
 use std::{io, thread};
 use survey_link::{Door, DoorFault, Failed, Sink, Source, write_all_parts, write_whole};
 use tcp_link::again::again;
-use tcp_link::{Patience, Refusal, TcpDoor, TcpIn, TcpOut, dial, patient_doors, tcp_doors};
+use tcp_link::{
+    Patience, Refusal, TcpDoor, TcpIn, TcpOut, Trial, dial, patient_doors, tcp_doors, try_address,
+};
 
 // Any free port of the loopback device.
 static FREE: &str = "127.0.0.1:0";
@@ -401,4 +403,15 @@ fn an_accept_is_made_again(rt: HostRuntime) {
     assert_eq!(rt; answer_of(ErrorKind::Interrupted), Some(2));
     assert_eq!(rt; answer_of(ErrorKind::ConnectionAborted), Some(2));
     assert_eq!(rt; answer_of(ErrorKind::ConnectionReset), None);
+}
+
+#[test]
+fn an_address_is_tried(rt: HostRuntime) -> Result<(), Fail> {
+    assert!(rt; matches!(try_address(&rt, FREE), Trial::Free(_)));
+    let mut doors = tcp_doors(&rt, FREE, 1)?;
+    let place = doors[0].listen()?;
+    let address = format!(in rt.alloc(); "{place}")?;
+    assert!(rt; matches!(try_address(&rt, address.as_str()), Trial::Taken(..)));
+    assert!(rt; matches!(try_address(&rt, "127.0.0.1"), Trial::Nowhere(_)));
+    Ok(())
 }

@@ -120,7 +120,7 @@ where
     info!(rt; "{} places, up to {connections} connections at each", doors.len());
     match serve_doors(rt, rt.alloc(), state, connections, gate, doors) {
         Ok(end) => {
-            info!(rt; "all places have ended: {end:?}");
+            info!(rt; "all places have ended: {end:?}. Edits that weren't copied from here are gone now");
             place_status(end)
         }
         Err(AllocError) => {

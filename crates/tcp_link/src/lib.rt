@@ -1,8 +1,9 @@
 //! Connections over TCP.
 //!
 //! `tcp_doors` makes the doors of an address, which share one listener; a connection is a `TcpIn` and a `TcpOut`, the two
-//! halves of one stream. `dial` makes one to an address. They count their faults and tell nothing of what passes: what the system does is trusted. Each
-//! request and each reply has a deadline, as the `Patience` of the doors has it.
+//! halves of one stream. `dial` makes one to an address. They count their faults and tell nothing of what passes: what the
+//! system does is trusted. Each request and each reply has a deadline, as the `Patience` of the doors has it. `try_address`
+//! says beforehand whether one could listen at an address.
 #![tactic(auto)]
 
 pub mod again;
@@ -14,6 +15,7 @@ mod refusal;
 mod tcp_door;
 mod tcp_in;
 mod tcp_out;
+mod trial;
 mod watch;
 
 pub use dialing::{DialIn, DialOut, dial};
@@ -22,3 +24,4 @@ pub use refusal::Refusal;
 pub use tcp_door::{TcpDoor, patient_doors, tcp_doors};
 pub use tcp_in::TcpIn;
 pub use tcp_out::TcpOut;
+pub use trial::{Trial, try_address};

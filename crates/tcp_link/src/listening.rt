@@ -1,6 +1,7 @@
 //! What the doors of one address share.
 use log::{Log, error, info};
 use std::io;
+use std::io::ErrorKind;
 use std::net::{Net, TcpListener, TcpStream};
 use std::sync::{Mutex, OnceLock, Wait};
 
@@ -44,11 +45,21 @@ impl Listening {
             }
             Err(error) => {
                 if !*is_said {
-                    error!(rt; "can't listen at {}: {error}", self.address);
+                    say_refused(rt, self.address.as_str(), error);
                     *is_said = true;
                 }
                 Err(error)
             }
         }
+    }
+}
+
+// Says why one can't listen at the address. A runtime that logs looks no names up.
+fn say_refused<R: Log>(rt: &R, address: &str, error: io::Error) {
+    match error.kind() {
+        ErrorKind::Unsupported => {
+            error!(rt; "can't listen at {address}: it is no IP address with a port, and no name is looked up now");
+        }
+        _ => error!(rt; "can't listen at {address}: {error}"),
     }
 }
