@@ -94,7 +94,7 @@ server=$!
 HIPSD_LOG=off "$hipsd" serve "127.0.0.1:$quiet" 65536 64 2>"$work/quiet.log" &
 quiet_server=$!
 for from in $web $port $quiet; do
-    for _ in $(seq 200); do curl -s "http://127.0.0.1:$from/properties" >/dev/null && break; sleep 0.05; done
+    for _ in $(seq 1200); do curl -s "http://127.0.0.1:$from/properties" >/dev/null && break; sleep 0.05; done
 done
 for path in properties Norder3/Dir0/Npix7.fits Norder3/Allsky.fits; do
     for from in $web $port; do curl -s "http://127.0.0.1:$from/$path" >"$work/$from"; done
@@ -220,7 +220,7 @@ log_rates() {
 
 [ "$only" = --equal ] && equal_rates && exit
 command -v bc >/dev/null 2>&1 || { echo "serve.sh: there is no bc here"; exit 0; }
-[ "$only" = --log ] && log_rates && exit
+if [ "$only" = --log ]; then log_rates; exit; fi
 echo "requests a second, connections kept open:"
 for connections in 1 4 16 64; do compare "tile, 529,920 bytes" "$tile" "$connections"; done
 for connections in 1 4 16 64; do compare "properties" properties "$connections"; done

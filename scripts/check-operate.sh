@@ -566,9 +566,9 @@ says() {
 }
 # first TEXT OTHER: the line with one text stands before that with the other in what was last said.
 first() {
-    grep -nF -- "$1" "$folder/said" | head -n 1 | cut -d : -f 1 >"$folder/one"
-    grep -nF -- "$2" "$folder/said" | head -n 1 | cut -d : -f 1 >"$folder/two"
-    [ "$(cat "$folder/one")" -lt "$(cat "$folder/two")" ] 2>/dev/null || blame "'$1' isn't said before '$2': $(cat "$folder/said")"
+    before=$(grep -nF -- "$1" "$folder/said" | head -n 1 | cut -d : -f 1)
+    after=$(grep -nF -- "$2" "$folder/said" | head -n 1 | cut -d : -f 1)
+    [ "${before:-1000000}" -lt "${after:-0}" ] || blame "'$1' isn't said before '$2': $(cat "$folder/said")"
 }
 # constant NAME: what the source says of the program.
 constant() {
