@@ -7,6 +7,7 @@ pub mod FileLemmas
 pub mod Runs
 pub mod Truncated
 pub mod Steps
+pub mod HandedOn
 pub mod Sessions
 pub mod OneKind
 pub mod Same

@@ -21,11 +21,12 @@ use Rattle.hips_http.specs.declared.served.SessionEnd.TheVariants as end
 use Rattle.hips_http.specs.Paths.{call_of}
 use Rattle.hips_http.specs.Replies.{Answer, output_of, refusal_bytes}
 use Rattle.hips_http.specs.Answers.{Asking, Point, Asked, asked_put, asked_delete, asked_batch, Changes, Answers}
-use Rattle.hips_http.specs.SessionRun.{AreRequests, AreAnswered, IsOutput, closes, room_of, most_requests, first_point, GoOn, BreaksOff, BreaksInRefusal, BreaksInLeave, Exchange, told_bytes, Ends, KeepsStates, IsServed, Goes}
-use Rattle.hips_http.specs.Progress.{IsAt, Serving, IsServedOne, BreaksOne, StopsOne, EndsOne, IsBegunAt, LeavesPart, Progress, Going, wants_after}
+use Rattle.hips_http.specs.SessionRun.{AreRequests, AreAnswered, IsOutput, closes, room_of, most_requests, first_point, GoOn, BreaksOff, BreaksInRefusal, BreaksInLeave, told_bytes, Ends, HandsAllOn, KeepsStates, HandsOn, HandsOnAll, IsServed, Goes}
+use Rattle.hips_http.specs.Progress.{IsAt, Serving, IsServedOne, BreaksOne, StopsOne, EndsOne, IsBegunAt, LeavesPart, Progress, Going, HasHandedOn, wants_after}
 use Rattle.hips_http.proofs.Runs.{answered_more, answered_push, requests_push}
 use Rattle.hips_http.proofs.Truncated.{requests_front}
 use Rattle.hips_http.proofs.Steps.{appends_trans, split_of}
+use Rattle.hips_http.proofs.HandedOn.{HandsMore, HandsBefore, hands_all, hands_all_on, has_handed_all, hands_before}
 use Rattle.hips_http.proofs.Whole.{appends_nothing, begins_same}
 
 -- ---- one request more
@@ -111,9 +112,9 @@ concat-push : (outputs : List (List ℕ)) (output : List ℕ) → concat (output
 concat-push [] output = append-nil output
 concat-push (x ∷ xs) output = ap (λ (b : List ℕ). x ++ b) (concat-push xs output) ∙ sym (append_assoc x (concat xs) output)
 
-pub goes_on : (old now new : BoardContent) (first_steps steps steps' count wants wants' : ℕ) (b b1 b2 w w1 w2 : Option (List ℕ)) → Going old now first_steps steps count wants b b1 w w1
-    → IsServedOne count now new steps steps' wants wants' b1 b2 w1 w2 false → Going old new first_steps steps' (count + 1) wants' b b2 w w2
-goes_on old now new first_steps steps steps' count wants wants' b b1 b2 w w1 w2 g s =
+pub goes_on : (old now new : BoardContent) (first_steps steps steps' count wants wants' : ℕ) (b b1 b2 w w1 w2 h0 h1 h2 : Option (List ℕ)) → Going old now first_steps steps count wants b b1 w w1 h0 h1
+    → IsServedOne count now new steps steps' wants wants' b1 b2 w1 w2 false → h2 ≡ w2 → Going old new first_steps steps' (count + 1) wants' b b2 w w2 h0 h2
+goes_on old now new first_steps steps steps' count wants wants' b b1 b2 w w1 w2 h0 h1 h2 g s on =
     let p = g.progress in
     let out = output_of (closes count s.request) s.request.asked s.answer in
     let pushed = push old now new first_steps steps steps' count wants wants' b b1 b2 p s.request s.answer s.serving s.wants_is in
@@ -121,6 +122,7 @@ goes_on old now new first_steps steps steps' count wants wants' b b1 b2 w w1 w2 
       progress = pushed.next;
       none_closes = rw pushed.requests_are (All-push (λ (r : Asking). r.asked.close ≡ false) p.requests s.request g.none_closes (sym s.closed_is));
       written_is = rw pushed.outputs_are (rw (concat-push p.outputs out) (appends_trans w w1 w2 (concat p.outputs) out g.written_is s.sent));
+      handed_is = inr on;
     }
 
 -- ---- the beginning
@@ -133,9 +135,9 @@ all_told : (room : ℕ) (b b1 : Option (List ℕ)) → b1 ≡ b → IfSome b (λ
 all_told room None b1 same = tt
 all_told room (Some all) b1 same = rw same refl
 
-pub begins_going : (old now : BoardContent) (steps : ℕ) (frame : FrameState) (left w : Option (List ℕ)) → now ≡ holding_none old → IsHistory now.opening now.history → frame.held ≡ []
-    → Going old now steps steps 0 0 left (unread frame left) w w
-begins_going old now steps frame left w is legal empty =
+pub begins_going : (old now : BoardContent) (steps : ℕ) (frame : FrameState) (left w h : Option (List ℕ)) → now ≡ holding_none old → IsHistory now.opening now.history → frame.held ≡ []
+    → Going old now steps steps 0 0 left (unread frame left) w w h h
+begins_going old now steps frame left w h is legal empty =
     let history : now.history ≡ old.history = ap (λ b. b.history) is in
     let some : 0 < length now.history = history_some now.opening now.history legal in
     let same : unread frame left ≡ left = ap (λ (held : List ℕ). prepend_known held left) empty ∙ unread_all left in
@@ -164,6 +166,7 @@ begins_going old now steps frame left w is legal empty =
       };
       none_closes = λ k d h. absurd (omega arith);
       written_is = appends_nothing w;
+      handed_is = inl (refl, refl, refl);
     }
 
 -- ---- the end
@@ -197,24 +200,14 @@ appends_end a b c x h k = subst (λ (bytes : List ℕ). Appends a c bytes) (appe
 abbrev going_on : List Asking → Type 0
 going_on requests = All (λ request. request.asked.close ≡ false) requests
 
-module _ (old now : BoardContent) (first_steps steps count wants : ℕ) (input : List ℕ) (b1 left w w2 : Option (List ℕ)) (sf sf2 kf kf2 : ℕ)
+module _ (old now : BoardContent) (first_steps steps count wants : ℕ) (input : List ℕ) (b1 left w w2 h0 h2 : Option (List ℕ)) (sf sf2 kf kf2 : ℕ)
     (p : Progress old now first_steps steps count wants (Some input) b1) (read rest : List ℕ) (input_is : input ≡ read ++ rest) (left_is : left ≡ Some rest) where
-  exchange : List ℕ → Exchange
-  exchange out = record {
-    read = read;
-    left = rest;
-    written = out;
-    source_faults = sf;
-    source_faults_then = sf2;
-    sink_faults = kf;
-    sink_faults_then = kf2;
-  }
-
-  served_by : (ended : SessionEnd) (out : List ℕ) → Appends w w2 out → KeepsStates ended old.history now.history → (r : List ℕ)
+  served_by : (ended : SessionEnd) (out passed : List ℕ) → Appends w w2 out → HandsOn w h0 h2 passed → KeepsStates ended old.history now.history → (r : List ℕ)
       → AreRequests (room_of now.conf) (told_bytes ended (record {
         read = read;
         left = rest;
         written = out;
+        handed_on = passed;
         source_faults = sf;
         source_faults_then = sf2;
         sink_faults = kf;
@@ -224,13 +217,24 @@ module _ (old now : BoardContent) (first_steps steps count wants : ℕ) (input :
         read = read;
         left = rest;
         written = out;
+        handed_on = passed;
         source_faults = sf;
         source_faults_then = sf2;
         sink_faults = kf;
         sink_faults_then = kf2;
       })
-      → IsServed old now input left w w2 sf sf2 kf kf2 first_steps steps (record { end = ended; wants = wants })
-  served_by ended out appended keeps r are ends = record {
+      → HandsAllOn ended (record {
+        read = read;
+        left = rest;
+        written = out;
+        handed_on = passed;
+        source_faults = sf;
+        source_faults_then = sf2;
+        sink_faults = kf;
+        sink_faults_then = kf2;
+      })
+      → IsServed old now input left w w2 h0 h2 sf sf2 kf kf2 first_steps steps (record { end = ended; wants = wants })
+  served_by ended out passed appended on keeps r are ends all_on = record {
     read = read;
     rest = rest;
     out = out;
@@ -238,6 +242,8 @@ module _ (old now : BoardContent) (first_steps steps count wants : ℕ) (input :
     input_is = input_is;
     left_is = left_is;
     appended = appended;
+    passed = passed;
+    passed_is = on;
     own_is = p.at.own_is;
     run = record {
       history = p.legal;
@@ -252,6 +258,7 @@ module _ (old now : BoardContent) (first_steps steps count wants : ℕ) (input :
       own_is = refl;
       wants_is = p.at.wants_is;
       ended = ends;
+      handed_on = all_on;
     };
     steps_are = p.at.steps_are;
   }
@@ -260,53 +267,60 @@ module _ (old now : BoardContent) (first_steps steps count wants : ℕ) (input :
   whole_input : (r : List ℕ) → AreRequests (room_of now.conf) input p.requests r → AreRequests (room_of now.conf) (read ++ rest) p.requests r
   whole_input r are = subst (λ (all : List ℕ). AreRequests (room_of now.conf) all p.requests r) input_is are
 
-begun_ends : (room : ℕ) (r : List ℕ) (outputs : List (List ℕ)) (begun out : List ℕ) → IsBegunAt room r begun → BreaksOff outputs begun out
-    → BreaksInRefusal room r outputs out ⊎ BreaksInLeave room r outputs out
-begun_ends room r outputs begun out (inl f) broken = inl (record { code = f.code; refused = f.refused; broken = subst (λ (b : List ℕ). BreaksOff outputs b out) f.begun_is broken })
-begun_ends room r outputs begun out (inr l) broken =
-    inr (record { asked = l.asked; path = l.path; after = l.after; head = l.head; waits = l.waits; broken = subst (λ (b : List ℕ). BreaksOff outputs b out) l.begun_is broken })
+begun_ends : (room : ℕ) (r : List ℕ) (outputs : List (List ℕ)) (begun out passed : List ℕ) → IsBegunAt room r begun → BreaksOff outputs begun out passed
+    → BreaksInRefusal room r outputs out passed ⊎ BreaksInLeave room r outputs out passed
+begun_ends room r outputs begun out passed (inl f) broken = inl (record { code = f.code; refused = f.refused; broken = subst (λ (b : List ℕ). BreaksOff outputs b out passed) f.begun_is broken })
+begun_ends room r outputs begun out passed (inr l) broken =
+    inr (record { asked = l.asked; path = l.path; after = l.after; head = l.head; waits = l.waits; broken = subst (λ (b : List ℕ). BreaksOff outputs b out passed) l.begun_is broken })
 
 -- no request was answered in its place
-module _ (old now : BoardContent) (first_steps steps count wants : ℕ) (input : List ℕ) (b1 left w w1 w2 : Option (List ℕ)) (sf sf2 kf kf2 : ℕ)
-    (p : Progress old now first_steps steps count wants (Some input) b1) (open_all : going_on p.requests) (written : Appends w w1 (concat p.outputs)) (few : count < most_requests) where
+module _ (old now : BoardContent) (first_steps steps count wants : ℕ) (input : List ℕ) (b1 left w w1 w2 h0 h1 h2 : Option (List ℕ)) (sf sf2 kf kf2 : ℕ)
+    (p : Progress old now first_steps steps count wants (Some input) b1) (open_all : going_on p.requests) (written : Appends w w1 (concat p.outputs))
+    (before : HasHandedOn p.outputs w w1 h0 h1) (few : count < most_requests) where
   goes : GoOn p.requests
   goes = record { none_closes = open_all; few = (let c = p.count_is in omega (arith, c)) }
 
   unanswered_at : (ended : SessionEnd) (r : List ℕ) → AreRequests (room_of now.conf) input p.requests r → EndsOne ended (room_of now.conf) r left w1 w2 → LeavesPart r left
       → (ended ≡ end.ReadFault → Rises sf sf2) → (ended ≡ end.WriteFault → Rises kf kf2)
-      → IsServed old now input left w w2 sf sf2 kf kf2 first_steps steps (record { end = ended; wants = wants })
-  unanswered_at end.Closed r are ends part reads writes =
+      → (¬ (ended ≡ end.WriteFault) → HandsOnAll w1 w2 h1 h2) → (ended ≡ end.WriteFault → HandsMore w1 h1 h2)
+      → IsServed old now input left w w2 h0 h2 sf sf2 kf kf2 first_steps steps (record { end = ended; wants = wants })
+  unanswered_at end.Closed r are ends part reads writes all more =
       let f = front_part (room_of now.conf) input p.requests r are left part in
-      served_by old now first_steps steps count wants input b1 left w w2 sf sf2 kf kf2 p f.gone f.rest f.all_is f.left_is end.Closed (concat p.outputs) (appends_end w w1 w2 (concat p.outputs) written ends.1) tt r
-      (whole_input old now first_steps steps count wants input b1 left w w2 sf sf2 kf kf2 p f.gone f.rest f.all_is f.left_is r are) (goes, ends.0, refl)
-  unanswered_at (end.Refused code) r are ends part reads writes =
+      served_by old now first_steps steps count wants input b1 left w w2 h0 h2 sf sf2 kf kf2 p f.gone f.rest f.all_is f.left_is end.Closed (concat p.outputs) (concat p.outputs) (appends_end w w1 w2 (concat p.outputs) written ends.1)
+      (hands_all w w2 h0 h2 (concat p.outputs) (appends_end w w1 w2 (concat p.outputs) written ends.1) (hands_all_on p.outputs w w1 w2 h0 h1 h2 before (all (λ is. cc)))) tt r
+      (whole_input old now first_steps steps count wants input b1 left w w2 h0 h2 sf sf2 kf kf2 p f.gone f.rest f.all_is f.left_is r are) (goes, ends.0, refl) refl
+  unanswered_at (end.Refused code) r are ends part reads writes all more =
       let f = front_part (room_of now.conf) input p.requests r are left part in
-      served_by old now first_steps steps count wants input b1 left w w2 sf sf2 kf kf2 p f.gone f.rest f.all_is f.left_is (end.Refused code) (concat p.outputs ++ refusal_bytes code)
-      (appends_trans w w1 w2 (concat p.outputs) (refusal_bytes code) written ends.1) tt r
-      (whole_input old now first_steps steps count wants input b1 left w w2 sf sf2 kf kf2 p f.gone f.rest f.all_is f.left_is r are) (goes, ends.0, refl)
-  unanswered_at end.Cut r are ends part reads writes =
+      served_by old now first_steps steps count wants input b1 left w w2 h0 h2 sf sf2 kf kf2 p f.gone f.rest f.all_is f.left_is (end.Refused code) (concat p.outputs ++ refusal_bytes code) (concat p.outputs ++ refusal_bytes code)
+      (appends_trans w w1 w2 (concat p.outputs) (refusal_bytes code) written ends.1)
+      (hands_all w w2 h0 h2 (concat p.outputs ++ refusal_bytes code) (appends_trans w w1 w2 (concat p.outputs) (refusal_bytes code) written ends.1) (hands_all_on p.outputs w w1 w2 h0 h1 h2 before (all (λ is. cc)))) tt r
+      (whole_input old now first_steps steps count wants input b1 left w w2 h0 h2 sf sf2 kf kf2 p f.gone f.rest f.all_is f.left_is r are) (goes, ends.0, refl) refl
+  unanswered_at end.Cut r are ends part reads writes all more =
       let f = front_part (room_of now.conf) input p.requests r are left part in
-      served_by old now first_steps steps count wants input b1 left w w2 sf sf2 kf kf2 p f.gone f.rest f.all_is f.left_is end.Cut (concat p.outputs ++ ends.0)
-      (appends_trans w w1 w2 (concat p.outputs) ends.0 written ends.2) tt r
-      (whole_input old now first_steps steps count wants input b1 left w w2 sf sf2 kf kf2 p f.gone f.rest f.all_is f.left_is r are) (goes, (ends.0, ends.1, refl))
-  unanswered_at end.ReadFault r are ends part reads writes =
+      served_by old now first_steps steps count wants input b1 left w w2 h0 h2 sf sf2 kf kf2 p f.gone f.rest f.all_is f.left_is end.Cut (concat p.outputs ++ ends.0) (concat p.outputs ++ ends.0)
+      (appends_trans w w1 w2 (concat p.outputs) ends.0 written ends.2)
+      (hands_all w w2 h0 h2 (concat p.outputs ++ ends.0) (appends_trans w w1 w2 (concat p.outputs) ends.0 written ends.2) (hands_all_on p.outputs w w1 w2 h0 h1 h2 before (all (λ is. cc)))) tt r
+      (whole_input old now first_steps steps count wants input b1 left w w2 h0 h2 sf sf2 kf kf2 p f.gone f.rest f.all_is f.left_is r are) (goes, (ends.0, ends.1, refl)) refl
+  unanswered_at end.ReadFault r are ends part reads writes all more =
       let t = there_of _ left ends in
       let h = t.holds in
       let f = requests_front (room_of now.conf) input p.requests h.read t.bytes (subst (λ (b : List ℕ). AreRequests (room_of now.conf) input p.requests b) h.all_is are) in
-      served_by old now first_steps steps count wants input b1 left w w2 sf sf2 kf kf2 p f.front t.bytes f.all_is t.is end.ReadFault (concat p.outputs ++ h.extra)
-      (appends_trans w w1 w2 (concat p.outputs) h.extra written h.appended) tt h.read f.holds (goes, reads refl, (h.extra, h.ends, refl))
-  unanswered_at end.WriteFault r are ends part reads writes =
+      served_by old now first_steps steps count wants input b1 left w w2 h0 h2 sf sf2 kf kf2 p f.front t.bytes f.all_is t.is end.ReadFault (concat p.outputs ++ h.extra) (concat p.outputs ++ h.extra)
+      (appends_trans w w1 w2 (concat p.outputs) h.extra written h.appended)
+      (hands_all w w2 h0 h2 (concat p.outputs ++ h.extra) (appends_trans w w1 w2 (concat p.outputs) h.extra written h.appended) (hands_all_on p.outputs w w1 w2 h0 h1 h2 before (all (λ is. cc)))) tt h.read f.holds (goes, reads refl, (h.extra, h.ends, refl)) refl
+  unanswered_at end.WriteFault r are ends part reads writes all more =
       let f = front_part (room_of now.conf) input p.requests r are left part in
       let k = ends.2 in
       let out = concat p.outputs ++ k.part in
-      let broken : BreaksOff p.outputs ends.0 out = record { part = k.part; left = k.left; begun_is = k.begun_is; out_is = refl } in
-      served_by old now first_steps steps count wants input b1 left w w2 sf sf2 kf kf2 p f.gone f.rest f.all_is f.left_is end.WriteFault out
-      (appends_trans w w1 w2 (concat p.outputs) k.part written k.appended) tt r
-      (whole_input old now first_steps steps count wants input b1 left w w2 sf sf2 kf kf2 p f.gone f.rest f.all_is f.left_is r are)
-      (writes refl, inr (goes, begun_ends (room_of now.conf) r p.outputs ends.0 out ends.1 broken))
-  unanswered_at end.Asked r are ends part reads writes = absurd ends
-  unanswered_at end.Spent r are ends part reads writes = absurd ends
-  unanswered_at end.OutOfMemory r are ends part reads writes = absurd ends
+      let on = hands_before p.outputs w w1 h0 h1 h2 written before (more refl) in
+      let broken : BreaksOff p.outputs ends.0 out on.passed = record { part = k.part; left = k.left; begun_is = k.begun_is; out_is = refl; more = on.more; handed_is = on.passed_is } in
+      served_by old now first_steps steps count wants input b1 left w w2 h0 h2 sf sf2 kf kf2 p f.gone f.rest f.all_is f.left_is end.WriteFault out on.passed
+      (appends_trans w w1 w2 (concat p.outputs) k.part written k.appended) on.on tt r
+      (whole_input old now first_steps steps count wants input b1 left w w2 h0 h2 sf sf2 kf kf2 p f.gone f.rest f.all_is f.left_is r are)
+      (writes refl, inr (goes, begun_ends (room_of now.conf) r p.outputs ends.0 out on.passed ends.1 broken)) tt
+  unanswered_at end.Asked r are ends part reads writes all more = absurd ends
+  unanswered_at end.Spent r are ends part reads writes all more = absurd ends
+  unanswered_at end.OutOfMemory r are ends part reads writes all more = absurd ends
 
 -- ---- what is true of it always
 
@@ -322,15 +336,15 @@ goes_of old now first_steps steps count wants b b1 few p = record {
 }
 
 -- how a connection ended
-pub record Ended (old now : BoardContent) (first_steps steps : ℕ) (b left w w2 : Option (List ℕ)) (sf sf2 kf kf2 wants : ℕ) (ended : SessionEnd) : Type 0 where
+pub record Ended (old now : BoardContent) (first_steps steps : ℕ) (b left w w2 h0 h2 : Option (List ℕ)) (sf sf2 kf kf2 wants : ℕ) (ended : SessionEnd) : Type 0 where
   pub goes : Goes old now
-  pub served : IfSome b (λ input. IsServed old now input left w w2 sf sf2 kf kf2 first_steps steps (record { end = ended; wants = wants }))
+  pub served : IfSome b (λ input. IsServed old now input left w w2 h0 h2 sf sf2 kf kf2 first_steps steps (record { end = ended; wants = wants }))
 
 -- in the reply to a request that was answered
-module _ (old now new : BoardContent) (first_steps steps steps' count wants wants' : ℕ) (left w w1 w2 : Option (List ℕ)) (sf sf2 kf kf2 : ℕ) (few : count < most_requests) where
-  broken_served : (b b1 b2 : Option (List ℕ)) (g : Going old now first_steps steps count wants b b1 w w1) → BreaksOne count now new steps steps' wants wants' b1 b2 w1 w2 → IfSome b1 (λ all. LeavesPart all left)
-      → Rises kf kf2 → Ended old new first_steps steps' b left w w2 sf sf2 kf kf2 wants' end.WriteFault
-  broken_served b b1 b2 g s part rises =
+module _ (old now new : BoardContent) (first_steps steps steps' count wants wants' : ℕ) (left w w1 w2 h0 h1 h2 : Option (List ℕ)) (sf sf2 kf kf2 : ℕ) (few : count < most_requests) where
+  broken_served : (b b1 b2 : Option (List ℕ)) (g : Going old now first_steps steps count wants b b1 w w1 h0 h1) → BreaksOne count now new steps steps' wants wants' b1 b2 w1 w2 → IfSome b1 (λ all. LeavesPart all left)
+      → Rises kf kf2 → HandsMore w1 h1 h2 → Ended old new first_steps steps' b left w w2 h0 h2 sf sf2 kf kf2 wants' end.WriteFault
+  broken_served b b1 b2 g s part rises more =
       let p = g.progress in
       let output = output_of (closes count s.request) s.request.asked s.answer in
       let pushed = push old now new first_steps steps steps' count wants wants' b b1 b2 p s.request s.answer s.serving s.wants_is in
@@ -339,9 +353,9 @@ module _ (old now new : BoardContent) (first_steps steps steps' count wants want
         served = told b g s part pushed;
       }
     where
-      told : (b : Option (List ℕ)) (g : Going old now first_steps steps count wants b b1 w w1) (s : BreaksOne count now new steps steps' wants wants' b1 b2 w1 w2) → IfSome b1 (λ all. LeavesPart all left)
+      told : (b : Option (List ℕ)) (g : Going old now first_steps steps count wants b b1 w w1 h0 h1) (s : BreaksOne count now new steps steps' wants wants' b1 b2 w1 w2) → IfSome b1 (λ all. LeavesPart all left)
           → Pushed old new first_steps steps' count wants' b b2 g.progress.requests g.progress.outputs s.request (output_of (closes count s.request) s.request.asked s.answer)
-          → IfSome b (λ input. IsServed old new input left w w2 sf sf2 kf kf2 first_steps steps' (record { end = end.WriteFault; wants = wants' }))
+          → IfSome b (λ input. IsServed old new input left w w2 h0 h2 sf sf2 kf kf2 first_steps steps' (record { end = end.WriteFault; wants = wants' }))
       told None g s part pushed = tt
       told (Some input) g s part pushed =
           let p = g.progress in
@@ -351,9 +365,10 @@ module _ (old now new : BoardContent) (first_steps steps steps' count wants want
           let f = front_part (room_of now.conf) input p.requests before.bytes before.holds left (told_at (λ all. LeavesPart all left) b1 before.bytes before.is part) in
           let k = s.broken in
           let out = concat p.outputs ++ k.part in
-          served_by old new first_steps steps' (count + 1) wants' input b2 left w w2 sf sf2 kf kf2 next f.gone f.rest f.all_is f.left_is end.WriteFault out
-          (appends_trans w w1 w2 (concat p.outputs) k.part g.written_is k.appended) tt after.bytes
-          (whole_input old new first_steps steps' (count + 1) wants' input b2 left w w2 sf sf2 kf kf2 next f.gone f.rest f.all_is f.left_is after.bytes after.holds) (
+          let on = hands_before p.outputs w w1 h0 h1 h2 g.written_is g.handed_is more in
+          served_by old new first_steps steps' (count + 1) wants' input b2 left w w2 h0 h2 sf sf2 kf kf2 next f.gone f.rest f.all_is f.left_is end.WriteFault out on.passed
+          (appends_trans w w1 w2 (concat p.outputs) k.part g.written_is k.appended) on.on tt after.bytes
+          (whole_input old new first_steps steps' (count + 1) wants' input b2 left w w2 h0 h2 sf sf2 kf kf2 next f.gone f.rest f.all_is f.left_is after.bytes after.holds) (
             rises,
             inl (record {
               last = s.request;
@@ -361,23 +376,23 @@ module _ (old now new : BoardContent) (first_steps steps steps' count wants want
               before = p.outputs;
               begun = output_of (closes count s.request) s.request.asked s.answer;
               outputs_are = pushed.outputs_are;
-              broken = record { part = k.part; left = k.left; begun_is = k.begun_is; out_is = refl };
+              broken = record { part = k.part; left = k.left; begun_is = k.begun_is; out_is = refl; more = on.more; handed_is = on.passed_is };
             }),
-          )
+          ) tt
 
   -- a request that asked to close was answered
-  pub asked_served : (b b1 b2 : Option (List ℕ)) → Going old now first_steps steps count wants b b1 w w1 → IsServedOne count now new steps steps' wants wants' b1 b2 w1 w2 true → IfSome b1 (λ all. LeavesPart all left)
-      → Ended old new first_steps steps' b left w w2 sf sf2 kf kf2 wants' end.Asked
-  asked_served b b1 b2 g s part =
+  pub asked_served : (b b1 b2 : Option (List ℕ)) → Going old now first_steps steps count wants b b1 w w1 h0 h1 → IsServedOne count now new steps steps' wants wants' b1 b2 w1 w2 true → IfSome b1 (λ all. LeavesPart all left)
+      → h2 ≡ w2 → Ended old new first_steps steps' b left w w2 h0 h2 sf sf2 kf kf2 wants' end.Asked
+  asked_served b b1 b2 g s part on =
       let pushed = push old now new first_steps steps steps' count wants wants' b b1 b2 g.progress s.request s.answer s.serving s.wants_is in
       record {
         goes = goes_of old new first_steps steps' (count + 1) wants' b b2 (omega arith) pushed.next;
         served = told b g s part pushed;
       }
     where
-      told : (b : Option (List ℕ)) (g : Going old now first_steps steps count wants b b1 w w1) (s : IsServedOne count now new steps steps' wants wants' b1 b2 w1 w2 true) → IfSome b1 (λ all. LeavesPart all left)
+      told : (b : Option (List ℕ)) (g : Going old now first_steps steps count wants b b1 w w1 h0 h1) (s : IsServedOne count now new steps steps' wants wants' b1 b2 w1 w2 true) → IfSome b1 (λ all. LeavesPart all left)
           → Pushed old new first_steps steps' count wants' b b2 g.progress.requests g.progress.outputs s.request (output_of (closes count s.request) s.request.asked s.answer)
-          → IfSome b (λ input. IsServed old new input left w w2 sf sf2 kf kf2 first_steps steps' (record { end = end.Asked; wants = wants' }))
+          → IfSome b (λ input. IsServed old new input left w w2 h0 h2 sf sf2 kf kf2 first_steps steps' (record { end = end.Asked; wants = wants' }))
       told None g s part pushed = tt
       told (Some input) g s part pushed =
           let p = g.progress in
@@ -387,54 +402,57 @@ module _ (old now new : BoardContent) (first_steps steps steps' count wants want
           let f = front_part (room_of now.conf) input p.requests before.bytes before.holds left (told_at (λ all. LeavesPart all left) b1 before.bytes before.is part) in
           let output = output_of (closes count s.request) s.request.asked s.answer in
           let written : Appends w w2 (concat next.outputs) = rw pushed.outputs_are (rw (concat-push p.outputs output) (appends_trans w w1 w2 (concat p.outputs) output g.written_is s.sent)) in
-          served_by old new first_steps steps' (count + 1) wants' input b2 left w w2 sf sf2 kf kf2 next f.gone f.rest f.all_is f.left_is end.Asked (concat next.outputs) written tt after.bytes
-          (whole_input old new first_steps steps' (count + 1) wants' input b2 left w w2 sf sf2 kf kf2 next f.gone f.rest f.all_is f.left_is after.bytes after.holds)
-          ((s.request, record { before = p.requests; is = pushed.requests_are; went_on = record { none_closes = g.none_closes; few = (let c = p.count_is in omega (arith, c)) } }, sym s.closed_is), refl)
+          served_by old new first_steps steps' (count + 1) wants' input b2 left w w2 h0 h2 sf sf2 kf kf2 next f.gone f.rest f.all_is f.left_is end.Asked (concat next.outputs) (concat next.outputs) written
+          (hands_all w w2 h0 h2 (concat next.outputs) written (inl on)) tt after.bytes
+          (whole_input old new first_steps steps' (count + 1) wants' input b2 left w w2 h0 h2 sf sf2 kf kf2 next f.gone f.rest f.all_is f.left_is after.bytes after.holds)
+          ((s.request, record { before = p.requests; is = pushed.requests_are; went_on = record { none_closes = g.none_closes; few = (let c = p.count_is in omega (arith, c)) } }, sym s.closed_is), refl) refl
 
   -- no request was answered in its place, or its reply wasn't written
-  pub stopped_served : (ended : SessionEnd) (b b1 b2 : Option (List ℕ)) → Going old now first_steps steps count wants b b1 w w1 → StopsOne count (room_of now.conf) now new steps steps' wants wants' b1 b2 left w1 w2 ended
+  pub stopped_served : (ended : SessionEnd) (b b1 b2 : Option (List ℕ)) → Going old now first_steps steps count wants b b1 w w1 h0 h1 → StopsOne count (room_of now.conf) now new steps steps' wants wants' b1 b2 left w1 w2 ended
       → IfSome b1 (λ all. LeavesPart all left) → (ended ≡ end.ReadFault → Rises sf sf2) → (ended ≡ end.WriteFault → Rises kf kf2)
-      → Ended old new first_steps steps' b left w w2 sf sf2 kf kf2 wants' ended
-  stopped_served ended b b1 b2 g s part reads writes = elim s.how [
-    | inl broke ↦ subst (λ (e : SessionEnd). Ended old new first_steps steps' b left w w2 sf sf2 kf kf2 wants' e) (sym broke.0) (broken_served b b1 b2 g broke.1 part (writes broke.0))
+      → (¬ (ended ≡ end.WriteFault) → HandsOnAll w1 w2 h1 h2) → (ended ≡ end.WriteFault → HandsMore w1 h1 h2)
+      → Ended old new first_steps steps' b left w w2 h0 h2 sf sf2 kf kf2 wants' ended
+  stopped_served ended b b1 b2 g s part reads writes all more = elim s.how [
+    | inl broke ↦ subst (λ (e : SessionEnd). Ended old new first_steps steps' b left w w2 h0 h2 sf sf2 kf kf2 wants' e) (sym broke.0) (broken_served b b1 b2 g broke.1 part (writes broke.0) (more broke.0))
     | inr none ↦
-        let base : Ended old now first_steps steps b left w w2 sf sf2 kf kf2 wants ended = record { goes = goes_of old now first_steps steps count wants b b1 (omega arith) g.progress; served = told b g none.1 } in
-        subst (λ (n : BoardContent). Ended old n first_steps steps' b left w w2 sf sf2 kf kf2 wants' ended) (sym none.0.board)
-        (subst (λ (n : ℕ). Ended old now first_steps n b left w w2 sf sf2 kf kf2 wants' ended) (sym none.0.steps_are)
-        (subst (λ (n : ℕ). Ended old now first_steps steps b left w w2 sf sf2 kf kf2 n ended) (sym none.0.wants_are) base))
+        let base : Ended old now first_steps steps b left w w2 h0 h2 sf sf2 kf kf2 wants ended = record { goes = goes_of old now first_steps steps count wants b b1 (omega arith) g.progress; served = told b g none.1 } in
+        subst (λ (n : BoardContent). Ended old n first_steps steps' b left w w2 h0 h2 sf sf2 kf kf2 wants' ended) (sym none.0.board)
+        (subst (λ (n : ℕ). Ended old now first_steps n b left w w2 h0 h2 sf sf2 kf kf2 wants' ended) (sym none.0.steps_are)
+        (subst (λ (n : ℕ). Ended old now first_steps steps b left w w2 h0 h2 sf sf2 kf kf2 n ended) (sym none.0.wants_are) base))
   ]
     where
-      told : (b : Option (List ℕ)) → Going old now first_steps steps count wants b b1 w w1 → IfSome b1 (λ all. EndsOne ended (room_of now.conf) all left w1 w2)
-          → IfSome b (λ input. IsServed old now input left w w2 sf sf2 kf kf2 first_steps steps (record { end = ended; wants = wants }))
+      told : (b : Option (List ℕ)) → Going old now first_steps steps count wants b b1 w w1 h0 h1 → IfSome b1 (λ all. EndsOne ended (room_of now.conf) all left w1 w2)
+          → IfSome b (λ input. IsServed old now input left w w2 h0 h2 sf sf2 kf kf2 first_steps steps (record { end = ended; wants = wants }))
       told None g ends = tt
       told (Some input) g ends =
           let p = g.progress in
           let before = there_of _ b1 p.taken in
-          unanswered_at old now first_steps steps count wants input b1 left w w1 w2 sf sf2 kf kf2 p g.none_closes g.written_is few ended before.bytes before.holds
-          (told_at (λ all. EndsOne ended (room_of now.conf) all left w1 w2) b1 before.bytes before.is ends) (told_at (λ all. LeavesPart all left) b1 before.bytes before.is part) reads writes
+          unanswered_at old now first_steps steps count wants input b1 left w w1 w2 h0 h1 h2 sf sf2 kf kf2 p g.none_closes g.written_is g.handed_is few ended before.bytes before.holds
+          (told_at (λ all. EndsOne ended (room_of now.conf) all left w1 w2) b1 before.bytes before.is ends) (told_at (λ all. LeavesPart all left) b1 before.bytes before.is part) reads writes all more
 
 -- as many requests were answered as may be
-pub spent_served : (old now : BoardContent) (first_steps steps wants : ℕ) (frame : FrameState) (left b w w2 : Option (List ℕ)) (sf sf2 kf kf2 count : ℕ) → count ≡ most_requests
-    → Going old now first_steps steps count wants b (unread frame left) w w2 → Ended old now first_steps steps b left w w2 sf sf2 kf kf2 wants end.Spent
-spent_served old now first_steps steps wants frame left b w w2 sf sf2 kf kf2 count all g =
+pub spent_served : (old now : BoardContent) (first_steps steps wants : ℕ) (frame : FrameState) (left b w w2 h0 h2 : Option (List ℕ)) (sf sf2 kf kf2 count : ℕ) → count ≡ most_requests
+    → Going old now first_steps steps count wants b (unread frame left) w w2 h0 h2 → Ended old now first_steps steps b left w w2 h0 h2 sf sf2 kf kf2 wants end.Spent
+spent_served old now first_steps steps wants frame left b w w2 h0 h2 sf sf2 kf kf2 count all g =
     record { goes = goes_of old now first_steps steps count wants b (unread frame left) (omega (arith, all)) g.progress; served = told b g }
   where
-    told : (b : Option (List ℕ)) → Going old now first_steps steps count wants b (unread frame left) w w2
-        → IfSome b (λ input. IsServed old now input left w w2 sf sf2 kf kf2 first_steps steps (record { end = end.Spent; wants = wants }))
+    told : (b : Option (List ℕ)) → Going old now first_steps steps count wants b (unread frame left) w w2 h0 h2
+        → IfSome b (λ input. IsServed old now input left w w2 h0 h2 sf sf2 kf kf2 first_steps steps (record { end = end.Spent; wants = wants }))
     told None g = tt
     told (Some input) g =
         let p = g.progress in
         let before = there_of _ (unread frame left) p.taken in
         let s = split_of before.bytes frame.held left before.is in
         let f = front_part (room_of now.conf) input p.requests before.bytes before.holds left (record { gone = frame.held; rest = s.rest; left_is = s.left_is; all_is = s.all_is }) in
-        served_by old now first_steps steps count wants input (unread frame left) left w w2 sf sf2 kf kf2 p f.gone f.rest f.all_is f.left_is end.Spent (concat p.outputs) g.written_is tt before.bytes
-        (whole_input old now first_steps steps count wants input (unread frame left) left w w2 sf sf2 kf kf2 p f.gone f.rest f.all_is f.left_is before.bytes before.holds)
-        (p.count_is ∙ all, g.none_closes, refl)
+        served_by old now first_steps steps count wants input (unread frame left) left w w2 h0 h2 sf sf2 kf kf2 p f.gone f.rest f.all_is f.left_is end.Spent (concat p.outputs) (concat p.outputs) g.written_is
+        (hands_all w w2 h0 h2 (concat p.outputs) g.written_is (has_handed_all p.outputs w w2 h0 h2 g.handed_is)) tt before.bytes
+        (whole_input old now first_steps steps count wants input (unread frame left) left w w2 h0 h2 sf sf2 kf kf2 p f.gone f.rest f.all_is f.left_is before.bytes before.holds)
+        (p.count_is ∙ all, g.none_closes, refl) refl
 
 -- ---- the loop over the requests
 
-pub record IsLoop (old now : BoardContent) (first_steps steps count wants : ℕ) (frame : FrameState) (left0 left w0 w : Option (List ℕ)) (sf0 sf kf0 kf top room : ℕ) : Type 0 where
-  pub going : Going old now first_steps steps count wants left0 (unread frame left) w0 w
+pub record IsLoop (old now : BoardContent) (first_steps steps count wants : ℕ) (frame : FrameState) (left0 left w0 w h0 h : Option (List ℕ)) (sf0 sf kf0 kf top room : ℕ) : Type 0 where
+  pub going : Going old now first_steps steps count wants left0 (unread frame left) w0 w h0 h
   pub turn : frame.turn ≡ AtHead
   pub room_is : frame.room ≡ room_of now.conf
   pub same_room : frame.room ≡ room
@@ -444,10 +462,14 @@ pub record IsLoop (old now : BoardContent) (first_steps steps count wants : ℕ)
   pub sink : kf0 ≤ kf
   pub steps_rise : first_steps ≤ steps
 
-pub begins_loop : (old now : BoardContent) (steps : ℕ) (frame : FrameState) (left w : Option (List ℕ)) (sf kf top room : ℕ) → now ≡ holding_none old → IsHistory now.opening now.history → frame.held ≡ [] → frame.turn ≡ AtHead
-    → frame.room ≡ room → room ≡ room_of old.conf → top ≡ now.conf.shape.top → IsLoop old now steps steps 0 0 frame left left w w sf sf kf kf top room
-begins_loop old now steps frame left w sf kf top room is legal empty turn same room_is top_is = record {
-  going = begins_going old now steps frame left w is legal empty;
+-- a board that holds nothing
+pub holds_none : (board : BoardContent) → board.held ≡ None → board ≡ holding_none board
+holds_none board none = ap (λ (held : Option SurveyState). record board { held = held }) none
+
+pub begins_loop : (old now : BoardContent) (steps : ℕ) (frame : FrameState) (left w h : Option (List ℕ)) (sf kf top room : ℕ) → now ≡ holding_none old → IsHistory now.opening now.history → frame.held ≡ [] → frame.turn ≡ AtHead
+    → frame.room ≡ room → room ≡ room_of old.conf → top ≡ now.conf.shape.top → IsLoop old now steps steps 0 0 frame left left w w h h sf sf kf kf top room
+begins_loop old now steps frame left w h sf kf top room is legal empty turn same room_is top_is = record {
+  going = begins_going old now steps frame left w h is legal empty;
   turn = turn;
   room_is = same ∙ room_is ∙ sym (ap (λ b. room_of b.conf) is);
   same_room = same;
@@ -458,18 +480,18 @@ begins_loop old now steps frame left w sf kf top room is legal empty turn same r
   steps_rise = omega arith;
 }
 
-pub loop_goes_on : (old now new : BoardContent) (first_steps steps steps' count wants wants' : ℕ) (frame frame' : FrameState) (left0 left left' w0 w w' : Option (List ℕ)) (sf0 sf sf' kf0 kf kf' top room : ℕ)
-    → IsLoop old now first_steps steps count wants frame left0 left w0 w sf0 sf kf0 kf top room
-    → IsServedOne count now new steps steps' wants wants' (unread frame left) (unread frame' left') w w' false → frame'.turn ≡ AtHead → frame'.room ≡ frame.room → wants' ≤ wants + 1
-    → sf ≤ sf' → kf ≤ kf' → steps ≤ steps' → IsLoop old new first_steps steps' (count + 1) wants' frame' left0 left' w0 w' sf0 sf' kf0 kf' top room
-loop_goes_on old now new first_steps steps steps' count wants wants' frame frame' left0 left left' w0 w w' sf0 sf sf' kf0 kf kf' top room l s turn same_room more source sink steps_rise =
+pub loop_goes_on : (old now new : BoardContent) (first_steps steps steps' count wants wants' : ℕ) (frame frame' : FrameState) (left0 left left' w0 w w' h0 h h' : Option (List ℕ)) (sf0 sf sf' kf0 kf kf' top room : ℕ)
+    → IsLoop old now first_steps steps count wants frame left0 left w0 w h0 h sf0 sf kf0 kf top room
+    → IsServedOne count now new steps steps' wants wants' (unread frame left) (unread frame' left') w w' false → h' ≡ w' → frame'.turn ≡ AtHead → frame'.room ≡ frame.room → wants' ≤ wants + 1
+    → sf ≤ sf' → kf ≤ kf' → steps ≤ steps' → IsLoop old new first_steps steps' (count + 1) wants' frame' left0 left' w0 w' h0 h' sf0 sf' kf0 kf' top room
+loop_goes_on old now new first_steps steps steps' count wants wants' frame frame' left0 left left' w0 w w' h0 h h' sf0 sf sf' kf0 kf kf' top room l s on turn same_room more source sink steps_rise =
     let conf : new.conf ≡ now.conf = s.serving.serves.conf in
     let wants_are = l.few_wants in
     let source_was = l.source in
     let sink_was = l.sink in
     let steps_were = l.steps_rise in
     record {
-      going = goes_on old now new first_steps steps steps' count wants wants' left0 (unread frame left) (unread frame' left') w0 w w' l.going s;
+      going = goes_on old now new first_steps steps steps' count wants wants' left0 (unread frame left) (unread frame' left') w0 w w' h0 h h' l.going s on;
       turn = turn;
       room_is = same_room ∙ l.room_is ∙ sym (ap room_of conf);
       same_room = same_room ∙ l.same_room;

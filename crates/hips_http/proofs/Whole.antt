@@ -1,5 +1,5 @@
 -- Whole connections.
-use Rattle.std.proofs.Common.{◌≡◌, ℕ, List, [], Option, Some, None, IfSome, refl, ap, subst}
+use Rattle.std.proofs.Common.{◌≡◌, inr, ℕ, List, [], Option, Some, None, IfSome, refl, ap, subst}
 use Rattle.std.specs.Io.KnownBytes.{Appends}
 use Rattle.std.proofs.lemmas.Grind.{common_steps}
 use Rattle.std.proofs.Common.{arith}
@@ -18,11 +18,11 @@ pub begins_same : {X : Type 0} (xs ys : List X) → ys ≡ xs → Begins xs ys
 begins_same xs ys same = record { rest = []; is = grind (arith, common_steps) }
 
 -- there was no memory at the beginning
-pub no_memory_served : (old new : BoardContent) (left written : Option (List ℕ)) (source sink steps : ℕ) → IsHistory new.opening new.history
-    → new ≡ holding_none old → IfSome left (λ input. IsServed old new input left written written source source sink sink steps steps
+pub no_memory_served : (old new : BoardContent) (left written handed : Option (List ℕ)) (source sink steps : ℕ) → IsHistory new.opening new.history
+    → new ≡ holding_none old → IfSome left (λ input. IsServed old new input left written written handed handed source source sink sink steps steps
     (record { end = OutOfMemory; wants = 0 }))
-no_memory_served old new None written source sink steps legal is = tt
-no_memory_served old new (Some input) written source sink steps legal is =
+no_memory_served old new None written handed source sink steps legal is = tt
+no_memory_served old new (Some input) written handed source sink steps legal is =
     let same : new.history ≡ old.history = ap (λ b. b.history) is in
     let own : new.own ≡ old.own = ap (λ b. b.own) is in
     record {
@@ -33,6 +33,8 @@ no_memory_served old new (Some input) written source sink steps legal is =
       input_is = refl;
       left_is = refl;
       appended = appends_nothing written;
+      passed = [];
+      passed_is = inr (refl, refl);
       own_is = grind (arith, common_steps);
       run = record {
         history = legal;
@@ -47,6 +49,7 @@ no_memory_served old new (Some input) written source sink steps legal is =
         own_is = refl;
         wants_is = refl;
         ended = (refl, refl, refl);
+        handed_on = refl;
       };
       steps_are = λ _. grind arith;
     }
@@ -68,11 +71,11 @@ goes_from old released new is h =
     let g : Goes (holding_none old) new = subst (λ (b : BoardContent). Goes b new) is h in
     record { conf = g.conf; opening = g.opening; legal = g.legal; begins = g.begins; own = g.own; own_is = g.own_is; few = g.few }
 
-pub served_from : (old released new : BoardContent) (left left' w w' : Option (List ℕ)) (sf sf' kf kf' steps steps' : ℕ) (served : Served) → released ≡ holding_none old
-    → IfSome left (λ input. IsServed released new input left' w w' sf sf' kf kf' steps steps' served) → IfSome left (λ input. IsServed old new input left' w w' sf sf' kf kf' steps steps' served)
-served_from old released new None left' w w' sf sf' kf kf' steps steps' served is h = tt
-served_from old released new (Some input) left' w w' sf sf' kf kf' steps steps' served is h =
-    let s : IsServed (holding_none old) new input left' w w' sf sf' kf kf' steps steps' served = subst (λ (b : BoardContent). IsServed b new input left' w w' sf sf' kf kf' steps steps' served) is h in
+pub served_from : (old released new : BoardContent) (left left' w w' hand hand' : Option (List ℕ)) (sf sf' kf kf' steps steps' : ℕ) (served : Served) → released ≡ holding_none old
+    → IfSome left (λ input. IsServed released new input left' w w' hand hand' sf sf' kf kf' steps steps' served) → IfSome left (λ input. IsServed old new input left' w w' hand hand' sf sf' kf kf' steps steps' served)
+served_from old released new None left' w w' hand hand' sf sf' kf kf' steps steps' served is h = tt
+served_from old released new (Some input) left' w w' hand hand' sf sf' kf kf' steps steps' served is h =
+    let s : IsServed (holding_none old) new input left' w w' hand hand' sf sf' kf kf' steps steps' served = subst (λ (b : BoardContent). IsServed b new input left' w w' hand hand' sf sf' kf kf' steps steps' served) is h in
     record {
       read = s.read;
       rest = s.rest;
@@ -81,6 +84,8 @@ served_from old released new (Some input) left' w w' sf sf' kf kf' steps steps' 
       input_is = s.input_is;
       left_is = s.left_is;
       appended = s.appended;
+      passed = s.passed;
+      passed_is = s.passed_is;
       own_is = s.own_is;
       run = s.run;
       steps_are = s.steps_are;

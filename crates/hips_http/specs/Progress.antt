@@ -256,8 +256,13 @@ pub record Progress (old now : BoardContent) (first_steps steps count wants : �
   pub answered : AreAnswered now.conf now.opening now.history 0 (first_point old.history) requests last outputs
   pub taken : IfSome bytes (λ all. IsSomeAnd bytes' (λ rest. AreRequests (room_of now.conf) all requests rest))
 
--- none of these asked to close, and all that they were answered was written
-pub record Going (old now : BoardContent) (first_steps steps count wants : ℕ) (bytes bytes' written written' : Option (List ℕ)) : Type 0 where
+-- none was answered, and nothing was written or handed on; or all that is held was handed on
+abbrev pub HasHandedOn : List (List ℕ) → Option (List ℕ) → Option (List ℕ) → Option (List ℕ) → Option (List ℕ) → Type 0
+HasHandedOn outputs held held' handed handed' = ((outputs ≡ []) × (held' ≡ held) × (handed' ≡ handed)) ⊎ (handed' ≡ held')
+
+-- none of these asked to close, and all that they were answered was written and handed on
+pub record Going (old now : BoardContent) (first_steps steps count wants : ℕ) (bytes bytes' written written' handed handed' : Option (List ℕ)) : Type 0 where
   pub progress : Progress old now first_steps steps count wants bytes bytes'
   pub none_closes : All (λ request. request.asked.close ≡ false) progress.requests
   pub written_is : Appends written written' (concat progress.outputs)
+  pub handed_is : HasHandedOn progress.outputs written written' handed handed'

@@ -71,43 +71,46 @@ pub record EndsWith (requests : List Asking) (last : Asking) : Type 0 where
 pub record IsCutInput (room : ℕ) (rest extra : List ℕ) : Type 0 where
   pub cut : (IsCut rest × (extra ≡ [])) ⊎ ((body : IsCutInBody room rest) × (extra ≡ leave_bytes body.asked))
 
--- what was written is these outputs, and then some first bytes of one that was begun
-pub record BreaksOff (outputs : List (List ℕ)) (begun out : List ℕ) : Type 0 where
+-- what was written is these outputs, which were all handed on, and then some first bytes of one that was begun
+pub record BreaksOff (outputs : List (List ℕ)) (begun out handed : List ℕ) : Type 0 where
   pub part : List ℕ
   pub left : List ℕ
   pub begun_is : begun ≡ part ++ left
   pub out_is : out ≡ concat outputs ++ part
+  pub more : List ℕ
+  pub handed_is : handed ≡ concat outputs ++ more
 
 -- a writing failed in what is written for the last request that was answered
-pub record BreaksInReply (requests : List Asking) (outputs : List (List ℕ)) (out : List ℕ) : Type 0 where
+pub record BreaksInReply (requests : List Asking) (outputs : List (List ℕ)) (out handed : List ℕ) : Type 0 where
   pub last : Asking
   pub ends : EndsWith requests last
   pub before : List (List ℕ)
   pub begun : List ℕ
   pub outputs_are : outputs ≡ before ++ begun ∷ []
-  pub broken : BreaksOff before begun out
+  pub broken : BreaksOff before begun out handed
 
 -- it failed in the reply to a head that is refused
-pub record BreaksInRefusal (room : ℕ) (rest : List ℕ) (outputs : List (List ℕ)) (out : List ℕ) : Type 0 where
+pub record BreaksInRefusal (room : ℕ) (rest : List ℕ) (outputs : List (List ℕ)) (out handed : List ℕ) : Type 0 where
   pub code : ℕ
   pub refused : IsRefusedNext room rest code
-  pub broken : BreaksOff outputs (refusal_bytes code) out
+  pub broken : BreaksOff outputs (refusal_bytes code) out handed
 
 -- it failed in the leave to send a body, which wasn't read
-pub record BreaksInLeave (room : ℕ) (rest : List ℕ) (outputs : List (List ℕ)) (out : List ℕ) : Type 0 where
+pub record BreaksInLeave (room : ℕ) (rest : List ℕ) (outputs : List (List ℕ)) (out handed : List ℕ) : Type 0 where
   pub asked : Request
   pub path : Option (List ℕ)
   pub after : List ℕ
   pub head : IsFound room rest asked path after
   pub waits : asked.expects ≡ true
-  pub broken : BreaksOff outputs continue_bytes out
+  pub broken : BreaksOff outputs continue_bytes out handed
 
--- a connection as its ends tell it: the bytes that were read of it and those left, the bytes that were written, and the
--- counts of faults of its source and of its sink, before and after
+-- a connection as its ends tell it: the bytes that were read of it and those left, the bytes that were written and those of
+-- them that were handed on, and the counts of faults of its source and of its sink, before and after
 pub record Exchange : Type 0 where
   pub read : List ℕ
   pub left : List ℕ
   pub written : List ℕ
+  pub handed_on : List ℕ
   pub source_faults : ℕ
   pub source_faults_then : ℕ
   pub sink_faults : ℕ
@@ -138,9 +141,15 @@ Ends ReadFault room requests rest outputs exchange =
     × ((extra : List ℕ) × (((rest ≡ []) × (extra ≡ [])) ⊎ IsCutInput room rest extra) × (exchange.written ≡ concat outputs ++ extra))
 Ends WriteFault room requests rest outputs exchange =
     Rises exchange.sink_faults exchange.sink_faults_then
-    × (BreaksInReply requests outputs exchange.written
-    ⊎ (GoOn requests × (BreaksInRefusal room rest outputs exchange.written ⊎ BreaksInLeave room rest outputs exchange.written)))
+    × (BreaksInReply requests outputs exchange.written exchange.handed_on
+    ⊎ (GoOn requests
+    × (BreaksInRefusal room rest outputs exchange.written exchange.handed_on ⊎ BreaksInLeave room rest outputs exchange.written exchange.handed_on)))
 Ends OutOfMemory room requests rest outputs exchange = (requests ≡ []) × (exchange.read ≡ []) × (exchange.written ≡ [])
+
+-- all that was written was handed on, unless a writing failed: then all but what was begun then, as told there
+abbrev pub HandsAllOn : SessionEnd → Exchange → Type 0
+HandsAllOn WriteFault exchange = Unit {0}
+HandsAllOn _ exchange = exchange.handed_on ≡ exchange.written
 
 -- a connection begins at the last state that was seen before it, and holds none
 abbrev pub first_point : List SurveyState → Point
@@ -167,12 +176,22 @@ pub record SessionRun (conf : Description) (opening : LeafTiles) (states : List 
   pub own_is : own ≡ last.own
   pub wants_is : wants ≡ last.wants
   pub ended : Ends end (room_of conf) requests rest outputs exchange
+  pub handed_on : HandsAllOn end exchange
 
 -- ---- a call
 
--- what serving a connection did, whose source had this input: to the board, to the bytes left in the source and those held by
--- the sink, where it tells them, to the counts of faults of both, and to the count of steps
-pub record IsServed (old new : BoardContent) (input : List ℕ) (left written written' : Option (List ℕ)) (source source' sink sink' steps steps' : ℕ)
+-- a sink that held these bytes has handed on all that it holds; or nothing was written, and nothing handed on
+abbrev pub HandsOnAll : Option (List ℕ) → Option (List ℕ) → Option (List ℕ) → Option (List ℕ) → Type 0
+HandsOnAll held held' handed handed' = (handed' ≡ held') ⊎ ((held' ≡ held) × (handed' ≡ handed))
+
+-- of what was written to a sink that held these bytes, those bytes were handed on, and so was all that it had held back; or
+-- nothing was handed on
+abbrev pub HandsOn : Option (List ℕ) → Option (List ℕ) → Option (List ℕ) → List ℕ → Type 0
+HandsOn held handed handed' bytes = Appends held handed' bytes ⊎ ((handed' ≡ handed) × (bytes ≡ []))
+
+-- what serving a connection did, whose source had this input: to the board, to the bytes left in the source, those held by the
+-- sink and those that it had handed on, where it tells them, to the counts of faults of both, and to the count of steps
+pub record IsServed (old new : BoardContent) (input : List ℕ) (left written written' handed handed' : Option (List ℕ)) (source source' sink sink' steps steps' : ℕ)
     (served : Served) : Type 0 where
   pub read : List ℕ
   pub rest : List ℕ
@@ -181,12 +200,15 @@ pub record IsServed (old new : BoardContent) (input : List ℕ) (left written wr
   pub input_is : input ≡ read ++ rest
   pub left_is : left ≡ Some rest
   pub appended : Appends written written' out
+  pub passed : List ℕ
+  pub passed_is : HandsOn written handed handed' passed
   pub own_is : new.own ≡ old.own ++ own
   pub run : SessionRun new.conf new.opening old.history
       (record {
         read = read;
         left = rest;
         written = out;
+        handed_on = passed;
         source_faults = source;
         source_faults_then = source';
         sink_faults = sink;

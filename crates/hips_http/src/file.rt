@@ -38,6 +38,7 @@ pub(crate) fn send_path<R: Log, K: Sink>(
     ensures part { OnErr result (let answer = file_answer state.now.conf state.now.opening (survey_state state.now) (option_copied path.entry) in
         AppendsPrefix (K.held sink.old) (K.held sink.new) (reply_bytes (head_of close answer) (sent_body method answer.body))) }
     ensures handed_on { OnOk result (K.handed_on sink.new ≡ K.held sink.new) }
+    ensures stays { OnErr result (K.handed_on sink.new ≡ K.handed_on sink.old) }
     ensures failed { OnErr result (Rises (K.faults sink.old) (K.faults sink.new)) }
     ensures never_falls { K.faults sink.old ≤ K.faults sink.new }
 {
@@ -66,6 +67,7 @@ fn send_known<R: Log, K: Sink>(
     ensures part { OnErr result (let answer = path_answer state.now.conf state.now.opening (survey_state state.now) text.now in
         AppendsPrefix (K.held sink.old) (K.held sink.new) (reply_bytes (head_of close answer) (sent_body method answer.body))) }
     ensures handed_on { OnOk result (K.handed_on sink.new ≡ K.held sink.new) }
+    ensures stays { OnErr result (K.handed_on sink.new ≡ K.handed_on sink.old) }
     ensures failed { OnErr result (Rises (K.faults sink.old) (K.faults sink.new)) }
     ensures never_falls { K.faults sink.old ≤ K.faults sink.new }
 {
@@ -104,6 +106,7 @@ fn send_unknown<R: Log, K: Sink>(
     ensures part { OnErr result (let answer = path_answer state.now.conf state.now.opening (survey_state state.now) text.now in
         AppendsPrefix (K.held sink.old) (K.held sink.new) (reply_bytes (head_of close answer) (sent_body method answer.body))) }
     ensures handed_on { OnOk result (K.handed_on sink.new ≡ K.held sink.new) }
+    ensures stays { OnErr result (K.handed_on sink.new ≡ K.handed_on sink.old) }
     ensures failed { OnErr result (Rises (K.faults sink.old) (K.faults sink.new)) }
     ensures never_falls { K.faults sink.old ≤ K.faults sink.new }
 {
@@ -123,6 +126,7 @@ fn send_not_found<R: Log, K: Sink>(
     ensures whole { OnOk result (Appends (K.held sink.old) (K.held sink.new) (reply_bytes (head_of close (not_found state.now.tip)) (sent_body method (not_found state.now.tip).body))) }
     ensures part { OnErr result (AppendsPrefix (K.held sink.old) (K.held sink.new) (reply_bytes (head_of close (not_found state.now.tip)) (sent_body method (not_found state.now.tip).body))) }
     ensures handed_on { OnOk result (K.handed_on sink.new ≡ K.held sink.new) }
+    ensures stays { OnErr result (K.handed_on sink.new ≡ K.handed_on sink.old) }
     ensures failed { OnErr result (Rises (K.faults sink.old) (K.faults sink.new)) }
     ensures never_falls { K.faults sink.old ≤ K.faults sink.new }
 {
@@ -146,6 +150,7 @@ pub(crate) fn give_file<R: Log, B: Board, K: Sink>(
     ensures gives { (request : Asking) (steps : ℕ) → request.path ≡ option_copied path.entry → request.asked.method ≡ method
         → Gives request close (B.content board.old) (B.content board.new) steps (K.held sink.old) (K.held sink.new) result }
     ensures handed_on { OnOk result (K.handed_on sink.new ≡ K.held sink.new) }
+    ensures stays { OnErr result (K.handed_on sink.new ≡ K.handed_on sink.old) }
     ensures failed { OnErr result (Rises (K.faults sink.old) (K.faults sink.new)) }
     ensures never_falls { K.faults sink.old ≤ K.faults sink.new }
 {
@@ -168,6 +173,7 @@ fn give_newest<R: Log, B: Board, K: Sink>(
     ensures gives { (request : Asking) (steps : ℕ) → (B.content board.old).held ≡ None → request.path ≡ option_copied path.entry → request.asked.method ≡ method
         → Gives request close (B.content board.old) (B.content board.new) steps (K.held sink.old) (K.held sink.new) result }
     ensures handed_on { OnOk result (K.handed_on sink.new ≡ K.held sink.new) }
+    ensures stays { OnErr result (K.handed_on sink.new ≡ K.handed_on sink.old) }
     ensures failed { OnErr result (Rises (K.faults sink.old) (K.faults sink.new)) }
     ensures never_falls { K.faults sink.old ≤ K.faults sink.new }
 {

@@ -19,5 +19,5 @@ mod served;
 mod step;
 mod text;
 
-pub use connection::{session, session_in};
+pub use connection::{frame_for, session, session_in};
 pub use served::{Served, SessionEnd};

@@ -23,6 +23,7 @@ pub(crate) fn send_text<K: Sink>(
     ensures whole { OnOk result (Appends (K.held sink.old) (K.held sink.new) (reply_bytes (head_of close reply.now) (sent_body method reply.now.body))) }
     ensures part { OnErr result (AppendsPrefix (K.held sink.old) (K.held sink.new) (reply_bytes (head_of close reply.now) (sent_body method reply.now.body))) }
     ensures handed_on { OnOk result (K.handed_on sink.new ≡ K.held sink.new) }
+    ensures stays { OnErr result (K.handed_on sink.new ≡ K.handed_on sink.old) }
     ensures failed { OnErr result (Rises (K.faults sink.old) (K.faults sink.new)) }
     ensures never_falls { K.faults sink.old ≤ K.faults sink.new }
 {
@@ -61,6 +62,7 @@ pub(crate) fn send_file<'a, K: Sink>(
     ensures whole { OnOk result (Appends (K.held sink.old) (K.held sink.new) (reply_bytes (head_of close (found_answer tip path.now (front.now ++ kept.now ++ zeros.now))) (sent_body method (front.now ++ kept.now ++ zeros.now)))) }
     ensures part { OnErr result (AppendsPrefix (K.held sink.old) (K.held sink.new) (reply_bytes (head_of close (found_answer tip path.now (front.now ++ kept.now ++ zeros.now))) (sent_body method (front.now ++ kept.now ++ zeros.now)))) }
     ensures handed_on { OnOk result (K.handed_on sink.new ≡ K.held sink.new) }
+    ensures stays { OnErr result (K.handed_on sink.new ≡ K.handed_on sink.old) }
     ensures failed { OnErr result (Rises (K.faults sink.old) (K.faults sink.new)) }
     ensures never_falls { K.faults sink.old ≤ K.faults sink.new }
 {
@@ -100,6 +102,7 @@ pub(crate) fn send_refusal<K: Sink>(sink: &mut K, code: u16) -> Result<(), Faile
     ensures whole { OnOk result (Appends (K.held sink.old) (K.held sink.new) (refusal_bytes code)) }
     ensures part { OnErr result (AppendsPrefix (K.held sink.old) (K.held sink.new) (refusal_bytes code)) }
     ensures handed_on { OnOk result (K.handed_on sink.new ≡ K.held sink.new) }
+    ensures stays { OnErr result (K.handed_on sink.new ≡ K.handed_on sink.old) }
     ensures failed { OnErr result (Rises (K.faults sink.old) (K.faults sink.new)) }
     ensures never_falls { K.faults sink.old ≤ K.faults sink.new }
 {

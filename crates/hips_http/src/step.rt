@@ -1,5 +1,5 @@
 //! One request: its head, its body, and the reply.
-ghost use Rattle.std.specs.Prelude.{◌≡◌, ◌||◌, ◌==◌, ◌≤◌, ◌+◌, ◌<◌, true, ℕ, Err, OnOk, OnErr, IfOk, IfErr, IfSome};
+ghost use Rattle.std.specs.Prelude.{◌≡◌, ◌≢◌, ◌||◌, ◌==◌, ◌≤◌, ◌+◌, ◌<◌, true, ℕ, List, Err, OnOk, OnErr, IfOk, IfErr, IfSome};
 ghost use Rattle.hips_http.specs.declared.call.Call.TheVariants as call;
 ghost use Rattle.std.specs.Io.KnownBytes.{Appends};
 ghost use Rattle.survey_link.specs.Link.{AppendsPrefix, Rises};
@@ -7,10 +7,10 @@ ghost use Rattle.http_frame.specs.Frame.{StopsHead, KeepsUnread, unread};
 ghost use Rattle.http_frame.specs.declared.stop.Turn.TheVariants.{AtHead, AtBody};
 ghost use Rattle.http_frame.specs.declared.stop.Stop.TheVariants as Stopped;
 ghost use Rattle.http_frame.specs.Reply.{is_reply_code, continue_bytes};
-ghost use Rattle.hips_http.specs.declared.served.SessionEnd.TheVariants.{ReadFault, WriteFault};
+ghost use Rattle.hips_http.specs.declared.served.SessionEnd.TheVariants.{ReadFault, WriteFault, OutOfMemory};
 ghost use Rattle.hips_http.specs.Replies.{Answer, leave_bytes};
 ghost use Rattle.hips_http.specs.Progress.{ReadsCall, HasLeaf, EndsAt, is_text, Replied, reply_of, body_end, Halts, wants_after, IsServedOne, StopsOne, LeavesPart};
-ghost use Rattle.hips_http.specs.SessionRun.{room_of, most_requests};
+ghost use Rattle.hips_http.specs.SessionRun.{HandsOn, HandsOnAll, room_of, most_requests};
 
 use crate::answer::{pass_body, reply_to};
 use crate::call::{Call, call_of, path_kind};
@@ -61,7 +61,9 @@ pub(crate) fn next_call<S: Source>(
 pub(crate) fn end_at<K: Sink>(sink: &mut K, stop: Stop) -> SessionEnd
     ensures ends { EndsAt stop (K.held sink.old) (K.held sink.new) result }
     ensures read_fault { result ≡ ReadFault → stop ≡ Stopped.ReadFault }
-    ensures handed_on { K.handed_on sink.old ≡ K.held sink.old → ¬ (result ≡ WriteFault) → K.handed_on sink.new ≡ K.held sink.new }
+    ensures handed_on { ¬ (result ≡ WriteFault) → HandsOnAll (K.held sink.old) (K.held sink.new) (K.handed_on sink.old) (K.handed_on sink.new) }
+    ensures stays { result ≡ WriteFault → K.handed_on sink.new ≡ K.handed_on sink.old }
+    ensures memory { result ≢ OutOfMemory }
     ensures failed { result ≡ WriteFault → Rises (K.faults sink.old) (K.faults sink.new) }
     ensures never_falls { K.faults sink.old ≤ K.faults sink.new }
 {
@@ -96,7 +98,8 @@ fn reply_code(code: u16) -> u16
 pub(crate) fn grant<K: Sink>(sink: &mut K, request: &Request) -> Result<(), Failed>
     ensures whole { OnOk result (Appends (K.held sink.old) (K.held sink.new) (leave_bytes request.now)) }
     ensures part { OnErr result (AppendsPrefix (K.held sink.old) (K.held sink.new) continue_bytes) }
-    ensures handed_on { K.handed_on sink.old ≡ K.held sink.old → OnOk result (K.handed_on sink.new ≡ K.held sink.new) }
+    ensures handed_on { OnOk result (HandsOnAll (K.held sink.old) (K.held sink.new) (K.handed_on sink.old) (K.handed_on sink.new)) }
+    ensures stays { OnErr result (K.handed_on sink.new ≡ K.handed_on sink.old) }
     ensures waits { OnErr result (request.now.expects ≡ true) }
     ensures failed { OnErr result (Rises (K.faults sink.old) (K.faults sink.new)) }
     ensures never_falls { K.faults sink.old ≤ K.faults sink.new }
@@ -109,7 +112,8 @@ pub(crate) fn grant<K: Sink>(sink: &mut K, request: &Request) -> Result<(), Fail
 
 // How a connection ends where a body isn't whole.
 fn body_end(stop: Stop) -> SessionEnd
-    ensures { result ≡ body_end stop }
+    ensures end { result ≡ body_end stop }
+    ensures memory { result ≢ OutOfMemory }
 {
     match stop {
         Stop::ReadFault => SessionEnd::ReadFault,
@@ -139,8 +143,10 @@ pub(crate) fn serve_file<R: Log, B: Board, S: Source, K: Sink>(
     ensures halted { (steps wants : ℕ) → IfErr result (λ end. ¬ (end ≡ WriteFault) → Halts request.now frame.old frame.new (S.left src.old) (S.left src.new) (S.faults src.old) (S.faults src.new)
         (B.content board.old) (B.content board.new) steps steps wants wants (K.held sink.old) (K.held sink.new) end) }
     ensures handed_on { OnOk result (K.handed_on sink.new ≡ K.held sink.new) }
-    ensures unwritten { IfErr result (λ end. ¬ (end ≡ WriteFault) → (K.held sink.new ≡ K.held sink.old) × (K.handed_on sink.new ≡ K.handed_on sink.old)) }
+    ensures stays { OnErr result (K.handed_on sink.new ≡ K.handed_on sink.old) }
+    ensures unwritten { IfErr result (λ end. ¬ (end ≡ WriteFault) → K.held sink.new ≡ K.held sink.old) }
     ensures write_fault { result ≡ Err WriteFault → Rises (K.faults sink.old) (K.faults sink.new) }
+    ensures memory { IfErr result (λ end. end ≢ OutOfMemory) }
     ensures source_never_falls { S.faults src.old ≤ S.faults src.new }
     ensures sink_never_falls { K.faults sink.old ≤ K.faults sink.new }
     ensures room { frame.new.room ≡ frame.old.room }
@@ -191,8 +197,10 @@ pub(crate) fn serve_text<
     ensures halted { IfErr result (λ end. ¬ (end ≡ WriteFault) → Halts request.now frame.old frame.new (S.left src.old) (S.left src.new) (S.faults src.old) (S.faults src.new)
         (B.content board.old) (B.content board.new) steps.old steps.new wants.old wants.new (K.held sink.old) (K.held sink.new) end) }
     ensures handed_on { OnOk result (K.handed_on sink.new ≡ K.held sink.new) }
-    ensures unwritten { IfErr result (λ end. ¬ (end ≡ WriteFault) → (K.held sink.new ≡ K.held sink.old) × (K.handed_on sink.new ≡ K.handed_on sink.old)) }
+    ensures stays { OnErr result (K.handed_on sink.new ≡ K.handed_on sink.old) }
+    ensures unwritten { IfErr result (λ end. ¬ (end ≡ WriteFault) → K.held sink.new ≡ K.held sink.old) }
     ensures write_fault { result ≡ Err WriteFault → Rises (K.faults sink.old) (K.faults sink.new) }
+    ensures memory { IfErr result (λ end. end ≢ OutOfMemory) }
     ensures source_never_falls { S.faults src.old ≤ S.faults src.new }
     ensures sink_never_falls { K.faults sink.old ≤ K.faults sink.new }
     ensures steps_never_fall { steps.old ≤ steps.new }
@@ -240,8 +248,10 @@ fn serve_call<R: Threads + Wait + Sync + Clock + Log, B: Board, S: Source, K: Si
     ensures halted { IfErr result (λ end. ¬ (end ≡ WriteFault) → Halts request.now frame.old frame.new (S.left src.old) (S.left src.new) (S.faults src.old) (S.faults src.new)
         (B.content board.old) (B.content board.new) steps.old steps.new wants.old wants.new (K.held sink.old) (K.held sink.new) end) }
     ensures handed_on { OnOk result (K.handed_on sink.new ≡ K.held sink.new) }
-    ensures unwritten { IfErr result (λ end. ¬ (end ≡ WriteFault) → (K.held sink.new ≡ K.held sink.old) × (K.handed_on sink.new ≡ K.handed_on sink.old)) }
+    ensures stays { OnErr result (K.handed_on sink.new ≡ K.handed_on sink.old) }
+    ensures unwritten { IfErr result (λ end. ¬ (end ≡ WriteFault) → K.held sink.new ≡ K.held sink.old) }
     ensures write_fault { result ≡ Err WriteFault → Rises (K.faults sink.old) (K.faults sink.new) }
+    ensures memory { IfErr result (λ end. end ≢ OutOfMemory) }
     ensures source_never_falls { S.faults src.old ≤ S.faults src.new }
     ensures sink_never_falls { K.faults sink.old ≤ K.faults sink.new }
     ensures steps_never_fall { steps.old ≤ steps.new }
@@ -295,10 +305,12 @@ pub(crate) fn serve_one<
         (unread frame.old (S.left src.old)) (unread frame.new (S.left src.new)) (S.left src.new) (K.held sink.old) (K.held sink.new)) }
     ensures left { IfSome (unread frame.old (S.left src.old)) (λ all. LeavesPart all (S.left src.new)) }
     ensures handed_on { OnOk result (K.handed_on sink.new ≡ K.held sink.new) }
-    ensures stays_handed_on { K.handed_on sink.old ≡ K.held sink.old → ¬ (result ≡ Err WriteFault) → K.handed_on sink.new ≡ K.held sink.new }
+    ensures hands_on { IfErr result (λ end. ¬ (end ≡ WriteFault) → HandsOnAll (K.held sink.old) (K.held sink.new) (K.handed_on sink.old) (K.handed_on sink.new)) }
+    ensures breaks { result ≡ Err WriteFault → (more : List ℕ) × HandsOn (K.held sink.old) (K.handed_on sink.old) (K.handed_on sink.new) more }
     ensures turn { OnOk result (frame.new.turn ≡ AtHead) }
     ensures read_fault { result ≡ Err ReadFault → Rises (S.faults src.old) (S.faults src.new) }
     ensures write_fault { result ≡ Err WriteFault → Rises (K.faults sink.old) (K.faults sink.new) }
+    ensures memory { IfErr result (λ end. end ≢ OutOfMemory) }
     ensures source_never_falls { S.faults src.old ≤ S.faults src.new }
     ensures sink_never_falls { K.faults sink.old ≤ K.faults sink.new }
     ensures steps_never_fall { steps.old ≤ steps.new }

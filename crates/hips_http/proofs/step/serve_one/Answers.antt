@@ -1,6 +1,8 @@
-use Rattle.std.proofs.Common.{◌≡◌, inl, inr, Err, ap}
+use Rattle.std.proofs.Common.{◌≡◌, inl, inr, [], Err, refl, ap}
 use Rattle.hips_http.specs.declared.served.SessionEnd.{SessionEnd}
-use Rattle.hips_http.specs.declared.served.SessionEnd.TheVariants.{ReadFault}
+use Rattle.hips_http.specs.declared.served.SessionEnd.TheVariants.{ReadFault, WriteFault}
+use Rattle.hips_http.specs.Replies.{leave_bytes}
+use Rattle.hips_http.proofs.HandedOn.{hands_leave, hands_same}
 use Rattle.hips_http.proofs.Steps.{head_stops, stops_by_read, leave_stops, served_one, breaks_one, halts_one, is_write_fault, kept_part, head_part, body_part, no_body_part}
 use Rattle.hips_http.proofs.step.serve_one.Goals as goal
 
@@ -72,3 +74,26 @@ returns-in-Err-serve_call-clause-left g c = elim (is_write_fault c.in-Err-serve_
       no_body_part c.args.top c.args.frame.now c.next_call.new.frame c.serve_call.new.frame (g.S.Source.left c.args.src.now) (g.S.Source.left c.next_call.new.src) (g.S.Source.left c.serve_call.new.src)
       c.in-Ok.next.0 c.in-Ok.next.1 c.in-Ok.ensures.read h.leaves.kept
 ]
+
+-- ---- what was handed on
+
+pub returns-in-Err-clause-breaks : goal.returns-in-Err-clause-breaks
+returns-in-Err-clause-breaks g c = λ is.
+    let ended : c.end_at.result ≡ WriteFault = cc in
+    ([], inr (c.end_at.ensures.stays ended, refl))
+
+pub returns-in-Err-grant-clause-breaks : goal.returns-in-Err-grant-clause-breaks
+returns-in-Err-grant-clause-breaks g c = λ is. ([], inr (c.in-Err-grant.ensures.stays, refl))
+
+pub returns-in-Err-serve_call-clause-breaks : goal.returns-in-Err-serve_call-clause-breaks
+returns-in-Err-serve_call-clause-breaks g c = λ is. (
+  leave_bytes c.in-Ok.next.0,
+  hands_leave (g.K.Sink.held c.args.sink.now) (g.K.Sink.held c.grant.new.sink) (g.K.Sink.handed_on c.args.sink.now) (g.K.Sink.handed_on c.grant.new.sink) (g.K.Sink.handed_on c.serve_call.new.sink)
+      (leave_bytes c.in-Ok.next.0) c.in-Ok-grant.ensures.whole c.in-Ok-grant.ensures.handed_on c.in-Err-serve_call.ensures.stays,
+)
+
+pub returns-in-Err-serve_call-clause-hands_on : goal.returns-in-Err-serve_call-clause-hands_on
+returns-in-Err-serve_call-clause-hands_on g c = λ other.
+    hands_same (g.K.Sink.held c.args.sink.now) (g.K.Sink.held c.grant.new.sink) (g.K.Sink.held c.serve_call.new.sink)
+    (g.K.Sink.handed_on c.args.sink.now) (g.K.Sink.handed_on c.grant.new.sink) (g.K.Sink.handed_on c.serve_call.new.sink)
+    c.in-Ok-grant.ensures.handed_on (c.in-Err-serve_call.ensures.unwritten other) c.in-Err-serve_call.ensures.stays
