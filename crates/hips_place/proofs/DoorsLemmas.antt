@@ -1,10 +1,11 @@
 -- The doors of a survey.
-use Rattle.std.proofs.Common.{◌≡◌, inl, inr, ℕ, zero, suc, ◌+◌, ◌<◌, List, [], ◌∷◌, ◌++◌, length, map, take, drop, get_or, slice_set, add-one, drop-cons, Option, None, refl, sym, ap, ◌∙◌, subst, arith}
+use Rattle.std.proofs.Common.{◌≡◌, ◌≢◌, inl, inr, ℕ, zero, suc, ◌+◌, ◌<◌, List, [], ◌∷◌, ◌++◌, length, map, take, drop, get_or, slice_set, add-one, drop-cons, Option, None, refl, sym, ap, ap₂, ◌∙◌, subst, arith}
 use Rattle.std.specs.Prelude.{All, Contains, Result, Ok, Err, OnOk}
 use Rattle.std.specs.List.{AllZip}
 use Rattle.std.proofs.lemmas.List.{length-set, take_more, drop-set-lt}
 use Rattle.std.proofs.lemmas.List.Elements.{All-nil, All-cons, All-head, All-tail, All-push, All-weaker}
 use Rattle.survey_conf.specs.Description.{Description}
+use Rattle.survey_link.specs.Link.{Rises}
 use Rattle.survey_link.specs.Door.{Connections}
 use Rattle.edit_journal.specs.Leaves.{LeafTiles}
 use Rattle.shared_history.specs.Histories.{SeenHistory, one_state}
@@ -14,8 +15,8 @@ use Rattle.survey_core.specs.State.{StateContent}
 use Rattle.reader_pin.specs.Board.{BoardContent, Stays}
 use Rattle.reader_pin.specs.Shared.{seated, HaveMet}
 use Rattle.hips_place.specs.declared.place.PlaceEnd.{PlaceEnd}
-use Rattle.hips_place.specs.declared.place.PlaceEnd.TheVariants.{Done, Failed}
-use Rattle.hips_place.specs.Place.{OnePlace, IsServedPlace, ArePlaces, AllReturned, IsPlace, PlaceRun, first_board, ServesDoor, ServesDoors, SomeRises, HaveAllMet}
+use Rattle.hips_place.specs.declared.place.PlaceEnd.TheVariants.{Done, Failed, OutOfMemory}
+use Rattle.hips_place.specs.Place.{OnePlace, IsServedPlace, DoorCounts, EndsBy, EndAs, ArePlaces, AllReturned, IsPlace, PlaceRun, first_board, ServesDoor, ServesDoors, SomeRises, HaveAllMet}
 
 -- ---- boards that meet
 
@@ -103,7 +104,7 @@ front_met (Err error) boards front rest d now is one stays met = tt
 serves_one : (conf : Description) (opening : LeafTiles) (states : List SurveyState) (most : ℕ) (end : PlaceEnd) (p : OnePlace) → IsServedPlace most p → p.board ≡ first_board conf opening
     → Begins p.board_then.history states → (end ≡ Done → p.end ≡ Done) → AllReturned p.door → ServesDoor conf opening states most end p.door p.door_then
 serves_one conf opening states most end p is first begins done all =
-    let place : IsPlace p.board p.board_then p.door p.door_then most p.end = is.served all in
+    let place : IsPlace p.board p.board_then p.door p.door_then p.counts p.counts_then most p.end = is.served all in
     let conf_is : p.board_then.conf ≡ conf = is.goes.conf ∙ ap (λ b. b.conf) first in
     let opening_is : p.board_then.opening ≡ opening = is.goes.opening ∙ ap (λ b. b.opening) first in
     let history_is : p.board.history ≡ opening_state ∷ [] = ap (λ b. b.history) first in
@@ -161,10 +162,10 @@ seated_first state none zero_tip (seat ∷ seats) all =
     All-cons (λ board. board ≡ first_board state.conf state.opening) (seated seat) (map seated seats) first
     (seated_first state none zero_tip seats (All-tail (λ seat. seat ≡ one_state state) seat seats all))
 
-pub serves_doors : (state : StateContent) (seats : List (SeenHistory StateContent)) (most : ℕ) (boards' : List BoardContent) (doors doors' : List (Option Connections)) (faults faults' : List ℕ) (end : PlaceEnd)
-    → All (λ seat. seat ≡ one_state state) seats → state.batches ≡ [] → state.tip ≡ 0 → ArePlaces most (map seated seats) boards' doors doors' faults faults' end → HaveAllMet boards'
+pub serves_doors : (state : StateContent) (seats : List (SeenHistory StateContent)) (most : ℕ) (boards' : List BoardContent) (doors doors' : List (Option Connections)) (faults faults' wants wants' : List ℕ) (end : PlaceEnd)
+    → All (λ seat. seat ≡ one_state state) seats → state.batches ≡ [] → state.tip ≡ 0 → ArePlaces most (map seated seats) boards' doors doors' faults faults' wants wants' end → HaveAllMet boards'
     → ServesDoors state.conf state.opening most doors doors' end
-serves_doors state seats most boards' doors doors' faults faults' end all none zero_tip a met =
+serves_doors state seats most boards' doors doors' faults faults' wants wants' end all none zero_tip a met =
     let first : All (λ board. board ≡ first_board state.conf state.opening) (map (λ (p : OnePlace). p.board) a.places) =
     subst (λ (boards : List BoardContent). All (λ board. board ≡ first_board state.conf state.opening) boards) (sym a.boards_are) (seated_first state none zero_tip seats all) in
     let begins : All (λ board. Begins board.history met.states) (map (λ (p : OnePlace). p.board_then) a.places) =
@@ -179,24 +180,60 @@ serves_doors state seats most boards' doors doors' faults faults' end all none z
           (serves_each state.conf state.opening met.states most end a.places a.each first begins a.ends.done));
     }
 
--- ---- a door that failed
+-- ---- the counts of doors
 
-rises_at : (most : ℕ) (ps : List OnePlace) → All (IsServedPlace most) ps → Contains (map (λ (p : OnePlace). p.end) ps) Failed
-    → SomeRises (map (λ (p : OnePlace). p.faults) ps) (map (λ (p : OnePlace). p.faults_then) ps)
+ends_rise : (before after : DoorCounts) (end : PlaceEnd) → end ≡ Failed → EndsBy before after end → Rises before.faults after.faults
+ends_rise before after Failed is e = e.0
+ends_rise before after Done is e = absurd (cc)
+ends_rise before after OutOfMemory is e = absurd (cc)
+
+ends_still : (before after : DoorCounts) (end : PlaceEnd) → end ≢ Failed → EndsBy before after end → after.faults ≡ before.faults
+ends_still before after Done other e = ap (λ (c : DoorCounts). c.faults) e
+ends_still before after OutOfMemory other e = e.0
+ends_still before after Failed other e = absurd (other refl)
+
+ends_done : (before after : DoorCounts) (end : PlaceEnd) → end ≡ Done → EndsBy before after end → after.wants ≡ before.wants
+ends_done before after Done is e = ap (λ (c : DoorCounts). c.wants) e
+ends_done before after OutOfMemory is e = absurd (cc)
+ends_done before after Failed is e = absurd (cc)
+
+rises_at : (most : ℕ) (ps : List OnePlace) → All (IsServedPlace most) ps → Contains (map (λ (p : OnePlace). p.end) ps) Failed → SomeRises (map (λ (p : OnePlace). p.counts.faults) ps) (map (λ (p : OnePlace). p.counts_then.faults) ps)
 rises_at most [] each (k, within, is) = absurd (omega arith)
-rises_at most (p ∷ ps) each (zero, within, is) = inl ((All-head (IsServedPlace most) p ps each).failed is)
+rises_at most (p ∷ ps) each (zero, within, is) = inl (ends_rise p.counts p.counts_then p.end is (All-head (IsServedPlace most) p ps each).ends_by)
 rises_at most (p ∷ ps) each (suc k, within, is) = inr (rises_at most ps (All-tail (IsServedPlace most) p ps each) (k, omega arith, is))
 
-pub some_rises : (most : ℕ) (boards boards' : List BoardContent) (doors doors' : List (Option Connections)) (faults faults' : List ℕ)
-    → ArePlaces most boards boards' doors doors' faults faults' Failed → SomeRises faults faults'
-some_rises most boards boards' doors doors' faults faults' a =
-    subst (λ (fs : List ℕ). SomeRises fs faults') a.faults_are
-    (subst (λ (fs : List ℕ). SomeRises (map (λ (p : OnePlace). p.faults) a.places) fs) a.faults_then (rises_at most a.places a.each (a.ends.failed refl)))
+still_all : (most : ℕ) (ps : List OnePlace) → All (IsServedPlace most) ps → All (λ end. end ≢ Failed) (map (λ (p : OnePlace). p.end) ps) → map (λ (p : OnePlace). p.counts_then.faults) ps ≡ map (λ (p : OnePlace). p.counts.faults) ps
+still_all most [] each none = refl
+still_all most (p ∷ ps) each none =
+    let here = ends_still p.counts p.counts_then p.end (All-head (λ end. end ≢ Failed) p.end (map (λ (p : OnePlace). p.end) ps) none) (All-head (IsServedPlace most) p ps each).ends_by in
+    let more = still_all most ps (All-tail (IsServedPlace most) p ps each) (All-tail (λ end. end ≢ Failed) p.end (map (λ (p : OnePlace). p.end) ps) none) in
+    ap₂ (λ (n : ℕ) (ns : List ℕ). n ∷ ns) here more
 
-pub failed_rises : (most : ℕ) (boards boards' : List BoardContent) (doors doors' : List (Option Connections)) (faults faults' : List ℕ) (end : PlaceEnd)
-    → ArePlaces most boards boards' doors doors' faults faults' end → end ≡ Failed → SomeRises faults faults'
-failed_rises most boards boards' doors doors' faults faults' end a failed =
-    some_rises most boards boards' doors doors' faults faults' (subst (λ (e : PlaceEnd). ArePlaces most boards boards' doors doors' faults faults' e) failed a)
+done_all : (most : ℕ) (ps : List OnePlace) → All (IsServedPlace most) ps → All (λ end. end ≡ Done) (map (λ (p : OnePlace). p.end) ps) → map (λ (p : OnePlace). p.counts_then.wants) ps ≡ map (λ (p : OnePlace). p.counts.wants) ps
+done_all most [] each done = refl
+done_all most (p ∷ ps) each done =
+    let here = ends_done p.counts p.counts_then p.end (All-head (λ end. end ≡ Done) p.end (map (λ (p : OnePlace). p.end) ps) done) (All-head (IsServedPlace most) p ps each).ends_by in
+    let more = done_all most ps (All-tail (IsServedPlace most) p ps each) (All-tail (λ end. end ≡ Done) p.end (map (λ (p : OnePlace). p.end) ps) done) in
+    ap₂ (λ (n : ℕ) (ns : List ℕ). n ∷ ns) here more
+
+none_failed : (ends : List PlaceEnd) (end : PlaceEnd) → EndAs ends end → end ≢ Failed → All (λ each. each ≢ Failed) ends
+none_failed ends Done e other = All-weaker (λ each. each ≡ Done) (λ each. each ≢ Failed) (λ each is failed. cc) ends (e.done refl)
+none_failed ends OutOfMemory e other = (e.wanted refl).1
+none_failed ends Failed e other = absurd (other refl)
+
+module _ (most : ℕ) (boards boards' : List BoardContent) (doors doors' : List (Option Connections)) (faults faults' wants wants' : List ℕ) (end : PlaceEnd)
+    (a : ArePlaces most boards boards' doors doors' faults faults' wants wants' end) where
+  pub failed_rises : end ≡ Failed → SomeRises faults faults'
+  failed_rises is =
+      let some = a.ends.failed is in
+      subst (λ (ns : List ℕ). SomeRises ns faults') a.faults_are
+      (subst (λ (ns : List ℕ). SomeRises (map (λ (p : OnePlace). p.counts.faults) a.places) ns) a.faults_then (rises_at most a.places a.each some))
+
+  pub failed_only : end ≢ Failed → faults' ≡ faults
+  failed_only other = sym a.faults_then ∙ still_all most a.places a.each (none_failed (map (λ (p : OnePlace). p.end) a.places) end a.ends other) ∙ a.faults_are
+
+  pub done_only : end ≡ Done → wants' ≡ wants
+  done_only is = sym a.wants_then ∙ done_all most a.places a.each (a.ends.done is) ∙ a.wants_are
 
 -- ---- boards that are seen as they are
 
@@ -204,10 +241,10 @@ pub map_same : {X : Type 0} (xs : List X) → map (λ x. x) xs ≡ xs
 map_same [] = refl
 map_same (x ∷ xs) = ap (λ ys. x ∷ ys) (map_same xs)
 
-pub serves_seats : (state : StateContent) (seats : List (SeenHistory StateContent)) (most : ℕ) (boards boards' : List BoardContent) (doors doors' : List (Option Connections)) (faults faults' : List ℕ) (end : PlaceEnd)
-    → boards ≡ map seated seats → ArePlaces most (map (λ (b : BoardContent). b) boards) (map (λ (b : BoardContent). b) boards') doors doors' faults faults' end → HaveAllMet boards'
+pub serves_seats : (state : StateContent) (seats : List (SeenHistory StateContent)) (most : ℕ) (boards boards' : List BoardContent) (doors doors' : List (Option Connections)) (faults faults' wants wants' : List ℕ) (end : PlaceEnd)
+    → boards ≡ map seated seats → ArePlaces most (map (λ (b : BoardContent). b) boards) (map (λ (b : BoardContent). b) boards') doors doors' faults faults' wants wants' end → HaveAllMet boards'
     → All (λ seat. seat ≡ one_state state) seats → state.batches ≡ [] → state.tip ≡ 0 → ServesDoors state.conf state.opening most doors doors' end
-serves_seats state seats most boards boards' doors doors' faults faults' end is a met all none zero_tip =
-    serves_doors state seats most boards' doors doors' faults faults' end all none zero_tip
-    (subst (λ (bs : List BoardContent). ArePlaces most bs boards' doors doors' faults faults' end) (map_same boards ∙ is)
-    (subst (λ (bs : List BoardContent). ArePlaces most (map (λ (b : BoardContent). b) boards) bs doors doors' faults faults' end) (map_same boards') a)) met
+serves_seats state seats most boards boards' doors doors' faults faults' wants wants' end is a met all none zero_tip =
+    serves_doors state seats most boards' doors doors' faults faults' wants wants' end all none zero_tip
+    (subst (λ (bs : List BoardContent). ArePlaces most bs boards' doors doors' faults faults' wants wants' end) (map_same boards ∙ is)
+    (subst (λ (bs : List BoardContent). ArePlaces most (map (λ (b : BoardContent). b) boards) bs doors doors' faults faults' wants wants' end) (map_same boards') a)) met

@@ -1,71 +1,57 @@
 -- Places of the server.
-use Rattle.std.proofs.Common.{◌≡◌, ◌≢◌, ℕ, ◌+◌, ◌<◌, ◌≤◌, Bool, false, List, [], ◌∷◌, ◌++◌, length, Option, Some, None, refl, sym, ap, ◌∙◌, subst, arith, append_assoc, length-append}
-use Rattle.std.specs.Prelude.{IfSome, All, option_map}
-use Rattle.std.specs.Io.KnownBytes.{Appends}
+use Rattle.std.proofs.Common.{◌≡◌, ◌≢◌, ◌⊎◌, inl, inr, ℕ, ◌+◌, ◌<◌, ◌≤◌, Bool, true, false, List, [], ◌∷◌, ◌++◌, length, Option, Some, None, refl, sym, ap, ◌∙◌, subst, arith, append_assoc, length-append}
+use Rattle.std.specs.Prelude.{IfSome, IsSome, All, Contains, option_map, if◌then◌else◌}
 use Rattle.std.proofs.lemmas.Grind.{common_steps}
-use Rattle.std.proofs.lemmas.List.Elements.{All-nil, All-push}
+use Rattle.std.proofs.lemmas.List.Elements.{All-nil, All-head, All-tail, All-push, Contains-append_left, Contains-append_right}
 use Rattle.survey_conf.specs.Description.{Description}
-use Rattle.survey_link.specs.Door.{Connection, Connections, Takes, given_back}
+use Rattle.survey_link.specs.Door.{Connection, Connections, Takes, NoneWaits, given_back}
+use Rattle.survey_link.specs.Link.{Rises}
+use Rattle.survey_link.specs.declared.faults.DoorFault.{DoorFault}
+use Rattle.survey_link.specs.declared.faults.DoorFault.TheVariants as fault
+use Rattle.http_frame.specs.Frame.{FrameState}
 use Rattle.edit_journal.specs.Leaves.{LeafTiles}
 use Rattle.survey_core.specs.History.{SurveyState, IsHistory, Begins}
 use Rattle.survey_core.specs.HistoryLaws.{begins_trans}
-use Rattle.reader_pin.specs.Board.{BoardContent, holding_none}
+use Rattle.reader_pin.specs.Board.{BoardContent}
 use Rattle.hips_http.specs.declared.served.SessionEnd.{SessionEnd}
-use Rattle.hips_http.specs.declared.served.SessionEnd.TheVariants.{OutOfMemory}
-use Rattle.hips_http.specs.SessionRun.{Goes, first_point}
-use Rattle.hips_place.specs.Place.{IsSession, IsServedOnce, PlaceRun, AllReturned, HandsOut, PlaceGoes, TakesOne}
-
--- ---- one connection
-
--- nothing was written
-appends_nothing : (known : Option (List ℕ)) → Appends known known []
-appends_nothing None = tt
-appends_nothing (Some bytes) = grind (arith, common_steps)
+use Rattle.hips_http.specs.declared.served.SessionEnd.TheVariants.{Closed, Asked, Refused, Cut, Spent, ReadFault, WriteFault, OutOfMemory}
+use Rattle.hips_http.specs.SessionRun.{IsServed, Goes}
+use Rattle.hips_http.specs.declared.served.Served.{Served}
+use Rattle.hips_place.specs.declared.place.PlaceEnd.{PlaceEnd}
+use Rattle.hips_place.specs.declared.place.PlaceEnd.TheVariants.{Done, Failed}
+use Rattle.hips_place.specs.declared.place.PlaceEnd.TheVariants as placed
+use Rattle.hips_place.specs.Place.{IsSession, IsServedOnce, PlaceRun, AllReturned, HandsOut, DoorCounts, WantsFirst, EndsBy, IsPlace, PlaceGoes, TakesOne}
 
 begins_same : {X : Type 0} (xs ys : List X) → ys ≡ xs → Begins xs ys
 begins_same xs ys same = record { rest = []; is = grind (arith, common_steps) }
 
--- there was no frame
-starved : (old new : BoardContent) (taken : Connection) → IsHistory new.opening new.history → new ≡ holding_none old → (input : List ℕ) → taken.unread ≡ Some input
-    → IsSession new.conf new.opening old.history taken taken new.history OutOfMemory input
-starved old new taken legal is input told =
-    let same : new.history ≡ old.history = ap (λ b. b.history) is in
-    record {
-      read = [];
-      rest = input;
-      out = [];
-      own = [];
-      wants = 0;
-      input_is = refl;
-      left_is = told;
-      appended = appends_nothing taken.written;
-      run = record {
-        history = legal;
-        begins = begins_same _ _ same;
-        kept = same;
-        requests = [];
-        rest = input;
-        are_requests = refl;
-        last = first_point old.history;
-        outputs = [];
-        answered = (refl, refl);
-        own_is = refl;
-        wants_is = refl;
-        ended = (refl, refl, refl);
-      };
+-- ---- one connection
+
+pub once_served : (old new : BoardContent) (u u' w w' h h' : Option (List ℕ)) (sf sf' kf kf' steps steps' : ℕ) (served : Served) → Goes old new
+    → IfSome u (λ input. IsServed old new input u' w w' h h' sf sf' kf kf' steps steps' served)
+    → IsServedOnce new.conf new.opening old.history
+    (record { unread = u; written = w; handed_on = h; source_faults = sf; sink_faults = kf })
+    (record { unread = u'; written = w'; handed_on = h'; source_faults = sf'; sink_faults = kf' }) new.history served.end
+once_served old new u u' w w' h h' sf sf' kf kf' steps steps' served goes all = record { legal = goes.legal; begins = goes.begins; session = told u all }
+  where
+    told : (unread : Option (List ℕ)) → IfSome unread (λ input. IsServed old new input u' w w' h h' sf sf' kf kf' steps steps' served)
+        → IfSome unread (IsSession new.conf new.opening old.history
+        (record { unread = u; written = w; handed_on = h; source_faults = sf; sink_faults = kf })
+        (record { unread = u'; written = w'; handed_on = h'; source_faults = sf'; sink_faults = kf' }) new.history served.end)
+    told None all = tt
+    told (Some input) s = record {
+      read = s.read;
+      rest = s.rest;
+      out = s.out;
+      own = s.own;
+      wants = served.wants;
+      input_is = s.input_is;
+      left_is = s.left_is;
+      appended = s.appended;
+      passed = s.passed;
+      passed_is = s.passed_is;
+      run = s.run;
     }
-
-told_or_not : (unread : Option (List ℕ)) (P : List ℕ → Type 0) → ((input : List ℕ) → unread ≡ Some input → P input) → IfSome unread P
-told_or_not None P f = tt
-told_or_not (Some input) P f = f input refl
-
-pub starved_once : (old new : BoardContent) (taken : Connection) → IsHistory new.opening new.history → new ≡ holding_none old
-    → IsServedOnce new.conf new.opening old.history taken taken new.history OutOfMemory
-starved_once old new taken legal is = record {
-  legal = legal;
-  begins = begins_same _ _ (ap (λ b. b.history) is);
-  session = told_or_not taken.unread _ (starved old new taken legal is);
-}
 
 -- ---- one connection more
 
@@ -105,8 +91,63 @@ hands_push (Some old) (Some now) (Some mid) (Some new) takens backs taken back a
 
 -- ---- the loop
 
+abbrev AllWant : List SessionEnd → Type 0
+AllWant ends = All (λ end. end ≡ OutOfMemory) ends
+
+abbrev NoneWants : List SessionEnd → Type 0
+NoneWants ends = All (λ end. end ≢ OutOfMemory) ends
+
+all_first : (ends : List SessionEnd) → AllWant ends → WantsFirst ends
+all_first [] all = tt
+all_first (end ∷ ends) all =
+    subst (λ (e : SessionEnd). WantsFirst (e ∷ ends)) (sym (All-head (λ end. end ≡ OutOfMemory) end ends all)) (all_first ends (All-tail (λ end. end ≡ OutOfMemory) end ends all))
+
+none_first : (ends : List SessionEnd) (end : SessionEnd) → WantsFirst ends → end ≢ OutOfMemory → WantsFirst (ends ++ end ∷ [])
+none_first [] Closed first other = All-nil (λ end. end ≢ OutOfMemory)
+none_first [] Asked first other = All-nil (λ end. end ≢ OutOfMemory)
+none_first [] (Refused code) first other = All-nil (λ end. end ≢ OutOfMemory)
+none_first [] Cut first other = All-nil (λ end. end ≢ OutOfMemory)
+none_first [] Spent first other = All-nil (λ end. end ≢ OutOfMemory)
+none_first [] ReadFault first other = All-nil (λ end. end ≢ OutOfMemory)
+none_first [] WriteFault first other = All-nil (λ end. end ≢ OutOfMemory)
+none_first [] OutOfMemory first other = absurd (other refl)
+none_first (OutOfMemory ∷ ends) end first other = none_first ends end first other
+none_first (Closed ∷ ends) end first other = All-push (λ end. end ≢ OutOfMemory) ends end first other
+none_first (Asked ∷ ends) end first other = All-push (λ end. end ≢ OutOfMemory) ends end first other
+none_first (Refused code ∷ ends) end first other = All-push (λ end. end ≢ OutOfMemory) ends end first other
+none_first (Cut ∷ ends) end first other = All-push (λ end. end ≢ OutOfMemory) ends end first other
+none_first (Spent ∷ ends) end first other = All-push (λ end. end ≢ OutOfMemory) ends end first other
+none_first (ReadFault ∷ ends) end first other = All-push (λ end. end ≢ OutOfMemory) ends end first other
+none_first (WriteFault ∷ ends) end first other = All-push (λ end. end ≢ OutOfMemory) ends end first other
+
+is_want : (end : SessionEnd) → (end ≡ OutOfMemory) ⊎ (end ≢ OutOfMemory)
+is_want Closed = inr (λ e. cc)
+is_want Asked = inr (λ e. cc)
+is_want (Refused code) = inr (λ e. cc)
+is_want Cut = inr (λ e. cc)
+is_want Spent = inr (λ e. cc)
+is_want ReadFault = inr (λ e. cc)
+is_want WriteFault = inr (λ e. cc)
+is_want OutOfMemory = inl refl
+
+-- there was no frame so far, or there is one now
+abbrev Framed : Option FrameState → List SessionEnd → Type 0
+Framed frame ends = AllWant ends ⊎ (IsSome frame × WantsFirst ends)
+
+framed_first : (frame : Option FrameState) (ends : List SessionEnd) → Framed frame ends → WantsFirst ends
+framed_first frame ends (inl all) = all_first ends all
+framed_first frame ends (inr some) = some.1
+
+framed_push : (frame frame' : Option FrameState) (ends : List SessionEnd) (end : SessionEnd) → Framed frame ends → (IsSome frame → IsSome frame' × (end ≢ OutOfMemory)) → (end ≢ OutOfMemory → IsSome frame')
+    → Framed frame' (ends ++ end ∷ [])
+framed_push frame frame' ends end (inr some) stays was = inr ((stays some.0).0, none_first ends end some.1 (stays some.0).1)
+framed_push frame frame' ends end (inl all) stays was = elim (is_want end) [
+  | inl want ↦ inl (All-push (λ end. end ≡ OutOfMemory) ends end all want)
+  | inr other ↦ inr (was other, none_first ends end (all_first ends all) other)
+]
+
 -- what was done so far: the board's history goes on by the connections that were taken, and none is out
-pub record SoFar (old now : BoardContent) (door door' : Option Connections) (count : ℕ) (wanted : Bool) : Type 0 where
+pub record SoFar (old now : BoardContent) (door door' : Option Connections) (count : ℕ) (wanted : Bool) (frame : Option FrameState) : Type 0 where
   pub takens : List Connection
   pub backs : List Connection
   pub ends : List SessionEnd
@@ -114,14 +155,16 @@ pub record SoFar (old now : BoardContent) (door door' : Option Connections) (cou
   pub handed : HandsOut door takens backs door'
   pub count_is : length takens ≡ count
   pub backs_are : length backs ≡ count
+  pub framed : Framed frame ends
   pub none_wanted : wanted ≡ false → All (λ end. end ≢ OutOfMemory) ends
+  pub some_wanted : wanted ≡ true → Contains ends OutOfMemory
 
 none_handed : (door : Option Connections) → HandsOut door [] [] door
 none_handed None = tt
 none_handed (Some told) = (refl, grind (arith, common_steps), grind (arith, common_steps))
 
-pub begins_place : (board : BoardContent) (door : Option Connections) → SoFar board board door door 0 false
-begins_place board door = record {
+pub begins_place : (board : BoardContent) (door : Option Connections) (frame : Option FrameState) → SoFar board board door door 0 false frame
+begins_place board door frame = record {
   takens = [];
   backs = [];
   ends = [];
@@ -129,13 +172,16 @@ begins_place board door = record {
   handed = none_handed door;
   count_is = refl;
   backs_are = refl;
+  framed = inl (All-nil (λ end. end ≡ OutOfMemory));
   none_wanted = λ _. All-nil (λ end. end ≢ OutOfMemory);
+  some_wanted = λ is. absurd (cc);
 }
 
-pub one_more : (old now new : BoardContent) (door door1 door2 : Option Connections) (count : ℕ) (wanted wanted' : Bool) (end : SessionEnd) → AllReturned door
-    → SoFar old now door door1 count wanted → Goes now new → TakesOne door1 door2 now new end → (wanted' ≡ false → (wanted ≡ false) × (end ≢ OutOfMemory))
-    → SoFar old new door door2 (count + 1) wanted'
-one_more old now new door door1 door2 count wanted wanted' end all s goes one wants =
+pub one_more : (old now new : BoardContent) (door door1 door2 : Option Connections) (count : ℕ) (wanted wanted' : Bool) (frame frame' : Option FrameState) (end : SessionEnd) → AllReturned door
+    → SoFar old now door door1 count wanted frame → Goes now new → TakesOne door1 door2 now new end → (wanted' ≡ false → (wanted ≡ false) × (end ≢ OutOfMemory))
+    → (wanted' ≡ true → (wanted ≡ true) ⊎ (end ≡ OutOfMemory)) → (IsSome frame → IsSome frame' × (end ≢ OutOfMemory)) → (end ≢ OutOfMemory → IsSome frame')
+    → SoFar old new door door2 (count + 1) wanted' frame'
+one_more old now new door door1 door2 count wanted wanted' frame frame' end all s goes one wants some stays was =
     let run : PlaceRun new.conf new.opening old.history s.takens s.backs s.ends now.history
     = subst (λ (c : Description). PlaceRun c new.opening old.history s.takens s.backs s.ends now.history) (sym goes.conf)
     (subst (λ (l : LeafTiles). PlaceRun now.conf l old.history s.takens s.backs s.ends now.history) (sym goes.opening) s.run) in
@@ -147,8 +193,79 @@ one_more old now new door door1 door2 count wanted wanted' end all s goes one wa
       handed = hands_push door door1 one.mid door2 s.takens s.backs one.taken one.back all (s.count_is ∙ sym s.backs_are) s.handed one.takes one.returned;
       count_is = length-append s.takens (one.taken ∷ []) ∙ ap (λ n. n + 1) s.count_is;
       backs_are = length-append s.backs (one.back ∷ []) ∙ ap (λ n. n + 1) s.backs_are;
+      framed = framed_push frame frame' s.ends end s.framed stays was;
       none_wanted = λ is. All-push (λ end. end ≢ OutOfMemory) s.ends end (s.none_wanted (wants is).0) (wants is).1;
+      some_wanted = λ is. elim (some is) [
+        | inl before ↦ Contains-append_left s.ends (end ∷ []) OutOfMemory (s.some_wanted before)
+        | inr here ↦ Contains-append_right s.ends (end ∷ []) OutOfMemory (0, omega arith, here)
+      ];
     }
+
+pub place_of : (old now : BoardContent) (door door' : Option Connections) (counts counts' : DoorCounts) (count most : ℕ) (wanted : Bool) (frame : Option FrameState) (end : PlaceEnd)
+    → SoFar old now door door' count wanted frame → count ≤ most → (end ≡ Done → (count ≡ most) ⊎ NoneWaits door') → (end ≡ placed.OutOfMemory → ¬ Rises counts.wants counts'.wants → (count ≡ most) ⊎ NoneWaits door') → (end ≡ Done → wanted ≡ false)
+    → (end ≡ placed.OutOfMemory → Rises counts.wants counts'.wants ⊎ (wanted ≡ true)) → IsPlace old now door door' counts counts' most end
+place_of old now door door' counts counts' count most wanted frame end s few all wanting done wants = record {
+  takens = s.takens;
+  backs = s.backs;
+  ends = s.ends;
+  run = s.run;
+  handed = s.handed;
+  few = (let same = s.count_is in omega arith);
+  all = λ is. elim (all is) [ inl whole ↦ inl (s.count_is ∙ whole) | inr waits ↦ inr waits ];
+  all_wanting = λ is none. elim (wanting is none) [ inl whole ↦ inl (s.count_is ∙ whole) | inr waits ↦ inr waits ];
+  wants_first = framed_first frame s.ends s.framed;
+  none_wanted = λ is. s.none_wanted (done is);
+  wanted = λ is. elim (wants is) [ inl rises ↦ inl rises | inr so ↦ inr (s.some_wanted so) ];
+}
+
+-- the same of a board and a door that stayed
+pub place_as : (old now new : BoardContent) (door door1 door2 : Option Connections) (counts counts' : DoorCounts) (count most : ℕ) (wanted : Bool) (frame : Option FrameState) (end : PlaceEnd)
+    → SoFar old now door door1 count wanted frame → new ≡ now → door2 ≡ door1 → count ≤ most
+    → (end ≡ Done → (count ≡ most) ⊎ NoneWaits door2) → (end ≡ placed.OutOfMemory → ¬ Rises counts.wants counts'.wants → (count ≡ most) ⊎ NoneWaits door2)
+    → (end ≡ Done → wanted ≡ false) → (end ≡ placed.OutOfMemory → Rises counts.wants counts'.wants ⊎ (wanted ≡ true)) → IsPlace old new door door2 counts counts' most end
+place_as old now new door door1 door2 counts counts' count most wanted frame end s board_is door_is few all wanting done wants =
+    place_of old new door door2 counts counts' count most wanted frame end
+    (subst (λ (b : BoardContent). SoFar old b door door2 count wanted frame) (sym board_is) (subst (λ (d : Option Connections). SoFar old now door d count wanted frame) (sym door_is) s)) few all wanting done wants
+
+-- ---- how it ends
+
+abbrev end_of : Bool → PlaceEnd
+end_of wanted = if wanted then placed.OutOfMemory else Done
+
+pub done_wants : (wanted : Bool) → end_of wanted ≡ Done → wanted ≡ false
+done_wants false is = refl
+done_wants true is = absurd (cc)
+
+pub wanting_wants : (wanted : Bool) → end_of wanted ≡ placed.OutOfMemory → wanted ≡ true
+wanting_wants false is = absurd (cc)
+wanting_wants true is = refl
+
+ends_so : (counts counts' : DoorCounts) (wanted : Bool) → counts' ≡ counts → EndsBy counts counts' (end_of wanted)
+ends_so counts counts' false same = same
+ends_so counts counts' true same = (ap (λ c. c.faults) same, inr (ap (λ c. c.wants) same))
+
+-- no accept was refused
+pub ends_sound : (counts counts' : DoorCounts) (wanted : Bool) (end : PlaceEnd) → end ≡ end_of wanted → counts'.faults ≡ counts.faults → counts'.wants ≡ counts.wants → EndsBy counts counts' end
+ends_sound counts counts' wanted end is faults wants =
+    subst (λ (e : PlaceEnd). EndsBy counts counts' e) (sym is) (ends_so counts counts' wanted (λ i. record { faults = faults i; wants = wants i }))
+
+pub ends_refused : (counts counts' : DoorCounts) (why : DoorFault) (end : PlaceEnd) → (why ≡ fault.Failed → end ≡ Failed) → (why ≡ fault.OutOfMemory → end ≡ placed.OutOfMemory)
+    → (why ≡ fault.Failed → Rises counts.faults counts'.faults × (counts'.wants ≡ counts.wants)) → (why ≡ fault.OutOfMemory → Rises counts.wants counts'.wants × (counts'.faults ≡ counts.faults))
+    → EndsBy counts counts' end
+ends_refused counts counts' fault.Failed end failed wanted rises wants = subst (λ (e : PlaceEnd). EndsBy counts counts' e) (sym (failed refl)) (rises refl)
+ends_refused counts counts' fault.OutOfMemory end failed wanted rises wants =
+    subst (λ (e : PlaceEnd). EndsBy counts counts' e) (sym (wanted refl)) ((wants refl).1, inl (wants refl).0)
+
+-- an accept was refused
+pub place_refused : (old now new : BoardContent) (door door1 door2 : Option Connections) (counts counts' : DoorCounts) (count most : ℕ) (wanted : Bool) (frame : Option FrameState) (why : DoorFault) (end : PlaceEnd)
+    → SoFar old now door door1 count wanted frame → new ≡ now → door2 ≡ door1 → count ≤ most → (why ≡ fault.Failed → end ≡ Failed) → (why ≡ fault.OutOfMemory → end ≡ placed.OutOfMemory)
+    → (why ≡ fault.OutOfMemory → Rises counts.wants counts'.wants) → IsPlace old new door door2 counts counts' most end
+place_refused old now new door door1 door2 counts counts' count most wanted frame fault.Failed end s board_is door_is few failed want rises =
+    let is = failed refl in
+    place_as old now new door door1 door2 counts counts' count most wanted frame end s board_is door_is few (λ e. absurd (cc)) (λ e none. absurd (cc)) (λ e. absurd (cc)) (λ e. absurd (cc))
+place_refused old now new door door1 door2 counts counts' count most wanted frame fault.OutOfMemory end s board_is door_is few failed want rises =
+    let is = want refl in
+    place_as old now new door door1 door2 counts counts' count most wanted frame end s board_is door_is few (λ e. absurd (cc)) (λ e none. absurd (none (rises refl))) (λ e. absurd (cc)) (λ e. inl (rises refl))
 
 pub goes_first : (board : BoardContent) → IsHistory board.opening board.history → PlaceGoes board board 0
 goes_first board legal = record {
@@ -173,8 +290,9 @@ goes_more old now new count so_far goes = record {
 }
 
 -- the loop over connections
-pub record IsLoop (old now : BoardContent) (door door' : Option Connections) (faults faults' steps steps' count : ℕ) (wanted : Bool) : Type 0 where
+pub record IsLoop (old now : BoardContent) (door door' : Option Connections) (faults faults' wants wants' steps steps' count : ℕ) (wanted : Bool) (frame : Option FrameState) : Type 0 where
   pub goes : PlaceGoes old now count
-  pub faults_never_fall : faults ≤ faults'
+  pub no_faults : faults' ≡ faults
+  pub no_wants : wants' ≡ wants
   pub steps_never_fall : steps ≤ steps'
-  pub so_far : AllReturned door → SoFar old now door door' count wanted
+  pub so_far : AllReturned door → SoFar old now door door' count wanted frame

@@ -7,7 +7,7 @@ use Rattle.survey_link.specs.Door.{Connections}
 use Rattle.reader_pin.specs.Board.{BoardContent}
 use Rattle.hips_place.specs.declared.place.PlaceEnd.{PlaceEnd}
 use Rattle.hips_place.specs.declared.place.PlaceEnd.TheVariants.{Done, Failed, OutOfMemory}
-use Rattle.hips_place.specs.Place.{OnePlace, IsServedPlace, EndAs, ArePlaces, worse}
+use Rattle.hips_place.specs.Place.{OnePlace, IsServedPlace, EndAs, ArePlaces, counts_of, worse}
 
 -- ---- how places end
 
@@ -62,7 +62,7 @@ one_end end = record {
 
 -- ---- the places
 
-pub no_places : (most : ℕ) → ArePlaces most [] [] [] [] [] [] Done
+pub no_places : (most : ℕ) → ArePlaces most [] [] [] [] [] [] [] [] Done
 no_places most = record {
   places = [];
   each = All-nil (IsServedPlace most);
@@ -72,11 +72,13 @@ no_places most = record {
   doors_then = refl;
   faults_are = refl;
   faults_then = refl;
+  wants_are = refl;
+  wants_then = refl;
   ends = record { done = λ _. All-nil (λ each. each ≡ Done); failed = λ e. cc; wanted = λ e. cc };
 }
 
 pub one_place : (most : ℕ) (place : OnePlace) → IsServedPlace most place
-    → ArePlaces most (place.board ∷ []) (place.board_then ∷ []) (place.door ∷ []) (place.door_then ∷ []) (place.faults ∷ []) (place.faults_then ∷ []) place.end
+    → ArePlaces most (place.board ∷ []) (place.board_then ∷ []) (place.door ∷ []) (place.door_then ∷ []) (place.counts.faults ∷ []) (place.counts_then.faults ∷ []) (place.counts.wants ∷ []) (place.counts_then.wants ∷ []) place.end
 one_place most place is = record {
   places = place ∷ [];
   each = All-cons (IsServedPlace most) place [] is (All-nil (IsServedPlace most));
@@ -86,43 +88,47 @@ one_place most place is = record {
   doors_then = refl;
   faults_are = refl;
   faults_then = refl;
+  wants_are = refl;
+  wants_then = refl;
   ends = one_end place.end;
 }
 
-pub both_places : (most : ℕ) (boards boards' more more' : List BoardContent) (doors doors' further further' : List (Option Connections)) (faults faults' others others' : List ℕ) (end other : PlaceEnd)
-    → ArePlaces most boards boards' doors doors' faults faults' end → ArePlaces most more more' further further' others others' other
-    → ArePlaces most (boards ++ more) (boards' ++ more') (doors ++ further) (doors' ++ further') (faults ++ others) (faults' ++ others') (worse end other)
-both_places most boards boards' more more' doors doors' further further' faults faults' others others' end other a b = record {
+pub both_places : (most : ℕ) (boards boards' more more' : List BoardContent) (doors doors' further further' : List (Option Connections)) (faults faults' others others' wants wants' wanted wanted' : List ℕ) (end other : PlaceEnd)
+    → ArePlaces most boards boards' doors doors' faults faults' wants wants' end → ArePlaces most more more' further further' others others' wanted wanted' other
+    → ArePlaces most (boards ++ more) (boards' ++ more') (doors ++ further) (doors' ++ further') (faults ++ others) (faults' ++ others') (wants ++ wanted) (wants' ++ wanted') (worse end other)
+both_places most boards boards' more more' doors doors' further further' faults faults' others others' wants wants' wanted wanted' end other a b = record {
   places = a.places ++ b.places;
   each = All-append (IsServedPlace most) a.places b.places a.each b.each;
   boards_are = map-append (λ (p : OnePlace). p.board) a.places b.places ∙ ap₂ ◌++◌ a.boards_are b.boards_are;
   boards_then = map-append (λ (p : OnePlace). p.board_then) a.places b.places ∙ ap₂ ◌++◌ a.boards_then b.boards_then;
   doors_are = map-append (λ (p : OnePlace). p.door) a.places b.places ∙ ap₂ ◌++◌ a.doors_are b.doors_are;
   doors_then = map-append (λ (p : OnePlace). p.door_then) a.places b.places ∙ ap₂ ◌++◌ a.doors_then b.doors_then;
-  faults_are = map-append (λ (p : OnePlace). p.faults) a.places b.places ∙ ap₂ ◌++◌ a.faults_are b.faults_are;
-  faults_then = map-append (λ (p : OnePlace). p.faults_then) a.places b.places ∙ ap₂ ◌++◌ a.faults_then b.faults_then;
+  faults_are = map-append (λ (p : OnePlace). p.counts.faults) a.places b.places ∙ ap₂ ◌++◌ a.faults_are b.faults_are;
+  faults_then = map-append (λ (p : OnePlace). p.counts_then.faults) a.places b.places ∙ ap₂ ◌++◌ a.faults_then b.faults_then;
+  wants_are = map-append (λ (p : OnePlace). p.counts.wants) a.places b.places ∙ ap₂ ◌++◌ a.wants_are b.wants_are;
+  wants_then = map-append (λ (p : OnePlace). p.counts_then.wants) a.places b.places ∙ ap₂ ◌++◌ a.wants_then b.wants_then;
   ends = subst (λ (ends : List PlaceEnd). EndAs ends (worse end other)) (sym (map-append (λ (p : OnePlace). p.end) a.places b.places))
       (ends_both end other (map (λ (p : OnePlace). p.end) a.places) (map (λ (p : OnePlace). p.end) b.places) a.ends b.ends);
 }
 
 -- no board and no door
-pub empty_places : {B D : Type 0} (content : B → BoardContent) (connections : D → Option Connections) (faults : D → ℕ) (most : ℕ) (boards : List B) (doors : List D)
+pub empty_places : {B D : Type 0} (content : B → BoardContent) (connections : D → Option Connections) (faults wants : D → ℕ) (most : ℕ) (boards : List B) (doors : List D)
     → length boards ≡ 0 → length doors ≡ 0
-    → ArePlaces most (map content boards) (map content boards) (map connections doors) (map connections doors) (map faults doors) (map faults doors) Done
-empty_places content connections faults most [] [] none same = no_places most
-empty_places content connections faults most [] (d ∷ doors) none same = absurd (omega arith)
-empty_places content connections faults most (b ∷ boards) doors none same = absurd (omega arith)
+    → ArePlaces most (map content boards) (map content boards) (map connections doors) (map connections doors) (map faults doors) (map faults doors) (map wants doors) (map wants doors) Done
+empty_places content connections faults wants most [] [] none same = no_places most
+empty_places content connections faults wants most [] (d ∷ doors) none same = absurd (omega arith)
+empty_places content connections faults wants most (b ∷ boards) doors none same = absurd (omega arith)
 
 -- the first of one board and of one door
-pub first_place : {B D : Type 0} (content : B → BoardContent) (connections : D → Option Connections) (faults : D → ℕ) (most : ℕ) (boards : List B) (doors : List D)
+pub first_place : {B D : Type 0} (content : B → BoardContent) (connections : D → Option Connections) (faults wants : D → ℕ) (most : ℕ) (boards : List B) (doors : List D)
     (b b' : B) (d d' : D) (end : PlaceEnd) → length boards ≡ 1 → length doors ≡ 1 → b ≡ get_or boards 0 b → d ≡ get_or doors 0 d
-    → IsServedPlace most (record { board = content b; board_then = content b'; door = connections d; door_then = connections d'; faults = faults d; faults_then = faults d'; end = end })
-    → ArePlaces most (map content boards) (map content (slice_set boards 0 b')) (map connections doors) (map connections (slice_set doors 0 d')) (map faults doors) (map faults (slice_set doors 0 d')) end
-first_place content connections faults most [] doors b b' d d' end one same is_b is_d is = absurd (omega arith)
-first_place content connections faults most (x ∷ y ∷ boards) doors b b' d d' end one same is_b is_d is = absurd (omega arith)
-first_place content connections faults most (x ∷ []) [] b b' d d' end one same is_b is_d is = absurd (omega arith)
-first_place content connections faults most (x ∷ []) (y ∷ z ∷ doors) b b' d d' end one same is_b is_d is = absurd (omega arith)
-first_place {B = B} {D = D} content connections faults most (x ∷ []) (y ∷ []) b b' d d' end one same is_b is_d is =
-    subst (λ (b : B). ArePlaces most (content b ∷ []) (content b' ∷ []) (connections y ∷ []) (connections d' ∷ []) (faults y ∷ []) (faults d' ∷ []) end) is_b
-    (subst (λ (d : D). ArePlaces most (content b ∷ []) (content b' ∷ []) (connections d ∷ []) (connections d' ∷ []) (faults d ∷ []) (faults d' ∷ []) end) is_d
-    (one_place most (record { board = content b; board_then = content b'; door = connections d; door_then = connections d'; faults = faults d; faults_then = faults d'; end = end }) is))
+    → IsServedPlace most (record { board = content b; board_then = content b'; door = connections d; door_then = connections d'; counts = counts_of (faults d) (wants d); counts_then = counts_of (faults d') (wants d'); end = end })
+    → ArePlaces most (map content boards) (map content (slice_set boards 0 b')) (map connections doors) (map connections (slice_set doors 0 d')) (map faults doors) (map faults (slice_set doors 0 d')) (map wants doors) (map wants (slice_set doors 0 d')) end
+first_place content connections faults wants most [] doors b b' d d' end one same is_b is_d is = absurd (omega arith)
+first_place content connections faults wants most (x ∷ y ∷ boards) doors b b' d d' end one same is_b is_d is = absurd (omega arith)
+first_place content connections faults wants most (x ∷ []) [] b b' d d' end one same is_b is_d is = absurd (omega arith)
+first_place content connections faults wants most (x ∷ []) (y ∷ z ∷ doors) b b' d d' end one same is_b is_d is = absurd (omega arith)
+first_place {B = B} {D = D} content connections faults wants most (x ∷ []) (y ∷ []) b b' d d' end one same is_b is_d is =
+    subst (λ (b : B). ArePlaces most (content b ∷ []) (content b' ∷ []) (connections y ∷ []) (connections d' ∷ []) (faults y ∷ []) (faults d' ∷ []) (wants y ∷ []) (wants d' ∷ []) end) is_b
+    (subst (λ (d : D). ArePlaces most (content b ∷ []) (content b' ∷ []) (connections d ∷ []) (connections d' ∷ []) (faults d ∷ []) (faults d' ∷ []) (wants d ∷ []) (wants d' ∷ []) end) is_d
+    (one_place most (record { board = content b; board_then = content b'; door = connections d; door_then = connections d'; counts = counts_of (faults d) (wants d); counts_then = counts_of (faults d') (wants d'); end = end }) is))

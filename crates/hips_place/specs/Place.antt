@@ -11,14 +11,14 @@ use Rattle.survey_core.specs.History.{SurveyState, opening_state, IsHistory, Beg
 use Rattle.reader_pin.specs.Board.{BoardContent}
 use Rattle.hips_http.specs.declared.served.SessionEnd.{SessionEnd}
 use Rattle.hips_http.specs.declared.served.SessionEnd.TheVariants.{OutOfMemory as WantOfMemory}
-use Rattle.hips_http.specs.SessionRun.{SessionRun, most_requests}
+use Rattle.hips_http.specs.SessionRun.{HandsOn, SessionRun, most_requests}
 use Rattle.hips_place.specs.declared.place.PlaceEnd.{PlaceEnd}
 use Rattle.hips_place.specs.declared.place.PlaceEnd.TheVariants.{Done, Failed, OutOfMemory}
 
 -- ---- a connection
 
 -- it is a session, from the states seen before it to those seen then: some first bytes of its input were read and the rest
--- is left, and what its sink holds grew by what was written
+-- is left, what its sink holds grew by what was written, and what it has handed on by what was handed on of that
 pub record IsSession (conf : Description) (opening : LeafTiles) (states : List SurveyState) (taken back : Connection) (states' : List SurveyState) (end : SessionEnd) (input : List ℕ) : Type 0 where
   pub read : List ℕ
   pub rest : List ℕ
@@ -28,11 +28,14 @@ pub record IsSession (conf : Description) (opening : LeafTiles) (states : List S
   pub input_is : input ≡ read ++ rest
   pub left_is : back.unread ≡ Some rest
   pub appended : Appends taken.written back.written out
+  pub passed : List ℕ
+  pub passed_is : HandsOn taken.written taken.handed_on back.handed_on passed
   pub run : SessionRun conf opening states
       (record {
         read = read;
         left = rest;
         written = out;
+        handed_on = passed;
         source_faults = taken.source_faults;
         source_faults_then = back.source_faults;
         sink_faults = taken.sink_faults;
@@ -69,9 +72,31 @@ HandsOut (Some old) takens backs None = ⊥
 HandsOut (Some old) takens backs (Some new) =
     (old.waiting ≡ takens ++ new.waiting) × (new.taken ≡ old.taken ++ takens) × (new.returned ≡ old.returned ++ backs)
 
--- what a place did to its board and its door, of which it was to take so many connections: where it is done, it took them or
--- none is left, and none of them ended for want of memory
-pub record IsPlace (old new : BoardContent) (door door' : Option Connections) (most : ℕ) (end : PlaceEnd) : Type 0 where
+-- how often a door has failed, and how often it had no memory to accept a connection
+pub record DoorCounts : Type 0 where
+  pub faults : ℕ
+  pub wants : ℕ
+
+abbrev pub counts_of : ℕ → ℕ → DoorCounts
+counts_of faults wants = record { faults = faults; wants = wants }
+
+-- a place whose door had these counts at first ended so: `Failed` exactly where an accept failed, and `Done` only where no
+-- accept was refused
+abbrev pub EndsBy : DoorCounts → DoorCounts → PlaceEnd → Type 0
+EndsBy counts counts' Done = counts' ≡ counts
+EndsBy counts counts' Failed = Rises counts.faults counts'.faults × (counts'.wants ≡ counts.wants)
+EndsBy counts counts' OutOfMemory = (counts'.faults ≡ counts.faults) × (Rises counts.wants counts'.wants ⊎ (counts'.wants ≡ counts.wants))
+
+-- those that ended for want of memory come before all others
+abbrev pub WantsFirst : List SessionEnd → Type 0
+WantsFirst [] = ⊤
+WantsFirst (WantOfMemory ∷ ends) = WantsFirst ends
+WantsFirst (end ∷ ends) = All (λ each. each ≢ WantOfMemory) ends
+
+-- what a place did to its board and its door, of which it was to take so many connections. It took them or none is left, unless
+-- an accept was refused. It ends for want of memory where an accept wanted it or a connection ended so, and is done where none
+-- did
+pub record IsPlace (old new : BoardContent) (door door' : Option Connections) (counts counts' : DoorCounts) (most : ℕ) (end : PlaceEnd) : Type 0 where
   pub takens : List Connection
   pub backs : List Connection
   pub ends : List SessionEnd
@@ -79,7 +104,10 @@ pub record IsPlace (old new : BoardContent) (door door' : Option Connections) (m
   pub handed : HandsOut door takens backs door'
   pub few : length takens ≤ most
   pub all : end ≡ Done → (length takens ≡ most) ⊎ NoneWaits door'
+  pub all_wanting : end ≡ OutOfMemory → ¬ Rises counts.wants counts'.wants → (length takens ≡ most) ⊎ NoneWaits door'
+  pub wants_first : WantsFirst ends
   pub none_wanted : end ≡ Done → All (λ end. end ≢ WantOfMemory) ends
+  pub wanted : end ≡ OutOfMemory → Rises counts.wants counts'.wants ⊎ Contains ends WantOfMemory
 
 -- what is true of it, also where nothing is told: the history that its board sees goes on, with as many events of its own as
 -- so many connections may make
@@ -111,22 +139,21 @@ pub record GivesBack (door door' : Option Connections) (old new : BoardContent) 
 
 -- ---- the places of a server
 
--- a place: its board, its door and the door's count of faults, before and after, and how it ended
+-- a place: its board, its door and the door's counts, before and after, and how it ended
 pub record OnePlace : Type 0 where
   pub board : BoardContent
   pub board_then : BoardContent
   pub door : Option Connections
   pub door_then : Option Connections
-  pub faults : ℕ
-  pub faults_then : ℕ
+  pub counts : DoorCounts
+  pub counts_then : DoorCounts
   pub end : PlaceEnd
 
 -- it is one of which so many connections were to be taken
 pub record IsServedPlace (most : ℕ) (place : OnePlace) : Type 0 where
-  pub served : AllReturned place.door → IsPlace place.board place.board_then place.door place.door_then most place.end
+  pub served : AllReturned place.door → IsPlace place.board place.board_then place.door place.door_then place.counts place.counts_then most place.end
   pub goes : PlaceGoes place.board place.board_then most
-  pub failed : place.end ≡ Failed → Rises place.faults place.faults_then
-  pub never_falls : place.faults ≤ place.faults_then
+  pub ends_by : EndsBy place.counts place.counts_then place.end
 
 -- the worse of two ends: `Failed`, before `OutOfMemory`, before `Done`
 abbrev pub worse : PlaceEnd → PlaceEnd → PlaceEnd
@@ -143,15 +170,17 @@ pub record EndAs (ends : List PlaceEnd) (end : PlaceEnd) : Type 0 where
   pub wanted : end ≡ OutOfMemory → Contains ends OutOfMemory × All (λ each. each ≢ Failed) ends
 
 -- the places of a server, one for each board and the door beside it, of each of which so many connections were to be taken
-pub record ArePlaces (most : ℕ) (boards boards' : List BoardContent) (doors doors' : List (Option Connections)) (faults faults' : List ℕ) (end : PlaceEnd) : Type 0 where
+pub record ArePlaces (most : ℕ) (boards boards' : List BoardContent) (doors doors' : List (Option Connections)) (faults faults' wants wants' : List ℕ) (end : PlaceEnd) : Type 0 where
   pub places : List OnePlace
   pub each : All (IsServedPlace most) places
   pub boards_are : map (λ p. p.board) places ≡ boards
   pub boards_then : map (λ p. p.board_then) places ≡ boards'
   pub doors_are : map (λ p. p.door) places ≡ doors
   pub doors_then : map (λ p. p.door_then) places ≡ doors'
-  pub faults_are : map (λ p. p.faults) places ≡ faults
-  pub faults_then : map (λ p. p.faults_then) places ≡ faults'
+  pub faults_are : map (λ p. p.counts.faults) places ≡ faults
+  pub faults_then : map (λ p. p.counts_then.faults) places ≡ faults'
+  pub wants_are : map (λ p. p.counts.wants) places ≡ wants
+  pub wants_then : map (λ p. p.counts_then.wants) places ≡ wants'
   pub ends : EndAs (map (λ p. p.end) places) end
 
 -- ---- the doors of a survey's server

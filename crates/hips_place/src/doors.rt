@@ -1,11 +1,11 @@
 //! The doors of a survey, at once.
-ghost use Rattle.std.specs.Prelude.{◌≡◌, ◌<◌, ◌≤◌, [], Ok, map, length, All, IfOk, OnOk};
+ghost use Rattle.std.specs.Prelude.{◌≡◌, ◌≢◌, ◌<◌, ◌≤◌, [], Ok, map, length, All, IfOk, OnOk};
 ghost use Rattle.shared_history.specs.Histories.{one_state};
 ghost use Rattle.survey_core.specs.State.{StateContent};
 ghost use Rattle.survey_core.specs.History.{Begins};
 ghost use Rattle.reader_pin.specs.Board.{Stays};
 ghost use Rattle.reader_pin.specs.Shared.{seated};
-ghost use Rattle.hips_place.specs.declared.place.PlaceEnd.TheVariants.{Failed};
+ghost use Rattle.hips_place.specs.declared.place.PlaceEnd.TheVariants.{Done, Failed};
 ghost use Rattle.hips_place.specs.Place.{ServesDoors, SomeRises, HaveAllMet};
 
 use crate::place::PlaceEnd;
@@ -25,7 +25,7 @@ use survey_link::{Door, Gate};
 /// connections of each. When all places have ended, the first board meets each other one, so that one history holds what
 /// happened at all of them; then the survey is closed.
 ///
-/// It answers `Failed` where a place ended so; else `OutOfMemory` where one did; else `Done`.
+/// It answers `Failed` exactly where an accept failed; else `OutOfMemory` where a place ended so; else `Done`.
 ///
 /// # Errors
 ///
@@ -46,6 +46,8 @@ where
     requires most { length doors.old ≤ 64 }
     ensures served { IfOk result (ServesDoors state.conf state.opening most (map D.connections doors.old) (map D.connections doors.new)) }
     ensures failed { result ≡ Ok Failed → SomeRises (map D.faults doors.old) (map D.faults doors.new) }
+    ensures sound { IfOk result (λ end. end ≢ Failed → map D.faults doors.new ≡ map D.faults doors.old) }
+    ensures done { result ≡ Ok Done → map D.wants doors.new ≡ map D.wants doors.old }
 {
     serve_named::<Brand, R, D, G>(rt, alloc, SurveyBook::new(), state, most, gate, doors)
 }
@@ -73,6 +75,8 @@ where
     requires most { length doors.old ≤ 64 }
     ensures served { IfOk result (ServesDoors state.conf state.opening most (map D.connections doors.old) (map D.connections doors.new)) }
     ensures failed { result ≡ Ok Failed → SomeRises (map D.faults doors.old) (map D.faults doors.new) }
+    ensures sound { IfOk result (λ end. end ≢ Failed → map D.faults doors.new ≡ map D.faults doors.old) }
+    ensures done { result ≡ Ok Done → map D.wants doors.new ≡ map D.wants doors.old }
 {
     let (survey, seats) = open_shared::<J, R>(rt, alloc, book, state, doors.len())?;
     let ended = serve_seats(rt, alloc, &survey, seats, most, gate, doors);
@@ -102,6 +106,8 @@ where
     ensures served { (state : StateContent) → All (λ seat. seat ≡ one_state state) seats.items → state.batches ≡ [] → state.tip ≡ 0
         → IfOk result (ServesDoors state.conf state.opening most (map D.connections doors.old) (map D.connections doors.new)) }
     ensures failed { result ≡ Ok Failed → SomeRises (map D.faults doors.old) (map D.faults doors.new) }
+    ensures sound { IfOk result (λ end. end ≢ Failed → map D.faults doors.new ≡ map D.faults doors.old) }
+    ensures done { result ≡ Ok Done → map D.wants doors.new ≡ map D.wants doors.old }
 {
     let mut boards = boards_at(alloc, survey, seats)?;
     let boards = boards.as_mut_slice();

@@ -1,21 +1,19 @@
 //! One place of the server: the connections of one door, one after another.
-ghost use Rattle.std.specs.Prelude.{◌≡◌, ◌≢◌, ◌≤◌, false, IfOk, IfSome, IsErrOf, MatchOption, OnErr};
+ghost use Rattle.std.specs.Prelude.{◌≡◌, ◌≢◌, ◌≤◌, ◌⊎◌, true, false, IfOk, IfSome, IsSome, IsErrOf, MatchOption, OnOk, OnErr, if◌then◌else◌};
 ghost use Rattle.survey_link.specs.Link.{Rises};
 ghost use Rattle.survey_link.specs.Door.{NoneWaits};
-ghost use Rattle.survey_core.specs.History.{IsHistory};
 ghost use Rattle.hips_http.specs.SessionRun.{Goes, room_of};
-ghost use Rattle.hips_place.specs.Place.{AllReturned, IsPlace, IsServedOnce, PlaceGoes, TakesOne, GivesBack, worse};
+ghost use Rattle.hips_place.specs.Place.{AllReturned, EndsBy, IsPlace, IsServedOnce, PlaceGoes, TakesOne, GivesBack, counts_of, worse};
 
-use hips_http::{SessionEnd, session_in};
+use hips_http::{SessionEnd, frame_for, session_in};
 use http_frame::Frame;
-use log::{Log, debug};
+use log::{Log, debug, info};
 use parent_rule::Steps;
 use reader_pin::Board;
 use std::alloc::Global;
 use std::sync::Wait;
 use std::thread::Threads;
 use std::time::Clock;
-use survey_core::batch_room;
 use survey_link::{Door, DoorFault, Gate, Sink, Source};
 
 /// How a place ended.
@@ -46,8 +44,8 @@ impl PlaceEnd {
 /// it back. It keeps one frame for all; a connection for which there was no memory for one ends for want of it, with nothing
 /// read or written, and the next one is served where there is.
 ///
-/// `Failed` only where the door's count of faults rose: it is answered where an accept fails, also after a session that ended
-/// for want of memory. `OutOfMemory` is answered where an accept answers it, or a session ended so and no accept failed.
+/// `Failed` exactly where an accept fails, also after a session that ended for want of memory. `OutOfMemory` where an accept
+/// answers it, or a session ended so and no accept failed; such a session doesn't end the place.
 pub fn serve_place<R: Threads + Wait + Sync + Clock + Log, B: Board, D: Door, G: Gate + Sync>(
     rt: &R,
     alloc: Global,
@@ -58,35 +56,49 @@ pub fn serve_place<R: Threads + Wait + Sync + Clock + Log, B: Board, D: Door, G:
     steps: &mut Steps,
 ) -> PlaceEnd
     ensures place { AllReturned (D.connections door.old)
-        → IsPlace (B.content board.old) (B.content board.new) (D.connections door.old) (D.connections door.new) most result }
+        → IsPlace (B.content board.old) (B.content board.new) (D.connections door.old) (D.connections door.new)
+            (counts_of (D.faults door.old) (D.wants door.old)) (counts_of (D.faults door.new) (D.wants door.new)) most result }
     ensures goes { PlaceGoes (B.content board.old) (B.content board.new) most }
-    ensures failed { result ≡ PlaceEnd.Failed → Rises (D.faults door.old) (D.faults door.new) }
-    ensures never_falls { D.faults door.old ≤ D.faults door.new }
+    ensures ends_by { EndsBy (counts_of (D.faults door.old) (D.wants door.old)) (counts_of (D.faults door.new) (D.wants door.new)) result }
     ensures steps_never_fall { steps.old ≤ steps.new }
 {
+    let _legal = board.last();
     let mut frame = frame_for(alloc, board);
     let mut wanted = false;
-    for _ in 0..most {
+    for count in 0..most {
         match serve_next(rt, alloc, &mut frame, board, door, gate, steps) {
             Ok(Some(end)) => wanted = is_wanted(wanted, end),
-            Ok(None) => return end_of(wanted),
-            Err(fault) => return end_by(fault),
+            Ok(None) => return say_ended(rt, end_of(wanted), count),
+            Err(fault) => return say_ended(rt, end_by(fault), count),
         }
     }
-    end_of(wanted)
+    say_ended(rt, end_of(wanted), most)
+}
+
+// Says how a place ended that has served so many connections.
+fn say_ended<R: Log>(rt: &R, end: PlaceEnd, served: u32) -> PlaceEnd
+    ensures { result ≡ end }
+{
+    let why = match end {
+        PlaceEnd::Done => "it took its connections, or none is left",
+        PlaceEnd::Failed => "its door failed",
+        PlaceEnd::OutOfMemory => "there was no memory",
+    };
+    info!(rt; "a place ended after {served} connections: {why}");
+    end
 }
 
 // Whether a session has ended for want of memory, where this one ended so, or one before it.
 fn is_wanted(before: bool, end: SessionEnd) -> bool
-    ensures { result ≡ false → (before ≡ false) × (end ≢ SessionEnd.OutOfMemory) }
+    ensures none { result ≡ false → (before ≡ false) × (end ≢ SessionEnd.OutOfMemory) }
+    ensures some { result ≡ true → (before ≡ true) ⊎ (end ≡ SessionEnd.OutOfMemory) }
 {
     before || end == SessionEnd::OutOfMemory
 }
 
 // How a place ends that the door hasn't failed.
 fn end_of(wanted: bool) -> PlaceEnd
-    ensures done { result ≡ PlaceEnd.Done → wanted ≡ false }
-    ensures not_failed { result ≢ PlaceEnd.Failed }
+    ensures { result ≡ (if wanted then PlaceEnd.OutOfMemory else PlaceEnd.Done) }
 {
     if wanted {
         PlaceEnd::OutOfMemory
@@ -97,21 +109,13 @@ fn end_of(wanted: bool) -> PlaceEnd
 
 // How a place ends whose door refused.
 fn end_by(fault: DoorFault) -> PlaceEnd
-    ensures failed { result ≡ PlaceEnd.Failed → fault ≡ DoorFault.Failed }
-    ensures not_done { result ≢ PlaceEnd.Done }
+    ensures failed { fault ≡ DoorFault.Failed → result ≡ PlaceEnd.Failed }
+    ensures wanted { fault ≡ DoorFault.OutOfMemory → result ≡ PlaceEnd.OutOfMemory }
 {
     match fault {
         DoorFault::Failed => PlaceEnd::Failed,
         DoorFault::OutOfMemory => PlaceEnd::OutOfMemory,
     }
-}
-
-// A frame with room for the longest body of the board's survey, where there is memory for it.
-fn frame_for<B: Board>(alloc: Global, board: &B) -> Option<Frame>
-    ensures room { IfSome result (λ frame. frame.room ≡ room_of (B.content board.now).conf) }
-    ensures legal { IsHistory (B.content board.now).opening (B.content board.now).history }
-{
-    Frame::new(alloc, batch_room(board.last().conf())).ok()
 }
 
 // Takes the next connection, serves it and gives it back; how it ended, or `None` where none is left. Where there is no frame,
@@ -131,9 +135,12 @@ fn serve_next<R: Threads + Wait + Sync + Clock + Log, B: Board, D: Door, G: Gate
         (NoneWaits (D.connections door.new) × (D.connections door.new ≡ D.connections door.old) × (B.content board.new ≡ B.content board.old))
         (TakesOne (D.connections door.old) (D.connections door.new) (B.content board.old) (B.content board.new))) }
     ensures goes { Goes (B.content board.old) (B.content board.new) }
+    ensures frame_stays { IfOk result (λ next. IfSome next (λ end. IsSome frame.old → IsSome frame.new × (end ≢ SessionEnd.OutOfMemory))) }
+    ensures frame_was { IfOk result (λ next. IfSome next (λ end. end ≢ SessionEnd.OutOfMemory → IsSome frame.new)) }
     ensures kept { OnErr result ((D.connections door.new ≡ D.connections door.old) × (B.content board.new ≡ B.content board.old)) }
-    ensures failed { IsErrOf result DoorFault.Failed → Rises (D.faults door.old) (D.faults door.new) }
-    ensures never_falls { D.faults door.old ≤ D.faults door.new }
+    ensures sound { OnOk result ((D.faults door.new ≡ D.faults door.old) × (D.wants door.new ≡ D.wants door.old)) }
+    ensures failed { IsErrOf result DoorFault.Failed → Rises (D.faults door.old) (D.faults door.new) × (D.wants door.new ≡ D.wants door.old) }
+    ensures wanted { IsErrOf result DoorFault.OutOfMemory → Rises (D.wants door.old) (D.wants door.new) × (D.faults door.new ≡ D.faults door.old) }
     ensures steps_never_fall { steps.old ≤ steps.new }
 {
     let _legal = board.last();
@@ -165,11 +172,15 @@ fn serve_connection<R: Threads + Wait + Sync + Clock + Log, B: Board, D: Door, G
     ensures gives_back { GivesBack (D.connections door.old) (D.connections door.new) (B.content board.old) (B.content board.new) (record {
       unread = D.In.left connection.0;
       written = D.Out.held connection.1;
+      handed_on = D.Out.handed_on connection.1;
       source_faults = D.In.faults connection.0;
       sink_faults = D.Out.faults connection.1;
     }) result }
     ensures goes { Goes (B.content board.old) (B.content board.new) }
     ensures faults { D.faults door.new ≡ D.faults door.old }
+    ensures wants { D.wants door.new ≡ D.wants door.old }
+    ensures frame_stays { IsSome frame.old → IsSome frame.new × (result ≢ SessionEnd.OutOfMemory) }
+    ensures frame_was { result ≢ SessionEnd.OutOfMemory → IsSome frame.new }
     ensures steps_never_fall { steps.old ≤ steps.new }
 {
     let (mut input, mut output) = connection;
@@ -188,7 +199,7 @@ fn serve_connection<R: Threads + Wait + Sync + Clock + Log, B: Board, D: Door, G
     end
 }
 
-// Serves a connection over the frame; how it ended. Where there is no frame it ends for want of memory.
+// Serves a connection over the frame; how it ended. Without a frame it ends for want of memory.
 fn serve<R: Threads + Wait + Sync + Clock + Log, B: Board, S: Source, K: Sink, G: Gate + Sync>(
     rt: &R,
     alloc: Global,
@@ -205,27 +216,22 @@ fn serve<R: Threads + Wait + Sync + Clock + Log, B: Board, S: Source, K: Sink, G
         (record {
           unread = S.left source.old;
           written = K.held sink.old;
+          handed_on = K.handed_on sink.old;
           source_faults = S.faults source.old;
           sink_faults = K.faults sink.old;
         })
         (record {
           unread = S.left source.new;
           written = K.held sink.new;
+          handed_on = K.handed_on sink.new;
           source_faults = S.faults source.new;
           sink_faults = K.faults sink.new;
         })
         (B.content board.new).history result }
     ensures goes { Goes (B.content board.old) (B.content board.new) }
+    ensures frame_stays { IsSome frame.old → IsSome frame.new × (result ≢ SessionEnd.OutOfMemory) }
+    ensures frame_was { result ≢ SessionEnd.OutOfMemory → IsSome frame.new }
     ensures steps_never_fall { steps.old ≤ steps.new }
 {
-    match frame {
-        Some(frame) => {
-            return session_in(rt, alloc, frame, board, source, sink, gate, steps).end;
-        }
-        None => {
-            board.release();
-            let _legal = board.last();
-            return SessionEnd::OutOfMemory;
-        }
-    }
+    session_in(rt, alloc, frame, board, source, sink, gate, steps).end
 }

@@ -30,7 +30,7 @@ where
     D::Out: Send,
     requires { length boards.old ≡ length doors.old }
     ensures { ArePlaces most (map B.content boards.old) (map B.content boards.new) (map D.connections doors.old) (map D.connections doors.new)
-        (map D.faults doors.old) (map D.faults doors.new) result }
+        (map D.faults doors.old) (map D.faults doors.new) (map D.wants doors.old) (map D.wants doors.new) result }
 {
     if boards.len() < 2 {
         return serve_first(rt, alloc, most, gate, boards, doors);
@@ -75,7 +75,8 @@ where
     requires some { (0 < length near_boards.old) × (0 < length far_boards.old) }
     ensures { ArePlaces most (map B.content near_boards.old ++ map B.content far_boards.old) (map B.content near_boards.new ++ map B.content far_boards.new)
         (map D.connections near_doors.old ++ map D.connections far_doors.old) (map D.connections near_doors.new ++ map D.connections far_doors.new)
-        (map D.faults near_doors.old ++ map D.faults far_doors.old) (map D.faults near_doors.new ++ map D.faults far_doors.new) result }
+        (map D.faults near_doors.old ++ map D.faults far_doors.old) (map D.faults near_doors.new ++ map D.faults far_doors.new)
+        (map D.wants near_doors.old ++ map D.wants far_doors.old) (map D.wants near_doors.new ++ map D.wants far_doors.new) result }
 {
     let (near, far) = join_mut(
         rt,
@@ -83,13 +84,15 @@ where
             requires { IsSync R.row × IsSync G.row × IsSend B.row × IsSend D.row × (length near_boards.now ≡ length near_doors.now) }
             ensures { ArePlaces most (map B.content near_boards.entry.now) (map B.content near_boards.exit.now)
                 (map D.connections near_doors.entry.now) (map D.connections near_doors.exit.now)
-                (map D.faults near_doors.entry.now) (map D.faults near_doors.exit.now) result }
+                (map D.faults near_doors.entry.now) (map D.faults near_doors.exit.now)
+                (map D.wants near_doors.entry.now) (map D.wants near_doors.exit.now) result }
         { serve_places(rt, alloc, most, gate, near_boards, near_doors) },
         &mut || -> PlaceEnd
             requires { IsSync R.row × IsSync G.row × IsSend B.row × IsSend D.row × (length far_boards.now ≡ length far_doors.now) }
             ensures { ArePlaces most (map B.content far_boards.entry.now) (map B.content far_boards.exit.now)
                 (map D.connections far_doors.entry.now) (map D.connections far_doors.exit.now)
-                (map D.faults far_doors.entry.now) (map D.faults far_doors.exit.now) result }
+                (map D.faults far_doors.entry.now) (map D.faults far_doors.exit.now)
+                (map D.wants far_doors.entry.now) (map D.wants far_doors.exit.now) result }
         { serve_places(rt, alloc, most, gate, far_boards, far_doors) },
     );
     near.worse(far)
@@ -107,7 +110,7 @@ fn serve_first<R: Threads + Wait + Sync + Clock + Log, B: Board, D: Door, G: Gat
     requires same { length boards.old ≡ length doors.old }
     requires few { length boards.old < 2 }
     ensures { ArePlaces most (map B.content boards.old) (map B.content boards.new) (map D.connections doors.old) (map D.connections doors.new)
-        (map D.faults doors.old) (map D.faults doors.new) result }
+        (map D.faults doors.old) (map D.faults doors.new) (map D.wants doors.old) (map D.wants doors.new) result }
 {
     if boards.is_empty() {
         return PlaceEnd::Done;

@@ -8,8 +8,9 @@ serve_both-returns g t c =
     let content = g.B.Board.content in
     let connections = g.D.Door.connections in
     let faults = g.D.Door.faults in
+    let wants = g.D.Door.wants in
     let near : ArePlaces c.args.most (map content c.args.near_boards.now) (map content c.near_boards-1.given.0) (map connections c.args.near_doors.now) (map connections c.near_doors-1.given.0)
-    (map faults c.args.near_doors.now) (map faults c.near_doors-1.given.0) c.join_mut-near.result.0 = search rules in
+    (map faults c.args.near_doors.now) (map faults c.near_doors-1.given.0) (map wants c.args.near_doors.now) (map wants c.near_doors-1.given.0) c.join_mut-near.result.0 = search rules in
     let far : ArePlaces c.args.most (map content c.args.far_boards.now) (map content c.far_boards-1.given.0) (map connections c.args.far_doors.now) (map connections c.far_doors-1.given.0)
-    (map faults c.args.far_doors.now) (map faults c.far_doors-1.given.0) c.join_mut-near.result.1 = search rules in
-    rw c.worse.ensures (both_places c.args.most _ _ _ _ _ _ _ _ _ _ _ _ _ _ near far)
+    (map faults c.args.far_doors.now) (map faults c.far_doors-1.given.0) (map wants c.args.far_doors.now) (map wants c.far_doors-1.given.0) c.join_mut-near.result.1 = search rules in
+    rw c.worse.ensures (both_places c.args.most _ _ _ _ _ _ _ _ _ _ _ _ _ _ _ _ _ _ near far)
