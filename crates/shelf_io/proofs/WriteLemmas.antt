@@ -5,7 +5,7 @@ use Rattle.std.specs.declared.alloc.Global.{Global}
 use Rattle.std.specs.Ordering.{nat_cmp, eq_by_cmp}
 use Rattle.std.specs.Cmp.Lexicographic.{slice_cmp}
 use Rattle.std.specs.List.{list_any}
-use Rattle.std.specs.FinMap.{FinMap, get, insert, remove, keys, contains_key, contains_key-keys, get-insert, get-remove}
+use Rattle.std.specs.FinMap.{FinMap, get, insert, remove, keys, contains_key, contains_key-keys, get-insert, get-remove, same_map, slice_cmp-IsAntisymmetric, nat_cmp-IsAntisymmetric}
 use Rattle.std.proofs.lemmas.Grind.{common_steps}
 use Rattle.std.proofs.lemmas.Cmp.{nat_list_cmp_total}
 use Rattle.std.proofs.lemmas.List.Elements.{All-head, All-tail, All-cons}
@@ -14,7 +14,7 @@ use Rattle.survey_link.specs.declared.faults.LinkFault.{LinkFault}
 use Rattle.survey_link.specs.Shelf.{ShelfFiles, Lists, with_file, without_file, OthersStay as OtherPathsStay}
 use Rattle.tile_path.specs.Spelling.{IsPath, spelling}
 use Rattle.tile_path.specs.declared.path.Path.{Path}
-use Rattle.shelf_io.specs.Survey.{IsOtherPath, KeepsOthers, OthersStay, HoldsSurvey, Replaces}
+use Rattle.shelf_io.specs.Survey.{AgreeAt, IsOtherPath, KeepsOthers, OthersStay, HoldsSurvey, Replaces}
 use Rattle.shelf_io.specs.Listed.{is_among, AreStrays}
 use Rattle.shelf_io.specs.Writing.{without_paths, with_path, with_paths}
 use Rattle.shelf_io.proofs.ListedLemmas.{same_text}
@@ -116,6 +116,24 @@ pub there_next : (survey : ShelfFiles) (paths : List Path) (i : ℕ) (path : Pat
 there_next survey paths i path at there rest =
     let P : List Path → Type 0 = All (λ p. IsSome (get survey (spelling p))) in
     subst P (sym (drop_found paths i path at)) (All-cons (λ p. IsSome (get survey (spelling p))) path (drop (i + 1) paths) there rest)
+
+-- a file that is there already
+pub there_already : (survey : ShelfFiles) (path : Path) (files : Option ShelfFiles) → IsSome (get survey (spelling path)) → IfSome files (λ fs. AgreeAt survey fs path) → files ≡ with_path survey path files
+there_already survey path None there agree = refl
+there_already survey path (Some fs) there agree =
+    ap (λ m. Some m) (same_map nat_list_cmp_total (slice_cmp-IsAntisymmetric nat_cmp-IsAntisymmetric) fs (insert fs (spelling path) (unwrap_or (get survey (spelling path)) [])) same)
+  where
+    unwrapped : (o : Option (List ℕ)) → IsSome o → o ≡ Some (unwrap_or o [])
+    unwrapped None some = cc
+    unwrapped (Some bytes) some = refl
+
+    same : (text : List ℕ) → get fs text ≡ get (insert fs (spelling path) (unwrap_or (get survey (spelling path)) [])) text
+    same text =
+        elim (eq_by_cmp (slice_cmp nat_cmp) text (spelling path)) as (λ b. eq_by_cmp (slice_cmp nat_cmp) text (spelling path) ≡ b → get fs text ≡ cond b (Some (unwrap_or (get survey (spelling path)) [])) (get fs text)) [
+          | true ↦ λ e. ap (get fs) ((same_text text (spelling path)).0 e) ∙ agree ∙ unwrapped (get survey (spelling path)) there
+          | false ↦ λ e. refl
+        ] refl
+        ∙ sym (get-insert nat_list_cmp_total fs (spelling path) (unwrap_or (get survey (spelling path)) []) text)
 
 -- ---- the whole
 

@@ -1,5 +1,5 @@
 //! From a generation to a shelf.
-ghost use Rattle.std.specs.Prelude.{◌≡◌, ◌+◌, ◌≤◌, length, All, IsSome, IfOk, OnOk, OnErr, IsErrOf};
+ghost use Rattle.std.specs.Prelude.{◌≡◌, ◌+◌, ◌≤◌, length, All, IsSome, IfOk, OnOk, OnErr, IsErrOf, false};
 ghost use Rattle.std.specs.FinMap.{get, len};
 ghost use Rattle.fits_header.specs.Cards.{whole_blocks};
 ghost use Rattle.fits_tile.specs.TileFile.{data_len};
@@ -13,6 +13,8 @@ use crate::buffer::buffer;
 use crate::progress::Progress;
 use crate::spelling::spelled;
 use crate::strays::shelf_strays;
+use crate::verifying::has_file;
+use crate::words::say_written;
 use generation::{Body, Generation};
 use log::Log;
 use std::alloc::Global;
@@ -21,7 +23,8 @@ use survey_link::{LinkFault, Shelf};
 use tile_path::Path;
 
 /// Makes the survey's files on the shelf those of the generation, and answers how many these are. Every path that a survey can
-/// have and this one doesn't have is removed; no other path is touched. How many files are written is logged, at most once a second.
+/// have and this one doesn't have is removed; no other path is touched. A file that is right already is read and not written.
+/// How many files are done is logged, at most once a second, and at the end how many were written and removed.
 ///
 /// # Errors
 ///
@@ -41,8 +44,10 @@ pub fn export<R: Clock + Log, H: Shelf>(
 {
     let strays = shelf_strays(alloc, shelf, generation)?;
     remove_all(alloc, shelf, &strays)?;
-    write_all(rt, alloc, shelf, generation)?;
-    Ok(generation.file_count())
+    let written = write_all(rt, alloc, shelf, generation)?;
+    let count = generation.file_count();
+    say_written(rt, written, count, strays.len());
+    Ok(count)
 }
 
 // Removes these paths.
@@ -60,14 +65,15 @@ fn remove_all<H: Shelf>(alloc: Global, shelf: &mut H, paths: &[Path]) -> Result<
     Ok(())
 }
 
-// Writes all files of the generation, the last first: the tiles, from the leaves upward, then the mosaic, the coverage and the
-// properties. So whoever reads the folder meanwhile finds the new properties only once all that they describe is there.
+// Writes all files of the generation that aren't there, and answers how many these were. The last comes first: the tiles, from
+// the leaves upward, then the mosaic, the coverage and the properties. So whoever reads the folder meanwhile finds the new
+// properties only once all that they describe is there.
 fn write_all<R: Clock + Log, H: Shelf>(
     rt: &R,
     alloc: Global,
     shelf: &mut H,
     generation: &Generation,
-) -> Result<(), LinkFault>
+) -> Result<u64, LinkFault>
     ensures written { OnOk result (H.files shelf.new
         ≡ with_paths (files_in generation.now) (paths_in generation.now) (H.files shelf.old)) }
     ensures there { OnOk result (All (λ path. IsSome (get (files_in generation.now) (spelling path))) (paths_in generation.now)) }
@@ -76,13 +82,40 @@ fn write_all<R: Clock + Log, H: Shelf>(
     ensures never_falls { H.faults shelf.old ≤ H.faults shelf.new }
 {
     let mut room = buffer(alloc, generation.room())?;
-    let mut progress = Progress::begin(rt, "files written", generation.file_count());
+    let mut progress = Progress::begin(rt, "files compared and written", generation.file_count());
+    let mut written = 0_u64;
     for i in (0..generation.file_count()).rev() {
         let path = generation.path(i).unwrap();
-        write_file(alloc, shelf, generation, &path, &mut room)?;
+        if settle_file(alloc, shelf, generation, &path, &mut room)? {
+            written = written.saturating_add(1);
+        }
         progress.part_done(rt);
     }
-    Ok(())
+    Ok(written)
+}
+
+// Writes the file at a path that the generation has, where the shelf hasn't got it, and answers whether it was written.
+fn settle_file<H: Shelf>(
+    alloc: Global,
+    shelf: &mut H,
+    generation: &Generation,
+    path: &Path,
+    room: &mut [u8],
+) -> Result<bool, LinkFault>
+    requires room { 2880 + whole_blocks (data_len generation.now.conf.shape) ≤ length room.old }
+    requires path { IsPath path.now }
+    requires there { IsSome (get (files_in generation.now) (spelling path.now)) }
+    ensures written { OnOk result (H.files shelf.new ≡ with_path (files_in generation.now) path.now (H.files shelf.old)) }
+    ensures right { IfOk result (λ written. written ≡ false → H.files shelf.new ≡ H.files shelf.old) }
+    ensures others { OthersStay (H.files shelf.old) (H.files shelf.new) }
+    ensures failed { IsErrOf result LinkFault.Failed → Rises (H.faults shelf.old) (H.faults shelf.new) }
+    ensures never_falls { H.faults shelf.old ≤ H.faults shelf.new }
+{
+    if has_file(alloc, shelf, generation, path, room)? {
+        return Ok(false);
+    }
+    write_file(alloc, shelf, generation, path, room)?;
+    Ok(true)
 }
 
 // Writes the file at a path that the generation has.

@@ -11,6 +11,7 @@ mod exporting;
 mod leaves;
 mod listing;
 mod loading;
+mod near_leaf;
 mod order;
 mod progress;
 mod refusal;

@@ -6,7 +6,9 @@ ghost use Rattle.healpix_nested.specs.Cells.{cell_count};
 ghost use Rattle.shelf_io.specs.Opening.{leaf_path, leaves_on, IsRefusedBy};
 ghost use Rattle.shelf_io.specs.Listed.{leaf_of, leaves_among};
 
+use crate::near_leaf::say_no_leaves;
 use crate::refusal::LoadRefusal;
+use log::Log;
 use std::alloc::{AllocError, Global};
 use survey_link::Shelf;
 use tile_path::Path;
@@ -59,12 +61,13 @@ fn leaf_of(path: Path, top: u8) -> Option<u64>
     }
 }
 
-/// The numbers of the leaves of order `top` that the shelf has files of, ascending.
+/// The numbers of the leaves of order `top` that the shelf has files of, ascending. What looks like a leaf and is none is said.
 ///
 /// # Errors
 ///
 /// `ShelfFault` only where the shelf's count of faults rose; `OutOfMemory`.
-pub(crate) fn shelf_leaves<H: Shelf>(
+pub(crate) fn shelf_leaves<R: Log, H: Shelf>(
+    rt: &R,
     alloc: Global,
     shelf: &mut H,
     top: u8,
@@ -79,5 +82,6 @@ pub(crate) fn shelf_leaves<H: Shelf>(
     ensures never_falls { H.faults shelf.old ≤ H.faults shelf.new }
 {
     let paths = shelf.list(alloc)?;
+    say_no_leaves(rt, &paths, top);
     Ok(listed_leaves(alloc, &paths, top)?)
 }

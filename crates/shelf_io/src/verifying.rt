@@ -77,8 +77,8 @@ fn first_difference<R: Clock + Log, H: Shelf>(
     Ok(first)
 }
 
-// Whether the shelf has at the path what the generation has.
-fn has_file<H: Shelf>(
+/// Whether the shelf has at the path what the generation has.
+pub(crate) fn has_file<H: Shelf>(
     alloc: Global,
     shelf: &mut H,
     generation: &Generation,

@@ -1,7 +1,7 @@
 //! What is said to the log of a survey's files.
 use fits_tile::TileFault;
 use healpix_nested::Cell;
-use log::{Log, error, warn};
+use log::{Log, error, info, warn};
 use survey_conf::{Conf, ConfFault, FaultWords, likely_key};
 use tile_path::Path;
 
@@ -31,7 +31,13 @@ pub(crate) fn say_likely_keys<R: Log>(rt: &R, conf: &Conf) {
 /// Says which fault the file of a leaf has, and what it looks like.
 pub(crate) fn say_tile_fault<R: Log>(rt: &R, leaf: Cell, file: &[u8], fault: TileFault) {
     let path = Path::Tile(leaf);
-    error!(rt; "{path} is no tile of this survey ({fault}); it looks like {}", look_of(file));
+    let bytes = file.len();
+    error!(rt; "{path} is no tile of this survey ({fault}); it has {bytes} bytes and looks like {}", look_of(file));
+}
+
+/// Says how many files of a survey were written, of all that it has, and how many others were removed.
+pub(crate) fn say_written<R: Log>(rt: &R, written: u64, count: u64, removed: usize) {
+    info!(rt; "{written} of {count} files written, the others were right; {removed} removed");
 }
 
 // What a file is by its first bytes.
@@ -42,6 +48,7 @@ fn look_of(file: &[u8]) -> &'static str {
         [0x89, b'P', b'N', b'G', ..] => "a PNG image",
         [0xff, 0xd8, 0xff, ..] => "a JPEG image",
         [b'S', b'I', b'M', b'P', b'L', b'E', b' ', b' ', ..] => "FITS",
+        [0, 0, 0, 0, ..] => "zeros",
         _ => "none of FITS, gzip, PNG and JPEG",
     }
 }

@@ -1,4 +1,4 @@
-use Rattle.std.proofs.Common.{◌≡◌, ◌≤◌, List, ℕ, ◌∙◌, ap, subst, sym, arith}
+use Rattle.std.proofs.Common.{◌≡◌, ◌∙◌, ap, subst, sym, arith}
 use Rattle.tile_path.specs.Spelling.{IsPath, spelling}
 use Rattle.survey_link.specs.Shelf.{without_file}
 use Rattle.shelf_io.specs.Survey.{OthersStay}

@@ -1,4 +1,4 @@
-use Rattle.std.proofs.Common.{◌≡◌, ℕ, ◌+◌, ◌-◌, ◌≤◌, List, drop, ◌∙◌, ap, subst, sym, arith}
+use Rattle.std.proofs.Common.{◌≡◌, ℕ, ◌+◌, ◌-◌, drop, ◌∙◌, subst, sym, arith}
 use Rattle.std.specs.Prelude.{All, IfSome, IsSome, Some, slice_get}
 use Rattle.std.specs.FinMap.{get}
 use Rattle.tile_path.specs.Spelling.{spelling}
@@ -16,13 +16,13 @@ loop-i-preserved g c =
     let same : c.loop-i.i ≡ c.loop-i.i - 1 + 1 = omega arith in
     let at : slice_get paths (c.loop-i.i - 1) ≡ Some c.unwrap-path.result = sym c.path.ensures.path ∙ c.unwrap-path.ensures in
     record {
-      written = written_next survey paths (c.loop-i.i - 1) c.unwrap-path.result start old (g.H.Shelf.files c.write_file.new.shelf) at
-          (subst (λ n. old ≡ with_paths survey (drop n paths) start) same c.loop-i.invariant.written) c.in_ok-write_file.ensures.written;
+      written = written_next survey paths (c.loop-i.i - 1) c.unwrap-path.result start old (g.H.Shelf.files c.settle_file.new.shelf) at
+          (subst (λ n. old ≡ with_paths survey (drop n paths) start) same c.loop-i.invariant.written) c.in_ok-settle_file.ensures.written;
       there = there_next survey paths (c.loop-i.i - 1) c.unwrap-path.result at
           (subst (λ o. IfSome o (λ path. IsSome (get survey (spelling path)))) c.unwrap-path.ensures c.path.ensures.there)
           (let P : ℕ → Type 0 = λ n. All (λ path. IsSome (get survey (spelling path))) (drop n paths) in subst P same c.loop-i.invariant.there);
-      others = others_trans start old (g.H.Shelf.files c.write_file.new.shelf) c.loop-i.invariant.others c.write_file.ensures.others;
-      faults = omega (arith, c.write_file.ensures.never_falls, c.loop-i.invariant.faults);
+      others = others_trans start old (g.H.Shelf.files c.settle_file.new.shelf) c.loop-i.invariant.others c.settle_file.ensures.others;
+      faults = omega (arith, c.settle_file.ensures.never_falls, c.loop-i.invariant.faults);
       below = omega (arith, c.loop-i.invariant.below);
       room = c.loop-i.invariant.room;
     }

@@ -1,11 +1,9 @@
-use Rattle.std.proofs.Common.{◌≡◌, List, ℕ, sym, ap, ◌∙◌, subst, refl}
-use Rattle.std.specs.Prelude.{Some, None, ℤ, Result, Err}
-use Rattle.healpix_nested.specs.Cells.{NestedCell}
+use Rattle.std.proofs.Common.{◌≡◌, sym, ap, ◌∙◌, subst}
+use Rattle.std.specs.Prelude.{Some}
 use Rattle.tile_path.specs.Spelling.{spelling}
 use Rattle.tile_path.specs.declared.path.Path.TheVariants.{Tile}
 use Rattle.survey_link.specs.Shelf.{Finds}
 use Rattle.fits_tile.specs.Reading.{reads}
-use Rattle.fits_tile.specs.declared.fault.TileFault.{TileFault}
 use Rattle.fits_tile.specs.Refused.{IsRefusedBy}
 use Rattle.shelf_io.specs.Opening.{leaf_cell, leaf_path}
 use Rattle.shelf_io.proofs.PathLemmas.{leaf_spelling, made_cell}

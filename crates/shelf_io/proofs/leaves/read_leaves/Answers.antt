@@ -1,10 +1,10 @@
-use Rattle.std.proofs.Common.{◌≡◌, ℕ, ◌+◌, ◌<◌, ◌≤◌, ◌∙◌, refl, arith, get_or}
+use Rattle.std.proofs.Common.{◌∙◌, refl, arith, get_or}
 use Rattle.std.specs.Prelude.{IfSome, slice_get}
 use Rattle.std.specs.List.{filter_map}
 use Rattle.std.specs.Map.{keys_of}
 use Rattle.std.proofs.lemmas.List.{get_or_default}
 use Rattle.std.proofs.lemmas.Result.{err_from_is_err_and}
-use Rattle.shelf_io.specs.Opening.{leaf_tile, leaf_refusal, IsRefusedBy}
+use Rattle.shelf_io.specs.Opening.{leaf_refusal, IsRefusedBy}
 use Rattle.shelf_io.proofs.LoadLemmas.{if_err_from}
 use Rattle.shelf_io.proofs.LeafLemmas.{tiles_more, sound_more, refused_here, lower_next}
 use Rattle.shelf_io.proofs.leaves.read_leaves.Goals as goal

@@ -1,9 +1,6 @@
-use Rattle.std.proofs.Common.{◌≡◌, ◌∙◌, subst, sym, refl}
-use Rattle.std.specs.Prelude.{Option, IfSome, Some, ◌<◌, ◌↔◌}
-use Rattle.healpix_nested.specs.Cells.{cell_count}
+use Rattle.std.proofs.Common.{◌∙◌, refl}
 use Rattle.tile_path.specs.declared.path.Path.TheVariants.{Tile}
-use Rattle.shelf_io.specs.Opening.{leaf_cell, leaf_path}
-use Rattle.shelf_io.specs.Listed.{leaf_of}
+use Rattle.shelf_io.specs.Opening.{leaf_cell}
 use Rattle.shelf_io.proofs.PathLemmas.{leaf_is_path, leaf_spelling, leaf_of_read, leaf_below}
 use Rattle.shelf_io.proofs.listing.leaf_at.Goals as goal
 

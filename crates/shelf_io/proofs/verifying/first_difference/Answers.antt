@@ -1,4 +1,4 @@
-use Rattle.std.proofs.Common.{◌≡◌, ◌≤◌, ◌∙◌, sym, arith}
+use Rattle.std.proofs.Common.{◌≡◌, ◌∙◌, sym, arith}
 use Rattle.std.specs.Prelude.{Some, slice_get}
 use Rattle.generation.specs.Files.{paths_in, files_in}
 use Rattle.shelf_io.proofs.CompareLemmas.{compared_more}

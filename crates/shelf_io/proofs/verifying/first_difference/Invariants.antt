@@ -1,4 +1,4 @@
-use Rattle.std.proofs.Common.{◌≡◌, ◌≤◌, take, vec_len, length}
+use Rattle.std.proofs.Common.{◌≡◌, ◌≤◌, take, vec_len}
 use Rattle.std.specs.Prelude.{IfSome, fold}
 use Rattle.tile_path.specs.Spelling.{IsPath}
 use Rattle.generation.specs.Files.{paths_in, files_in}

@@ -1,11 +1,11 @@
-use Rattle.std.proofs.Common.{◌≡◌, ◌<◌, length, List, ℕ, ◌∙◌, ap, sym, subst, arith, Option, Some, None}
+use Rattle.std.proofs.Common.{◌≡◌, ◌<◌, length, List, ℕ, ◌∙◌, ap, subst, arith, Option, Some, None}
 use Rattle.std.specs.Prelude.{IfSome, IsSome, slice_get, option_map, fold}
 use Rattle.std.specs.FinMap.{get, keys}
 use Rattle.survey_link.specs.Shelf.{ShelfFiles}
 use Rattle.tile_path.specs.Spelling.{IsPath, spelling}
 use Rattle.tile_path.specs.declared.path.Path.{Path}
 use Rattle.generation.specs.Files.{paths_in, files_in}
-use Rattle.shelf_io.specs.Survey.{IsVerdict, IsFirstDifference, HoldsSurvey}
+use Rattle.shelf_io.specs.Survey.{IsFirstDifference, HoldsSurvey}
 use Rattle.shelf_io.specs.Listed.{AreStrays}
 use Rattle.shelf_io.specs.Comparing.{first_path, first_after}
 use Rattle.shelf_io.proofs.CompareLemmas.{first_differs, none_differs}

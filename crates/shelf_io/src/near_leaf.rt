@@ -1,0 +1,64 @@
+//! Files that look like leaves and are none.
+use log::{Log, warn};
+use std::alloc::Global;
+use tile_path::Path;
+
+/// Says how many of the files look like leaves of order `top` and are none, and names one of them.
+pub(crate) fn say_no_leaves<R: Log>(rt: &R, paths: &[String], top: u8) {
+    if let Some(path) = paths.iter().find(|path| is_misplaced(path.as_str())) {
+        let count = misplaced(paths);
+        say_misplaced(rt, count, path.as_str(), top);
+    }
+    if let Some(path) = paths.iter().find(|path| is_above(path.as_str(), top)) {
+        let count = above(paths, top);
+        say_above(rt, count, path.as_str(), top);
+    }
+}
+
+fn misplaced(paths: &[String]) -> usize {
+    let found = paths.iter().filter(|path| is_misplaced(path.as_str()));
+    found.count()
+}
+
+fn above(paths: &[String], top: u8) -> usize {
+    let found = paths.iter().filter(|path| is_above(path.as_str(), top));
+    found.count()
+}
+
+fn say_misplaced<R: Log>(rt: &R, count: usize, path: &str, top: u8) {
+    let path = path.as_bytes().escape_ascii();
+    warn!(rt; "files that look like tiles and are none: {count}, as {path}; tile 7 would be Norder{top}/Dir0/Npix7.fits, and Dir is the greatest multiple of 10000 up to the number");
+}
+
+fn say_above<R: Log>(rt: &R, count: usize, path: &str, top: u8) {
+    let path = path.as_bytes().escape_ascii();
+    warn!(rt; "tiles of an order above {top}, that of the leaves: {count}, as {path}; they aren't read, and export removes them");
+}
+
+// Whether the file has the name of a tile, or nearly, and is none.
+fn is_misplaced(path: &str) -> bool {
+    has_name_of_tile(path) && Path::read(path.as_bytes()).is_none()
+}
+
+// Whether the last name of the path is that of a tile, or nearly.
+fn has_name_of_tile(path: &str) -> bool {
+    match path.rsplit('/').next() {
+        Some(name) => name.starts_with("Npix") && name.contains(".fits"),
+        None => false,
+    }
+}
+
+// Whether the file is a tile of an order above `top`.
+fn is_above(path: &str, top: u8) -> bool {
+    match Path::read(path.as_bytes()) {
+        Some(path) => is_tile_above(path, top),
+        None => false,
+    }
+}
+
+fn is_tile_above(path: Path, top: u8) -> bool {
+    match path {
+        Path::Tile(cell) => cell.order() > top,
+        _ => false,
+    }
+}
