@@ -38,22 +38,27 @@ const NUMBERS: &str = "1.0 1 0 1.0E0
 0E99999999999999999999999999999999999999999999999999 0 0 0.0E0
 0d-99999999999999999999999999999999999999999999999999 0 0 0.0E0";
 
+// The field of a row at a place.
+fn field(row: &str, at: usize) -> &str {
+    row.split(' ').nth(at).unwrap_or("")
+}
+
+// Whether the number of a row has its parts, is written so, and is read again.
+fn is_as_the_row_says(row: &str, number: &Decimal) -> bool {
+    let written = field(row, 3).as_bytes();
+    field(row, 1).parse::<i64>() == Ok(number.mantissa())
+        && field(row, 2).parse::<i32>() == Ok(number.exp())
+        && text_of(number, &mut [b'#'; 32]) == written
+        && Decimal::read(written) == Ok(*number)
+}
+
 #[test]
 fn reads_and_writes_the_normal_form(rt: HostRuntime) -> Result<(), Fail> {
     for row in NUMBERS.lines() {
-        let mut fields = row.split(' ');
-        let text = fields.next().ok_or("no text")?;
-        let mantissa = fields.next().ok_or("no mantissa")?.parse::<i64>()?;
-        let exp = fields.next().ok_or("no exponent")?.parse::<i32>()?;
-        let written = fields.next().ok_or("nothing written")?;
-        let number = Decimal::read(text.as_bytes()).ok().ok_or("no number")?;
-        assert_eq!(rt; (number.mantissa(), number.exp()), (mantissa, exp), "{row}");
-        assert_eq!(rt;
-            text_of(&number, &mut [b'#'; 32]),
-            written.as_bytes(),
-            "{row}"
-        );
-        assert_eq!(rt; Decimal::read(written.as_bytes()), Ok(number), "{row}");
+        let number = Decimal::read(field(row, 0).as_bytes())
+            .ok()
+            .ok_or("no number")?;
+        assert!(rt; is_as_the_row_says(row, &number), "{row}");
     }
     Ok(())
 }
@@ -131,29 +136,39 @@ fn with_zeros(
     Ok(text)
 }
 
+// What stands before some zeros, how many these are, what follows them, and the mantissa and the exponent, or the fault.
+type ZerosRow = (
+    &'static str,
+    usize,
+    &'static str,
+    Result<(i64, i32), BadReal>,
+);
+
+static ZEROS: [ZerosRow; 11] = [
+    ("0.", 1_000_000, "1E1000001", Ok((1, 0))),
+    ("-2", 1_000_000, "E-1000000", Ok((-2, 0))),
+    ("-2", 1_000_000, "E-1000401", Err(BadReal::Exponent)),
+    ("3E", 1_000, "5", Ok((3, 5))),
+    ("3E-", 1_000, "401", Err(BadReal::Exponent)),
+    ("3E1", 1_000, "", Err(BadReal::Exponent)),
+    ("3E-1", 1_000, "", Err(BadReal::Exponent)),
+    ("0.0E1", 1_000, "", Ok((0, 0))),
+    ("1", 1_000_000, "1", Err(BadReal::TooLong)),
+    ("1", 1_000_000, "1?", Err(BadReal::NotANumber)),
+    ("", 1_000_000, ".", Ok((0, 0))),
+];
+
+// The mantissa and the exponent of a text, or its fault.
+fn parts_of(text: &[u8]) -> Result<(i64, i32), BadReal> {
+    let number = Decimal::read(text)?;
+    Ok((number.mantissa(), number.exp()))
+}
+
 #[test]
 fn reads_texts_of_any_length(rt: HostRuntime) -> Result<(), Fail> {
-    let alloc = rt.alloc();
-    for (before, zeros, after, outcome) in [
-        ("0.", 1_000_000, "1E1000001", Ok((1, 0))),
-        ("-2", 1_000_000, "E-1000000", Ok((-2, 0))),
-        ("-2", 1_000_000, "E-1000401", Err(BadReal::Exponent)),
-        ("3E", 1_000, "5", Ok((3, 5))),
-        ("3E-", 1_000, "401", Err(BadReal::Exponent)),
-        ("3E1", 1_000, "", Err(BadReal::Exponent)),
-        ("3E-1", 1_000, "", Err(BadReal::Exponent)),
-        ("0.0E1", 1_000, "", Ok((0, 0))),
-        ("1", 1_000_000, "1", Err(BadReal::TooLong)),
-        ("1", 1_000_000, "1?", Err(BadReal::NotANumber)),
-        ("", 1_000_000, ".", Ok((0, 0))),
-    ] {
-        let text = with_zeros(alloc, before, zeros, after)?;
-        let read = Decimal::read(text.as_slice());
-        assert_eq!(rt;
-            read.map(|number| (number.mantissa(), number.exp())),
-            outcome,
-            "{before}, zeros and {after}"
-        );
+    for (before, zeros, after, outcome) in &ZEROS {
+        let text = with_zeros(rt.alloc(), before, *zeros, after)?;
+        assert!(rt; parts_of(&text) == *outcome, "{before}, zeros and {after}");
     }
     Ok(())
 }
@@ -233,43 +248,42 @@ fn shown(alloc: Global, number: Option<i128>) -> Result<String, AllocError> {
     }
 }
 
-#[test]
-fn reads_whole_numbers(rt: HostRuntime) -> Result<(), Fail> {
-    for row in WHOLE_NUMBERS.lines() {
-        let mut fields = row.split('|');
-        let text = fields.next().ok_or("no text")?;
-        let plain = plain_decimal(text.as_bytes()).map(i128::from);
-        assert_eq!(rt;
-            Some(shown(rt.alloc(), plain)?.as_str()),
-            fields.next(),
-            "{row}"
-        );
-        let whole = whole_number(text.as_bytes()).map(i128::from);
-        assert_eq!(rt;
-            Some(shown(rt.alloc(), whole)?.as_str()),
-            fields.next(),
-            "{row}"
-        );
-    }
-    assert_eq!(rt; plain_decimal(b"1\xFF"), None);
-    assert_eq!(rt; whole_number(b"-\xFF"), None);
-    Ok(())
+// The part of a row of whole numbers at a place.
+fn part(row: &str, at: usize) -> &str {
+    row.split('|').nth(at).unwrap_or("")
+}
+
+// Whether both numbers of the row's text are those that it says.
+fn has_numbers(alloc: Global, row: &str) -> Result<bool, AllocError> {
+    let text = part(row, 0).as_bytes();
+    let plain = shown(alloc, plain_decimal(text).map(i128::from))?;
+    let whole = shown(alloc, whole_number(text).map(i128::from))?;
+    Ok(plain.as_str() == part(row, 1) && whole.as_str() == part(row, 2))
 }
 
 #[test]
+fn reads_whole_numbers(rt: HostRuntime) -> Result<(), Fail> {
+    for row in WHOLE_NUMBERS.lines() {
+        assert!(rt; has_numbers(rt.alloc(), row)?, "{row}");
+    }
+    assert!(rt; plain_decimal(b"1\xFF").is_none() && whole_number(b"-\xFF").is_none());
+    Ok(())
+}
+
+// A text, whether it has the sign of a negative number, and what follows the sign.
+static SIGNS: [(&str, bool, &str); 6] = [
+    ("-25", true, "25"),
+    ("+25", false, "25"),
+    ("25", false, "25"),
+    ("--25", true, "-25"),
+    ("-", true, ""),
+    ("", false, ""),
+];
+
+#[test]
 fn splits_signs(rt: HostRuntime) {
-    for (text, negative, rest) in [
-        ("-25", true, "25"),
-        ("+25", false, "25"),
-        ("25", false, "25"),
-        ("--25", true, "-25"),
-        ("-", true, ""),
-        ("", false, ""),
-    ] {
-        assert_eq!(rt;
-            split_sign(text.as_bytes()),
-            (negative, rest.as_bytes()),
-            "at {text}"
-        );
+    for (text, negative, rest) in &SIGNS {
+        let split = split_sign(text.as_bytes());
+        assert!(rt; split == (*negative, rest.as_bytes()), "at {text}");
     }
 }

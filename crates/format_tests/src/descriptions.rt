@@ -97,15 +97,17 @@ fn fault(alloc: Global, text: &[u8]) -> Result<Option<(u64, u8)>, ConfRefusal> {
     }
 }
 
+// The fault of `LINES` with another one at place `at`, or after them.
+fn fault_with_line(alloc: Global, at: usize, other: &str) -> Result<Option<(u64, u8)>, Fail> {
+    let text = with_line(alloc, at, other)?;
+    Ok(fault(alloc, &text)?)
+}
+
 #[test]
 fn reports_the_first_fault(rt: HostRuntime) -> Result<(), Fail> {
     let alloc = rt.alloc();
     for (at, other, found) in &OUTCOMES {
-        assert_eq!(rt;
-            fault(alloc, &with_line(alloc, *at, other)?)?,
-            *found,
-            "{other}"
-        );
+        assert!(rt; fault_with_line(alloc, *at, other)? == *found, "{other}");
     }
     Ok(())
 }
@@ -193,18 +195,24 @@ fn long_text(alloc: Global) -> Result<Vec<u8>, AllocError> {
     Ok(text)
 }
 
+static KEYS: [(&str, Option<usize>); 3] = [
+    ("key_0", Some(1024)),
+    ("key_19999", Some(1024)),
+    ("key_20000", None),
+];
+
+fn check_long(rt: &impl Abort, conf: &Conf) {
+    for (key, length) in &KEYS {
+        let value = conf.value(key.as_bytes());
+        assert!(rt; value.map(|value| value.len()) == *length, "{key}");
+    }
+    assert!(rt; conf.extra(19_999).is_some() && conf.extra(20_000).is_none());
+}
+
 #[test]
 fn reads_a_long_description(rt: HostRuntime) -> Result<(), Fail> {
-    let conf = Conf::read(rt.alloc(), &long_text(rt.alloc())?)?;
-    for (key, length) in [
-        ("key_0", Some(1024)),
-        ("key_19999", Some(1024)),
-        ("key_20000", None),
-    ] {
-        let value = conf.value(key.as_bytes());
-        assert_eq!(rt; value.map(|value| value.len()), length, "{key}");
-    }
-    assert!(rt; conf.extra(19_999).is_some());
-    assert!(rt; conf.extra(20_000).is_none());
+    let text = long_text(rt.alloc())?;
+    let conf = Conf::read(rt.alloc(), &text)?;
+    check_long(&rt, &conf);
     Ok(())
 }

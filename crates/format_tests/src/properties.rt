@@ -88,27 +88,24 @@ fn properties(alloc: Global, text: &[u8], leaves: u64) -> Result<Vec<u8>, ConfRe
 
 #[test]
 fn writes_each_key_in_order(rt: HostRuntime) -> Result<(), Fail> {
-    for (name, text, leaves, written) in [
-        ("the required keys", PLAIN, 0, PLAIN_WRITTEN),
-        ("each key", EACH_KEY, u64::MAX, EACH_KEY_WRITTEN),
-    ] {
-        assert_eq!(rt;
-            properties(rt.alloc(), text, leaves)?.as_slice(),
-            written,
-            "{name}"
-        );
-    }
+    let plain = properties(rt.alloc(), PLAIN, 0)?;
+    assert!(rt; plain.as_slice() == PLAIN_WRITTEN, "the required keys");
+    let each = properties(rt.alloc(), EACH_KEY, u64::MAX)?;
+    assert!(rt; each.as_slice() == EACH_KEY_WRITTEN, "each key");
     Ok(())
 }
 
-// The lines but the last are a description with the same properties.
+// Whether the lines but the last, of what is written of a text, are a description with the same properties.
+fn comes_back(alloc: Global, text: &[u8]) -> Result<bool, ConfRefusal> {
+    let written = properties(alloc, text, 0)?;
+    let described = written.strip_suffix(LEAVES_LINE).unwrap_or(&[]);
+    let again = properties(alloc, described, 0)?;
+    Ok(again.as_slice() == written.as_slice())
+}
+
 #[test]
 fn reads_what_was_written(rt: HostRuntime) -> Result<(), Fail> {
-    for (name, text) in [("the required keys", PLAIN), ("each key", EACH_KEY)] {
-        let written = properties(rt.alloc(), text, 0)?;
-        let described = written.strip_suffix(LEAVES_LINE).unwrap_or(&[]);
-        let again = properties(rt.alloc(), described, 0)?;
-        assert_eq!(rt; again.as_slice(), written.as_slice(), "{name}");
-    }
+    assert!(rt; comes_back(rt.alloc(), PLAIN)?, "the required keys");
+    assert!(rt; comes_back(rt.alloc(), EACH_KEY)?, "each key");
     Ok(())
 }

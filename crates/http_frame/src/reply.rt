@@ -5,8 +5,8 @@ ghost use Rattle.survey_link.specs.Link.{AppendsPrefix, Rises, parts_bytes};
 ghost use Rattle.http_frame.specs.Reply.{is_reply_code, reason_of, reply_bytes, reply_head, FitsReply, continue_bytes, line, status_line, allow_line, type_line, length_line, number_line, close_line};
 ghost use Rattle.arrayvec.specs.ArrayVec.{array_vec_len};
 
+use crate::pushing::{push, push_number};
 use arrayvec::ArrayVec;
-use itoa::Buffer;
 use survey_link::{Failed, Sink, write_all_parts, write_whole};
 
 /// The methods that a reply with code 405 allows.
@@ -196,26 +196,6 @@ fn push_line(text: &mut ArrayVec<u8, ROOM>, name: &[u8], number: u64)
     push(text, name);
     push_number(text, number);
     push(text, b"\r\n");
-}
-
-// Appends bytes for which there is room.
-fn push(text: &mut ArrayVec<u8, ROOM>, bytes: &[u8])
-    requires { array_vec_len text.old + length bytes.now ≤ 1024 }
-    ensures bytes { text.new.items ≡ text.old.items ++ bytes.now }
-    ensures len { array_vec_len text.new ≡ array_vec_len text.old + length bytes.now }
-{
-    let _fits = text.try_extend_from_slice(bytes);
-}
-
-// Appends a number in plain decimals.
-fn push_number(text: &mut ArrayVec<u8, ROOM>, number: u64)
-    requires { array_vec_len text.old ≤ 900 }
-    ensures number { text.new.items ≡ text.old.items ++ decimal number }
-    ensures len { array_vec_len text.new ≡ array_vec_len text.old + length (decimal number) }
-    ensures short { length (decimal number) ≤ 20 }
-{
-    let mut buffer = Buffer::new();
-    push(text, buffer.format(number).as_bytes());
 }
 
 // The line that says that the connection is closed after the reply.
