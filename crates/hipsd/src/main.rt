@@ -11,6 +11,9 @@ ghost use Rattle.leaf_probe.specs.declared.asked.Probe.{Probe as AskedProbe};
 ghost use Rattle.hipsd_run.specs.declared.command.Command.TheVariants.{Probe as ProbeCommand};
 ghost use Rattle.hipsd_run.specs.Command.{texts, Asks, IsCommand};
 
+mod faults;
+
+use faults::say_fault;
 use hipsd_run::{run, words};
 use log::sink::Console;
 use log::{LevelFilter, Log, Logged};
@@ -51,7 +54,7 @@ where
     let mut doors = tcp_doors(rt, address, DOORS)?;
     let gate = OpenGate::new();
     let mut steps = Steps::new();
-    Ok(run(
+    let status = run(
         rt,
         words,
         &mut source,
@@ -60,7 +63,9 @@ where
         &mut doors,
         &gate,
         &mut steps,
-    ))
+    );
+    say_fault(rt, status, &source, &sink, &shelf);
+    Ok(status)
 }
 
 // Runs the command line.
