@@ -1,7 +1,7 @@
 #!/bin/bash
 # Tries what an operator and an editor use beside the program, as they do: examples/nginx.conf (with openssl, for TLS), edit.sh with
-# its journal, import-hipsgen.py, the service of systemd (by systemd's own verifiers, since systemd isn't running here), the man
-# page (mandoc), scripts/install.sh and what the program says. What it starts it ends, and nothing is written outside a folder of its own.
+# its journal, import-hipsgen.py, what export and verify say of a folder, the service of systemd (by systemd's own verifiers, since systemd isn't running here), the man
+# page (mandoc) and scripts/install.sh. What it starts it ends, and nothing is written outside a folder of its own.
 #
 #     scripts/check-operate.sh [PROGRAM]
 #
@@ -464,6 +464,116 @@ read_together
 stop
 start
 journaled
+
+# ---- the folder
+
+# ran STATUS TEXT WORD: the status of a command in the folder, and a text that stands in what it logs.
+ran() {
+    "$program" "$3" >"$folder/said" 2>"$folder/log"
+    got=$?
+    [ "$got" = "$1" ] || blame "hipsd $3: status $got in place of $1: $(cat "$folder/said" "$folder/log")"
+    grep -qF -- "$2" "$folder/log" || blame "hipsd $3: no '$2' in: $(cat "$folder/log")"
+}
+# written: each file of the folder, when it was written, and its number on the disk.
+written() {
+    find . -type f -printf '%P %T@ %i\n' | sort
+}
+# exports_what_differs: a file that is right stays as it is, so that rsync and backups see what has changed.
+exports_what_differs() {
+    ran 0 ' of 6 files written' export
+    [ "$(cat "$folder/said")" = 'exported 6' ] || blame "hipsd export says $(cat "$folder/said")"
+    written >"$folder/then"
+    ran 0 '0 of 6 files written, the others were right; 0 removed' export
+    [ "$(cat "$folder/said")" = 'exported 6' ] || blame "hipsd export, again, says $(cat "$folder/said")"
+    written | cmp -s "$folder/then" - || blame "an export of what was exported writes: $(written | diff "$folder/then" -)"
+    cp Moc.fits "$folder/moc"
+    rm properties
+    printf x >>Moc.fits
+    # As long as before, and other bytes.
+    printf x | dd of=Norder3/Allsky.fits bs=1 seek=4000 conv=notrunc status=none
+    mkdir -p Norder5/Dir20000 && cp "$leaf" Norder5/Dir20000/Npix20001.fits && cp "$leaf" Norder3/Dir0/Npix5.fits
+    ran 0 '3 of 6 files written, the others were right; 1 removed' export
+    [ "$(cat "$folder/said")" = 'exported 6' ] || blame "hipsd export of three files says $(cat "$folder/said")"
+    cmp -s Moc.fits "$folder/moc" || blame "hipsd export leaves a file that differs"
+    rm -r Norder5/Dir20000
+    mended='^(properties|Moc.fits|Norder3/Allsky.fits) '
+    written | grep -vE "$mended" >"$folder/now"
+    grep -vE "$mended" "$folder/then" | cmp -s - "$folder/now" || blame "hipsd export touches files that were right"
+    "$program" verify >"$folder/said" 2>/dev/null || blame "hipsd verify after an export: $(cat "$folder/said")"
+}
+# no_leaves: files that look like leaves and are none.
+no_leaves() {
+    mkdir -p Norder5/Dir10000 Norder6/Dir0
+    for file in Norder5/Dir0/Npix007.fits Norder5/Dir10000/Npix7.fits Norder5/Dir0/Npix8.fits.gz Norder5/Dir10000/Npix12288.fits; do
+        cp "$leaf" "$file"
+    done
+    : >Norder5/Dir0/Npix8.png
+    : >note.fits
+    cp "$leaf" Norder6/Dir0/Npix1.fits
+    ran 9 'files that look like tiles and are none: 4, as Norder5/Dir' verify
+    grep -qF 'tiles of an order above 5, that of the leaves: 1, as Norder6/Dir0/Npix1.fits' "$folder/log" || blame "a tile that is too deep: $(cat "$folder/log")"
+    rm -r Norder5/Dir0/Npix007.fits Norder5/Dir0/Npix8.* Norder5/Dir10000 Norder6 note.fits
+    "$program" verify >"$folder/said" 2>"$folder/log" || blame "hipsd verify: $(cat "$folder/said")"
+    grep -q WARN "$folder/log" && blame "without such files: $(cat "$folder/log")"
+}
+# refused_leaves: the file of a leaf is refused, and what it looks like is said.
+refused_leaves() {
+    cp "$leaf" "$folder/kept"
+    gzip -c "$folder/kept" >"$leaf"
+    ran 3 "$leaf is no tile of this survey (1 header 1); it has $(wc -c <"$leaf") bytes and looks like gzip" verify
+    printf '\211PNG\r\n\032\n' >"$leaf"
+    ran 3 'it has 8 bytes and looks like a PNG image' verify
+    : >"$leaf"
+    ran 3 'it has 0 bytes and looks like an empty file' verify
+    head -c 3000 "$folder/kept" >"$leaf"
+    ran 3 '(9 truncated 8); it has 3000 bytes and looks like FITS' verify
+    head -c 5760 /dev/zero >"$leaf"
+    ran 3 'it has 5760 bytes and looks like zeros' export
+    cp "$folder/kept" "$leaf"
+}
+# faults: which call failed, where, and what the system answered.
+faults() {
+    rm Moc.fits && mkdir Moc.fits
+    ran 7 "can't read Moc.fits: Is a directory" verify
+    ran 7 "can't read Moc.fits: Is a directory" export
+    rmdir Moc.fits
+    rm -r Norder4/Dir0 && : >Norder4/Dir0
+    ran 7 "can't make the folder Norder4/Dir0: File exists" export
+    rm Norder4/Dir0
+    ln -s loop loop
+    ran 7 "can't look at loop: " verify
+    rm loop
+    "$program" export >/dev/full 2>"$folder/log"
+    [ "$?" = 6 ] || blame "hipsd export with a full standard output: $(cat "$folder/log")"
+    grep -qF "can't write to the standard output: No space left on device" "$folder/log" || blame "a full standard output: $(cat "$folder/log")"
+    "$program" session </ >/dev/null 2>"$folder/log"
+    [ "$?" = 5 ] || blame "hipsd session that reads a folder: $(cat "$folder/log")"
+    grep -qF "can't read the standard input: Is a directory" "$folder/log" || blame "a standard input that is a folder: $(cat "$folder/log")"
+}
+# full_disk: the disk is full at an export, on a small disk of its own, where this may make one.
+full_disk() {
+    mkdir "$folder/disk"
+    if ! unshare -m mount -t tmpfs none "$folder/disk" >/dev/null 2>&1; then
+        echo "check-operate: left out, since no disk of its own can be made here: a full disk at an export"
+        return
+    fi
+    unshare -m /bin/bash -s -- "$folder/disk" "$program" >"$folder/body" 2>&1 <<'SHELL'
+mount -t tmpfs -o size=64k none "$1" && cp -r survey.conf Norder5 "$1" && cd "$1" || exit 1
+"$2" export
+echo "status $?"
+find . -name '*.unfinished'
+SHELL
+    grep -qF "can't write Norder3/Allsky.fits.unfinished: No space left on device" "$folder/body" || blame "a full disk: $(cat "$folder/body")"
+    [ "$(tail -n 1 "$folder/body")" = 'status 7' ] || blame "a full disk: $(cat "$folder/body")"
+}
+mkdir "$folder/shelf" && cd "$folder/shelf" || exit 1
+cp "$folder/survey/survey.conf" . && mkdir -p Norder5/Dir0 && cp "$folder/leaf" "$leaf"
+exports_what_differs
+no_leaves
+refused_leaves
+full_disk
+faults
+cd "$top" || exit 1
 
 # ---- import-hipsgen.py
 

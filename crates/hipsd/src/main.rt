@@ -11,7 +11,10 @@ ghost use Rattle.leaf_probe.specs.declared.asked.Probe.{Probe as AskedProbe};
 ghost use Rattle.hipsd_run.specs.declared.command.Command.TheVariants.{Probe as ProbeCommand};
 ghost use Rattle.hipsd_run.specs.Command.{texts, Asks, IsCommand};
 
-use hipsd_run::{Command, command_for, run, say_version, words};
+mod faults;
+
+use faults::say_fault;
+use hipsd_run::{run, words};
 use log::sink::Console;
 use log::{LevelFilter, Log, Logged, error, warn};
 use parent_rule::Steps;
@@ -56,7 +59,7 @@ where
     let mut doors = tcp_doors(rt, address.as_str(), DOORS)?;
     let gate = OpenGate::new();
     let mut steps = Steps::new();
-    Ok(run(
+    let status = run(
         rt,
         words,
         &mut source,
@@ -65,7 +68,9 @@ where
         &mut doors,
         &gate,
         &mut steps,
-    ))
+    );
+    say_fault(rt, status, &source, &sink, &shelf);
+    Ok(status)
 }
 
 // The address of the doors: the second word; where it is a server's, its place, which is tried before the survey is loaded.

@@ -322,8 +322,8 @@ fn a_survey_is_exported_and_loaded_again(rt: HostRuntime) -> Result<(), Fail> {
     Ok(())
 }
 
-// Loads, exports and verifies while one call fails, counted from the first after the shelf was filled. How far it came: the
-// length of the verdict, or 100, 200 or 300 for the one of the three that failed.
+// Loads, exports twice and verifies while one call fails, counted from the first after the shelf was filled. How far it came:
+// the length of the verdict, or 100, 200, 250 or 300 for the one of the four that failed.
 fn with_one_failing_call<R: Threads + Sync + Clock + Log>(
     rt: &R,
     alloc: Global,
@@ -366,8 +366,21 @@ fn how_exported<R: Clock + Log>(
     generation: &Generation,
 ) -> Result<u64, Fail> {
     match export(rt, alloc, shelf, generation) {
-        Ok(_) => how_compared(rt, alloc, shelf, generation),
+        Ok(_) => how_exported_again(rt, alloc, shelf, generation),
         Err(LinkFault::Failed) => Ok(200),
+        Err(fault) => Err(Fail::from(fault)),
+    }
+}
+
+fn how_exported_again<R: Clock + Log>(
+    rt: &R,
+    alloc: Global,
+    shelf: &mut MemShelf,
+    generation: &Generation,
+) -> Result<u64, Fail> {
+    match export(rt, alloc, shelf, generation) {
+        Ok(_) => how_compared(rt, alloc, shelf, generation),
+        Err(LinkFault::Failed) => Ok(250),
         Err(fault) => Err(Fail::from(fault)),
     }
 }
@@ -406,15 +419,17 @@ fn keeps_its_own(alloc: Global, shelf: &mut MemShelf) -> Result<bool, LinkFault>
     )
 }
 
-// Loading takes three calls: the description, the list, the leaf. Exporting takes seven: the list, a stray to remove, five
-// files to write. Verifying takes six: the list and five files.
+// Loading takes three calls: the description, the list, the leaf. Exporting takes twelve: the list, a stray to remove, and for
+// each of five files one that asks for it and one that puts it. Exporting again takes six, since nothing is put: the list and
+// five files. Verifying takes as many.
 #[test]
 fn one_failing_call_is_told(rt: HostRuntime) -> Result<(), Fail> {
     let alloc = rt.alloc();
-    for call in 0..16 {
+    for call in 0..27 {
         let wanted = match call {
             0..3 => 100,
-            3..10 => 200,
+            3..15 => 200,
+            15..21 => 250,
             _ => 300,
         };
         assert!(rt;
