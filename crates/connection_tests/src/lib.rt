@@ -1,5 +1,5 @@
 //! Tests of whole connections, byte for byte: what is asked as rows of text, what is answered, and how the connection ends;
-//! and of places over a door in memory.
+//! of places over a door in memory, and of connections that share a survey.
 //!
 //! They stand over the finished crates, in a crate of their own: in `hips_http` and `hips_place` these would be proved a
 //! second time.
@@ -15,5 +15,7 @@ mod limits;
 mod places;
 #[cfg(test)]
 mod rows;
+#[cfg(test)]
+mod shared;
 #[cfg(test)]
 mod surveys;

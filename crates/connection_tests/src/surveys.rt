@@ -32,7 +32,11 @@ survey_blank = -32768
 ";
 
 // The first state of the survey with that description, without leaves.
-fn first_state<R: Threads + Sync>(rt: &R, alloc: Global, conf: &str) -> Result<State, Fail>
+pub(crate) fn first_state<R: Threads + Sync>(
+    rt: &R,
+    alloc: Global,
+    conf: &str,
+) -> Result<State, Fail>
     ensures { IfOk result (λ state. state.batches ≡ []) }
 {
     let conf = Arc::new(alloc, Conf::read(alloc, conf.as_bytes())?)?;

@@ -112,13 +112,7 @@ pub fn session_in<
 }
 
 // Serves one connection over a frame, by a board that holds no state; `top` is the order of the survey's leaves.
-fn serve_all<
-    R: Threads + Wait + Sync + Clock + Log,
-    B: Board,
-    S: Source,
-    K: Sink,
-    G: Gate + Sync,
->(
+fn serve_all<R: Threads + Wait + Sync + Clock + Log, B: Board, S: Source, K: Sink, G: Gate + Sync>(
     rt: &R,
     alloc: Global,
     frame: &mut Frame,

@@ -57,7 +57,7 @@ pub fn serve_place<R: Threads + Wait + Sync + Clock + Log, B: Board, D: Door, G:
 ) -> PlaceEnd
     ensures place { AllReturned (D.connections door.old)
         → IsPlace (B.content board.old) (B.content board.new) (D.connections door.old) (D.connections door.new)
-            (counts_of (D.faults door.old) (D.wants door.old)) (counts_of (D.faults door.new) (D.wants door.new)) most result }
+        (counts_of (D.faults door.old) (D.wants door.old)) (counts_of (D.faults door.new) (D.wants door.new)) most result }
     ensures goes { PlaceGoes (B.content board.old) (B.content board.new) most }
     ensures ends_by { EndsBy (counts_of (D.faults door.old) (D.wants door.old)) (counts_of (D.faults door.new) (D.wants door.new)) result }
     ensures steps_never_fall { steps.old ≤ steps.new }

@@ -12,7 +12,7 @@ use Rattle.survey_core.specs.History.{SurveyState, opening_state}
 use Rattle.reader_pin.specs.Board.{BoardContent}
 use Rattle.hips_http.specs.declared.served.SessionEnd.{SessionEnd}
 use Rattle.hips_http.specs.declared.served.SessionEnd.TheVariants.{Closed, Asked, Refused, Cut, Spent, ReadFault, WriteFault, OutOfMemory}
-use Rattle.hips_http.specs.SessionRun.{Exchange, SessionRun, input_of}
+use Rattle.hips_http.specs.SessionRun.{Exchange, SessionRun, HandsOn, input_of}
 use Rattle.survey_commands.specs.Survey.{SaysWhy}
 
 -- ---- the connection
@@ -64,10 +64,11 @@ pub record IsTold (input : List ℕ) (old new : Ends) (exchange : Exchange) : Ty
   pub sink_faults : exchange.sink_faults ≡ old.sink_faults
   pub sink_faults_then : exchange.sink_faults_then ≤ new.sink_faults
 
--- the status is that of the end, and all that was written is handed on; or the sink failed at that
-abbrev pub EndsWith : SessionEnd → ℕ → Ends → Ends → Type 0
-EndsWith end status old new =
-    ((status ≡ end_status end) × (new.handed_on ≡ new.held)) ⊎ ((status ≡ 6) × Rises old.sink_faults new.sink_faults)
+-- the status is that of the end, and all that was written is handed on; or the sink failed at that, and what the connection had
+-- handed on stays
+abbrev pub EndsWith : SessionEnd → ℕ → Exchange → Ends → Ends → Type 0
+EndsWith end status exchange old new = ((status ≡ end_status end) × (new.handed_on ≡ new.held))
+    ⊎ ((status ≡ 6) × Rises old.sink_faults new.sink_faults × HandsOn old.held old.handed_on new.handed_on exchange.handed_on)
 
 -- one connection of the survey was served, whose source had this input
 pub record Serves (survey : OpenedSurvey) (input : List ℕ) (old new : Ends) (status : ℕ) : Type 0 where
@@ -77,7 +78,7 @@ pub record Serves (survey : OpenedSurvey) (input : List ℕ) (old new : Ends) (s
   pub end : SessionEnd
   pub wants : ℕ
   pub run : RunsAlone survey exchange states end wants
-  pub ended : EndsWith end status old new
+  pub ended : EndsWith end status exchange old new
 
 -- the files open as this survey, or as none by this refusal, where they are told
 abbrev pub OpensAs : Option ShelfFiles → OpenedSurvey → Type 0
