@@ -4,9 +4,9 @@ mod Values
 mod Targets
 mod FirstLine
 mod Held
-mod HeadEnds
-mod Fills
+pub mod HeadEnds
+pub mod Fills
 mod ReadingSteps
-mod Nexts
-mod Unique
+pub mod Nexts
+pub mod Unique
 mod Stands
