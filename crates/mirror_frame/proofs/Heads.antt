@@ -1,5 +1,5 @@
 -- What a head that was read says, where another reading of it is known.
-use Rattle.std.proofs.Common.{◌≡◌, ℕ, Option, Some, None, sym, ap, subst}
+use Rattle.std.proofs.Common.{◌≡◌, Option, Some, None, sym, ap, subst}
 use Rattle.std.specs.Prelude.{⊤}
 use Rattle.mirror_frame.specs.Reply.{FitsPrefix}
 use Rattle.mirror_frame.specs.declared.due.Due.{Due}

@@ -1,12 +1,9 @@
 -- A line that is a number in plain decimals, and one that tells which state was pinned.
-use Rattle.std.proofs.Common.{◌≡◌, ℕ, List, [], ◌∷◌, ◌++◌, length, true, Bool, Option, sym, ap, ◌∙◌, ◌-◌, ◌+◌, drop, take}
-use Rattle.std.specs.Prelude.{IsTrue, ◌↔◌, Some, None, MatchOption, ◌==◌, false}
+use Rattle.std.proofs.Common.{◌≡◌, ℕ, List, [], ◌∷◌, ◌++◌, Bool, sym, ap, ◌∙◌}
+use Rattle.std.specs.Prelude.{IsTrue}
 use Rattle.std.specs.Str.{bytes_eq}
-use Rattle.std.specs.Cmp.Lexicographic.{pointwise}
-use Rattle.std.specs.Borrow.{Bor}
 use Rattle.std.proofs.lemmas.List.{append_cancel_left, append_cancel_right}
-use Rattle.std.proofs.lemmas.Slice.Eq.{strip_prefix_is, strip_suffix_is, bytes_eq-Decides}
-use Rattle.std.proofs.lemmas.Bool.Decides.{Decides-eqb}
+use Rattle.std.proofs.lemmas.Slice.Eq.{bytes_eq-Decides}
 
 -- the line is what stands before its end, and the end
 pub line_is : (line digits number : List ℕ) (r : Bool) → line ≡ digits ++ 10 ∷ [] → r ≡ bytes_eq digits number → (IsTrue r → line ≡ number ++ 10 ∷ []) × (line ≡ number ++ 10 ∷ [] → IsTrue r)

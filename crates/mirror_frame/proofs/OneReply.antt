@@ -1,10 +1,9 @@
 -- One reply stands first in unread bytes.
-use Rattle.std.proofs.Common.{◌≡◌, ℕ, ◌+◌, ◌<◌, ◌≤◌, ◌⊎◌, inl, inr, List, [], ◌++◌, length, take, drop, Option, Some, None, refl, sym, ap, ◌∙◌, arith, length-append}
+use Rattle.std.proofs.Common.{◌≡◌, ℕ, inl, inr, List, [], ◌++◌, length, take, drop, Option, Some, None, sym, ap, ◌∙◌, arith, length-append}
 use Rattle.std.proofs.lemmas.List.{append_cancel_left, take-append-le, take_all}
 use Rattle.httparse.proofs.GrammarLemmas.{response_unique}
-use Rattle.httparse.specs.Grammar.{ResponseHead}
 use Rattle.http_frame.proofs.Unique.{one_length, has_head}
-use Rattle.mirror_frame.specs.Reply.{SaysReply, BeginsReply, IsReply, IsCutReply, IsWrongReply, FitsBody, stated_length, stated_prefix, fields_of}
+use Rattle.mirror_frame.specs.Reply.{SaysReply, BeginsReply, IsReply, IsCutReply, IsWrongReply, stated_length, stated_prefix, fields_of}
 use Rattle.mirror_frame.specs.Laws.{StandsAlone}
 use Rattle.mirror_frame.specs.declared.due.Due.{Due}
 

@@ -1,13 +1,12 @@
 -- A reply that stands first in the bytes that are held and those that are left.
-use Rattle.std.proofs.Common.{◌≡◌, ℕ, ◌+◌, ◌-◌, ◌<◌, ◌≤◌, ◌⊎◌, inl, inr, List, [], ◌++◌, length, take, drop, Option, Some, None, refl, sym, ap, ◌∙◌, subst, arith, append_assoc, length-append}
+use Rattle.std.proofs.Common.{◌≡◌, ℕ, ◌+◌, ◌-◌, ◌≤◌, inl, inr, List, [], ◌++◌, length, take, drop, Option, Some, None, refl, ap, ◌∙◌, subst, arith, append_assoc, length-append}
 use Rattle.std.specs.Prelude.{IfSome, IsSomeAnd, IsSome, Result, Ok, Err, IfOk, IfErr, OnOk}
-use Rattle.std.specs.Io.KnownBytes.{Consumes}
 use Rattle.std.proofs.lemmas.List.{take-append-le, drop-append-le, append-nil, take_all}
-use Rattle.http_frame.specs.Next.{head_end, most_head, IsHeadLength, HasNoHead, NeedsMore}
+use Rattle.http_frame.specs.Next.{head_end, most_head, IsHeadLength, HasNoHead}
 use Rattle.http_frame.specs.Fill.{Takes}
 use Rattle.http_frame.proofs.Fills.{occurs_in_front, takes_none}
 use Rattle.http_frame.proofs.Nexts.{head_length_of_more, text_of_more, same_bytes}
-use Rattle.mirror_frame.specs.Reply.{BeginsReply, IsReply, IsCutReply, IsCutInBody, IsWrongReply, IsWrongBody, FitsPrefix, FitsBody, pinned_line}
+use Rattle.mirror_frame.specs.Reply.{BeginsReply, IsReply, IsCutReply, IsWrongReply, FitsPrefix, FitsBody, pinned_line}
 use Rattle.mirror_frame.specs.Reading.{StopsBegin, StopsReply, CutsBody, unread}
 use Rattle.mirror_frame.specs.declared.due.Due.{Due}
 use Rattle.mirror_frame.specs.declared.due.Due.TheVariants.{Pinned}
@@ -163,6 +162,11 @@ module _ (due : Due) (held body rest : List ℕ) (left left' : Option (List ℕ)
   judged_stop (Ok p) wrong = tt
   judged_stop (Err stop) wrong =
       rw wrong.0 (wrong_body due held held body rest left left left' n prefix (takes_none held left) begins_body wrong.1 behind)
+
+pub judged_fits : (due : Due) (body : List ℕ) (prefix : Option ℕ) (r : Result (Option ℕ) Stop) → FitsPrefix due prefix → IfOk r (λ p. (p ≡ prefix) × FitsBody due prefix body)
+    → IfOk r (FitsPrefix due)
+judged_fits due body prefix (Err stop) fits told = tt
+judged_fits due body prefix (Ok p) fits told = rw told.0 fits
 
 pub judged_pinned : (due : Due) (body : List ℕ) (prefix : Option ℕ) (r : Result (Option ℕ) Stop) → FitsPrefix due prefix → IfOk r (λ p. (p ≡ prefix) × FitsBody due prefix body)
     → due ≡ Pinned → IfOk r (λ p. IsSome p × IfSome p (λ k. body ≡ pinned_line k))

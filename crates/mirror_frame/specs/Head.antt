@@ -1,5 +1,5 @@
 -- Where the parts of a response's head stand.
-use Rattle.std.specs.Prelude.{◌≡◌, ℕ, ◌≤◌, List, [], length}
+use Rattle.std.specs.Prelude.{ℕ, ◌≤◌, List, [], length}
 use Rattle.httparse.specs.declared.spans.HeaderSpan.{HeaderSpan}
 use Rattle.httparse.specs.declared.spans.ResponseSpans.{ResponseSpans}
 use Rattle.httparse.specs.Grammar.{ResponseHead, ReadsResponse}

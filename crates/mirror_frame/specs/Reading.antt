@@ -1,10 +1,10 @@
 -- What reading one reply does, as its steps say it.
-use Rattle.std.specs.Prelude.{◌≡◌, ℕ, ◌<◌, ◌≤◌, List, ◌++◌, length, take, drop, Option, Result, Ok, Err, IfSome, IsSomeAnd, ⊤}
+use Rattle.std.specs.Prelude.{ℕ, ◌<◌, ◌≤◌, List, length, Option, ⊤}
 use Rattle.std.specs.Io.KnownBytes.{prepend_known, IsAtEnd}
 use Rattle.survey_link.specs.Link.{Rises}
-use Rattle.http_frame.specs.Next.{IsHeadLength, HasNoHead, NeedsMore, most_head}
+use Rattle.http_frame.specs.Next.{HasNoHead, NeedsMore, most_head}
 use Rattle.http_frame.specs.Fill.{Takes}
-use Rattle.mirror_frame.specs.Reply.{IsReply, IsCutReply, IsWrongReply}
+use Rattle.mirror_frame.specs.Reply.{IsCutReply, IsWrongReply}
 use Rattle.mirror_frame.specs.declared.due.Due.{Due}
 use Rattle.mirror_frame.specs.declared.reading.Stop.{Stop}
 use Rattle.mirror_frame.specs.declared.reading.Stop.TheVariants.{Wrong, Cut, ReadFault, OutOfMemory}

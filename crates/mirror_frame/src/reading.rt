@@ -69,6 +69,7 @@ pub fn read_reply<S: Source>(src: &mut S, inbox: &mut Inbox, due: Due) -> Result
     requires { length inbox.old.held.items ≤ most_head }
     ensures read { OnOk result (IfSome (unread inbox.old.held.items (S.left src.old)) (λ bytes.
         IsSomeAnd (unread inbox.new.held.items (S.left src.new)) (λ rest. IsReply due bytes inbox.new.body.items rest))) }
+    ensures fits { IfOk result (FitsPrefix due) }
     ensures pinned { due ≡ Pinned → IfOk result (λ prefix. IsSome prefix × IfSome prefix (λ k. inbox.new.body.items ≡ pinned_line k)) }
     ensures stop { IfErr result (λ stop. IfSome (unread inbox.old.held.items (S.left src.old)) (λ bytes. StopsReply due bytes stop)) }
     ensures failed { IsErrOf result Stop.ReadFault → Rises (S.faults src.old) (S.faults src.new) }
@@ -93,6 +94,7 @@ fn finish_reply<S: Source>(
     requires most { length inbox.old.held.items ≤ most_head }
     ensures read { OnOk result (IfSome (unread inbox.old.held.items (S.left src.old)) (λ bytes.
         IsSomeAnd (unread inbox.new.held.items (S.left src.new)) (λ rest. IsReply due bytes inbox.new.body.items rest))) }
+    ensures fits { IfOk result (FitsPrefix due) }
     ensures pinned { due ≡ Pinned → IfOk result (λ prefix. IsSome prefix × IfSome prefix (λ k. inbox.new.body.items ≡ pinned_line k)) }
     ensures stop { IfErr result (λ stop. IfSome (unread inbox.old.held.items (S.left src.old)) (λ bytes. StopsReply due bytes stop)) }
     ensures failed { IsErrOf result Stop.ReadFault → Rises (S.faults src.old) (S.faults src.new) }

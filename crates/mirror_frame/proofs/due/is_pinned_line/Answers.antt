@@ -1,4 +1,3 @@
-use Rattle.std.proofs.Common.{rules, sym, ◌∙◌}
 use Rattle.std.specs.Prelude.{Some, None, [], ◌∷◌, codes, decimal, ◌++◌}
 use Rattle.std.proofs.lemmas.Slice.Eq.{strip_prefix_is}
 use Rattle.std.proofs.lemmas.Bool.{false≢true}

@@ -1,4 +1,4 @@
-use Rattle.std.proofs.Common.{arith, refl, ◌≡◌, ◌+◌, length, take}
+use Rattle.std.proofs.Common.{arith, refl, ◌≡◌, ◌+◌, take}
 use Rattle.std.proofs.lemmas.List.{length-take-le}
 use Rattle.http_frame.proofs.Fills.{takes_both}
 use Rattle.mirror_frame.proofs.reading.fill.Goals as goal

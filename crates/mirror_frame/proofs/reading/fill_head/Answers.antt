@@ -1,4 +1,4 @@
-use Rattle.std.proofs.Common.{arith, refl, ◌≡◌}
+use Rattle.std.proofs.Common.{arith, refl}
 use Rattle.http_frame.specs.Next.{NeedsMore}
 use Rattle.http_frame.proofs.Fills.{takes_both, searched_before}
 use Rattle.mirror_frame.proofs.reading.fill_head.Goals as goal

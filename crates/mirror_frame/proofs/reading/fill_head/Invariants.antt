@@ -1,4 +1,4 @@
-use Rattle.std.proofs.Common.{◌≡◌, ◌-◌, ◌≤◌, length}
+use Rattle.std.proofs.Common.{◌-◌, ◌≤◌, length}
 use Rattle.memchr.specs.Find.{OccursAt, Nowhere}
 use Rattle.http_frame.specs.Next.{head_end, most_head}
 use Rattle.http_frame.specs.Fill.{Takes}

@@ -1,4 +1,4 @@
-use Rattle.std.proofs.Common.{arith, refl, ◌≡◌, ◌+◌, [], sym, ap, ◌∙◌, subst}
+use Rattle.std.proofs.Common.{arith, refl, ◌≡◌, ◌+◌, [], sym, ◌∙◌, subst}
 use Rattle.std.proofs.lemmas.List.{append-nil}
 use Rattle.http_frame.specs.Next.{NeedsMore}
 use Rattle.http_frame.proofs.Fills.{consumes_none}

@@ -1,8 +1,5 @@
-use Rattle.std.proofs.Common.{refl}
-use Rattle.std.specs.Prelude.{IsSomeAnd}
 use Rattle.http_frame.proofs.Nexts.{keeps_unread}
-use Rattle.mirror_frame.specs.Reply.{IsReply}
-use Rattle.mirror_frame.specs.Reading.{StopsReply, unread}
+use Rattle.mirror_frame.specs.Reading.{StopsReply}
 use Rattle.mirror_frame.proofs.Replies.{lift_ok, lift_err, stops_begun}
 use Rattle.mirror_frame.proofs.reading.read_reply.Goals as goal
 
