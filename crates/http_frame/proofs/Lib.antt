@@ -4,7 +4,7 @@ mod Values
 mod Targets
 mod FirstLine
 mod Held
-pub mod HeadEnds
+mod HeadEnds
 pub mod Fills
 mod ReadingSteps
 pub mod Nexts
