@@ -5,8 +5,8 @@ mod Targets
 mod FirstLine
 mod Held
 mod HeadEnds
-mod Fills
+pub mod Fills
 mod ReadingSteps
-mod Nexts
-mod Unique
+pub mod Nexts
+pub mod Unique
 mod Stands

@@ -13,7 +13,7 @@ pub const MAX_FIELDS: usize = 64;
 
 /// The fields of a head: its bytes, and where in them each name and each value stands.
 #[derive(Drop)]
-pub(crate) struct Fields<'a> {
+pub struct Fields<'a> {
     head: &'a [u8],
     spans: &'a [HeaderSpan],
 }

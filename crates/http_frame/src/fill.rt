@@ -73,7 +73,7 @@ fn read_more<S: Source>(buffer: &mut Buffer, src: &mut S) -> Result<(), Stop>
 }
 
 /// The length of the head that the held bytes begin with, of which the first `searched` have no end of a head.
-pub(crate) fn head_length(held: &[u8], searched: usize) -> Option<usize>
+pub fn head_length(held: &[u8], searched: usize) -> Option<usize>
     requires most { length held.now ≤ most_head }
     requires searched { searched ≤ length held.now }
     requires none { Nowhere (OccursAt held.now head_end) 0 (searched - 3) }

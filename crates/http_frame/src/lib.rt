@@ -17,10 +17,11 @@ mod stop;
 mod target;
 mod text;
 
-pub use fields::MAX_FIELDS;
-pub use fill::MAX_HEAD;
+pub use fields::{Fields, MAX_FIELDS};
+pub use fill::{MAX_HEAD, head_length};
 pub use frame::Frame;
 pub use pushing::{push, push_number};
 pub use reply::{Allow, Kind, Number, Reply, write_continue, write_reply, write_reply_parts};
 pub use request::{Method, Request, Tags};
 pub use stop::{Stop, Turn};
+pub use text::digits;

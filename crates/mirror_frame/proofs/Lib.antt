@@ -1,0 +1,5 @@
+mod Held
+mod Lines
+mod Heads
+mod Replies
+mod OneReply

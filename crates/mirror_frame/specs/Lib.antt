@@ -1,0 +1,5 @@
+pub mod Requests
+pub mod Reply
+pub mod Head
+pub mod Reading
+pub mod Laws

@@ -1,0 +1,5 @@
+//! Tests of `mirror_frame`, over the finished crate: in it they would have it proved a second time.
+#![tactic(auto)]
+
+#[cfg(test)]
+mod tests;
