@@ -23,7 +23,7 @@ use Rattle.tile_pixels.specs.StoredLaws.{length-numbers_from, get_or-numbers_fro
 use Rattle.tile_pixels.specs.Tile.{PixelTile, HasShape}
 use Rattle.tile_pixels.specs.Merge.{Shows}
 use Rattle.allsky_mosaic.specs.Mosaic.{side_of, place_pixel, mosaic_number, mosaic_count, mosaic}
-use Rattle.allsky_mosaic.specs.Tiles.{AreOfOrder3, IsSurvey, IsMosaic, ShowsCell, order_3, leaves_of}
+use Rattle.allsky_mosaic.specs.Tiles.{AreOfOrder3, IsSurvey, IsMosaic, ShowsCell, order_3, leaf_map}
 use Rattle.allsky_mosaic.specs.Cells.{ShowsSquare, ShowCells, ShowBands, pixel_or_blank}
 
 -- ---- where a number of a band stands in the mosaic
@@ -154,7 +154,7 @@ leaf_pixel depth n cell column line (Some t) small column_in line_in has =
     ∙ ap (λ (x : ℕ). get_or t.numbers ((2 ^ n - 1 - line_of (z_order column line)) * 2 ^ n + x) depth.blank) (sym c)
 
 -- tiles show the cells of the pyramid of which they are the leaves
-pub cells_of_tiles : (depth : PixelDepth) (n : ℕ) (tiles : List (ℕ × PixelTile)) → n ≤ 9 → AreOfOrder3 depth n tiles → ShowCells (order_3 depth n) (leaves_of tiles) tiles
+pub cells_of_tiles : (depth : PixelDepth) (n : ℕ) (tiles : List (ℕ × PixelTile)) → n ≤ 9 → AreOfOrder3 depth n tiles → ShowCells (order_3 depth n) (leaf_map tiles) tiles
 cells_of_tiles depth n tiles small are cell h column line column_in line_in =
     let shape : PyramidShape = order_3 depth n in
     let z : ℕ = z_order column line in
@@ -162,6 +162,6 @@ cells_of_tiles depth n tiles small are cell h column line column_in line_in =
     let q : ℕ = cell * 4 ^ n + z in
     leaf_pixel depth n cell column line (value_at cell tiles) small column_in line_in (IfSome-lookup_from_All (λ t. HasShape t depth n) (is_at (nat_cmp cell)) tiles are.shapes)
     ∙ ap (λ (ns : Option (List ℤ)). pixel_of shape ns z) (sym (lookup-map_values (λ t. t.numbers) (is_at (nat_cmp cell)) tiles))
-    ∙ ap (λ (k : ℕ). pixel_of shape (leaf_numbers (leaves_of tiles) k) z) (sym (div-mul-add cell (4 ^ n) z z_in))
-    ∙ ap (λ (k : ℕ). pixel_of shape (leaf_numbers (leaves_of tiles) (q / 4 ^ n)) k) (sym (mod-mul-add cell (4 ^ n) z z_in))
-    ∙ sym (value_pixel shape (leaves_of tiles) (3 + n) q refl)
+    ∙ ap (λ (k : ℕ). pixel_of shape (leaf_numbers (leaf_map tiles) k) z) (sym (div-mul-add cell (4 ^ n) z z_in))
+    ∙ ap (λ (k : ℕ). pixel_of shape (leaf_numbers (leaf_map tiles) (q / 4 ^ n)) k) (sym (mod-mul-add cell (4 ^ n) z z_in))
+    ∙ sym (value_pixel shape (leaf_map tiles) (3 + n) q refl)

@@ -11,7 +11,7 @@ use Rattle.tile_pixels.specs.Tile.{PixelTile}
 use Rattle.tile_pixels.specs.Stored.{stored_at}
 use Rattle.tile_pixels.specs.StoredLaws.{get_or-numbers_from, number_from-part}
 use Rattle.allsky_mosaic.specs.Mosaic.{side_of, place_pixel, mosaic_number, mosaic_count, mosaic}
-use Rattle.allsky_mosaic.specs.Tiles.{IsSurvey, IsMosaic, order_3, leaves_of}
+use Rattle.allsky_mosaic.specs.Tiles.{IsSurvey, IsMosaic, order_3, leaf_map}
 use Rattle.allsky_mosaic.specs.Patch.{WasMosaicOf, WasMosaic}
 use Rattle.allsky_mosaic.specs.Cells.{ShowCells, ShowBands, ShowsPlace, band_number, number_in_place}
 use Rattle.allsky_mosaic.proofs.BandLemmas.{in_band}
@@ -54,9 +54,9 @@ pub untouched_shows : (shape : PyramidShape) (leaves : LeafMap) (depth : PixelDe
 untouched_shows shape leaves depth n touched tiles bytes before place small was survey show place_in untouched t column t_in column_in =
     let other : PyramidShape = order_3 depth n in
     let survey_other : IsSurvey depth n other = record { depth_is = refl; n_is = refl; top = omega arith } in
-    let show_other : ShowCells other (leaves_of before) before = cells_of_tiles depth n before small was.tiles in
-    mosaic_shows other (leaves_of before) depth n bytes place survey_other was.mosaic place_in t column t_in column_in
-    ∙ same_place shape leaves other (leaves_of before) depth n tiles before place column (side_of n - 1 - t) small survey survey_other show show_other (was.agrees place untouched) column_in (omega arith)
+    let show_other : ShowCells other (leaf_map before) before = cells_of_tiles depth n before small was.tiles in
+    mosaic_shows other (leaf_map before) depth n bytes place survey_other was.mosaic place_in t column t_in column_in
+    ∙ same_place shape leaves other (leaf_map before) depth n tiles before place column (side_of n - 1 - t) small survey survey_other show show_other (was.agrees place untouched) column_in (omega arith)
 
 -- all places are all bands
 pub bands_of_places : (shape : PyramidShape) (leaves : LeafMap) (depth : PixelDepth) (n : ℕ) (bytes : List ℕ) → IsSurvey depth n shape → ((place : ℕ) → place < 783 → ShowsPlace depth n shape leaves place bytes) → ShowBands shape leaves 28 29 bytes

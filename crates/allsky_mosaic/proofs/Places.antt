@@ -14,14 +14,14 @@ use Rattle.leaf_store.specs.Store.{value_at}
 use Rattle.pyramid_model.specs.Shape.{PyramidShape, LeafMap}
 use Rattle.pyramid_model.specs.Value.{value}
 use Rattle.tile_pixels.specs.Tile.{PixelTile, HasShape, pixel_in}
-use Rattle.allsky_mosaic.specs.Mosaic.{levels_of, side_of, place_pixel}
+use Rattle.allsky_mosaic.specs.Mosaic.{cell_levels, side_of, place_pixel}
 use Rattle.allsky_mosaic.specs.Tiles.{AreOfOrder3, IsSurvey}
 use Rattle.allsky_mosaic.specs.Cells.{ShowsSquare, ShowCells, pixel_or_blank, band_number}
 use Rattle.allsky_mosaic.proofs.Halving.{blank_above}
 
 -- a pixel of a place that is a cell of order 3, and of one past them
 pub place_in : (shape : PyramidShape) (leaves : LeafMap) (place column line : ℕ) → place < 768
-    → place_pixel shape leaves place column line ≡ value shape leaves (3 + levels_of shape.n) (place * 4 ^ levels_of shape.n + z_order column line)
+    → place_pixel shape leaves place column line ≡ value shape leaves (3 + cell_levels shape.n) (place * 4 ^ cell_levels shape.n + z_order column line)
 place_in shape leaves place column line h = let test : nat_lt place 768 ≡ true = grind (arith, nat_tests) in rw test refl
 
 pub place_past : (shape : PyramidShape) (leaves : LeafMap) (place column line : ℕ) → 768 ≤ place → place_pixel shape leaves place column line ≡ shape.depth.blank
@@ -66,19 +66,19 @@ none_shown shape leaves depth n cell tiles column line small survey show absent 
       | inl h ↦
           let P : Option PixelTile → Type 0 = λ v. ShowsSquare shape leaves cell shape.n (pixel_or_blank shape.depth.blank v) in
           let at : ShowsSquare shape leaves cell shape.n (pixel_or_blank shape.depth.blank None) = subst P (sym absent) (show cell h) in
-          let above = blank_above shape leaves cell shape.n (levels_of shape.n) (omega arith) (omega arith) refl survey.top (λ column line column_in line_in. at column line column_in line_in) in
+          let above = blank_above shape leaves cell shape.n (cell_levels shape.n) (omega arith) (omega arith) refl survey.top (λ column line column_in line_in. at column line column_in line_in) in
           blank ∙ above column line (rw n_is column_in) (rw n_is line_in) ∙ sym (place_in shape leaves cell column line h)
       | inr past ↦ blank ∙ sym (place_past shape leaves cell column line past)
     ]
 
 -- those of one with a tile are its square's
 pub some_shown : (shape : PyramidShape) (leaves : LeafMap) (depth : PixelDepth) (n cell bits col t column : ℕ) (band : List ℕ) → IsSurvey depth n shape → cell < 768
-    → ShowsSquare shape leaves cell (levels_of n) (λ column line. band_number bits (side_of n) band col (side_of n - 1 - line) column) → t < side_of n → column < side_of n
+    → ShowsSquare shape leaves cell (cell_levels n) (λ column line. band_number bits (side_of n) band col (side_of n - 1 - line) column) → t < side_of n → column < side_of n
     → band_number bits (side_of n) band col t column ≡ place_pixel shape leaves cell column (side_of n - 1 - t)
 some_shown shape leaves depth n cell bits col t column band survey h shows t_in column_in =
     let back : side_of n - 1 - (side_of n - 1 - t) ≡ t = omega arith in
     ap (λ (k : ℕ). band_number bits (side_of n) band col k column) (sym back) ∙ shows column (side_of n - 1 - t) column_in (omega arith)
-    ∙ ap (λ (k : ℕ). value shape leaves (3 + levels_of k) (cell * 4 ^ levels_of k + z_order column (side_of n - 1 - t))) (sym survey.n_is)
+    ∙ ap (λ (k : ℕ). value shape leaves (3 + cell_levels k) (cell * 4 ^ cell_levels k + z_order column (side_of n - 1 - t))) (sym survey.n_is)
     ∙ sym (place_in shape leaves cell column (side_of n - 1 - t) h)
 
 -- one square more is written

@@ -8,7 +8,7 @@ use Rattle.parent_rule.specs.Depth.{PixelDepth}
 use Rattle.pyramid_model.specs.Shape.{PyramidShape, LeafMap}
 use Rattle.pyramid_model.specs.Value.{value}
 use Rattle.tile_pixels.specs.Tile.{PixelTile}
-use Rattle.allsky_mosaic.specs.Mosaic.{levels_of, side_of, place_pixel}
+use Rattle.allsky_mosaic.specs.Mosaic.{cell_levels, side_of, place_pixel}
 use Rattle.allsky_mosaic.specs.Tiles.{IsSurvey}
 use Rattle.allsky_mosaic.specs.Cells.{ShowsSquare, ShowCells, pixel_or_blank}
 use Rattle.allsky_mosaic.proofs.Halving.{halved_shows}
@@ -43,9 +43,9 @@ same_up shape leaves other others cell levels (suc more) small above above_other
 
 -- so two surveys that show the same pixels of a cell have the same values above them
 same_cell : (shape : PyramidShape) (leaves : LeafMap) (other : PyramidShape) (others : LeafMap) (depth : PixelDepth) (n cell : ℕ) (pixel : ℕ → ℕ → ℤ) → n ≤ 9 → IsSurvey depth n shape → IsSurvey depth n other
-    → ShowsSquare shape leaves cell n pixel → ShowsSquare other others cell n pixel → ShowsSquare other others cell (levels_of n) (value_square shape leaves cell (levels_of n))
+    → ShowsSquare shape leaves cell n pixel → ShowsSquare other others cell n pixel → ShowsSquare other others cell (cell_levels n) (value_square shape leaves cell (cell_levels n))
 same_cell shape leaves other others depth n cell pixel small survey survey_other shows shows_other =
-    let levels : ℕ = levels_of n in
+    let levels : ℕ = cell_levels n in
     let e : levels + (n - levels) ≡ n = omega arith in
     let same : shape.depth ≡ other.depth = survey.depth_is ∙ sym survey_other.depth_is in
     let n_is : shape.n ≡ n = survey.n_is in
@@ -66,9 +66,9 @@ shown_by shape leaves depth n cell tiles found survey show within is =
     subst R survey.n_is (subst Q survey.depth_is (subst P is (show cell within)))
 
 -- a place of the mosaic, by the values of a survey's cell
-place_value : (shape : PyramidShape) (leaves : LeafMap) (n place column line : ℕ) → shape.n ≡ n → place < 768 → place_pixel shape leaves place column line ≡ value_square shape leaves place (levels_of n) column line
+place_value : (shape : PyramidShape) (leaves : LeafMap) (n place column line : ℕ) → shape.n ≡ n → place < 768 → place_pixel shape leaves place column line ≡ value_square shape leaves place (cell_levels n) column line
 place_value shape leaves n place column line is within =
-    place_in shape leaves place column line within ∙ ap (λ (k : ℕ). value shape leaves (3 + levels_of k) (place * 4 ^ levels_of k + z_order column line)) is
+    place_in shape leaves place column line within ∙ ap (λ (k : ℕ). value shape leaves (3 + cell_levels k) (place * 4 ^ cell_levels k + z_order column line)) is
 
 -- where the tiles of a place agree, so do the pixels of the mosaic
 pub same_place : (shape : PyramidShape) (leaves : LeafMap) (other : PyramidShape) (others : LeafMap) (depth : PixelDepth) (n : ℕ) (tiles before : List (ℕ × PixelTile)) (place column line : ℕ) → n ≤ 9

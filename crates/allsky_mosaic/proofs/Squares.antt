@@ -3,7 +3,7 @@ use Rattle.std.proofs.Common.{◌≡◌, ℕ, ◌+◌, ◌-◌, ◌*◌, ◌^◌
 use Rattle.std.proofs.lemmas.Nat.{mul-add-lt, pow_pos}
 use Rattle.std.proofs.lemmas.List.{take_at}
 use Rattle.parent_rule.specs.Depth.{PixelDepth}
-use Rattle.allsky_mosaic.specs.Mosaic.{levels_of, side_of}
+use Rattle.allsky_mosaic.specs.Mosaic.{cell_levels, side_of}
 use Rattle.healpix_nested.specs.PlaceLaws.{square_of_side}
 use Rattle.pyramid_model.specs.Shape.{PyramidShape, LeafMap}
 use Rattle.tile_pixels.specs.Stored.{numbers_from, stored_at}
@@ -48,9 +48,9 @@ pub raw_shown : (shape : PyramidShape) (leaves : LeafMap) (cell n col side : ℕ
     → numbers_from tile.depth.bitpix (4 ^ tile.n) raw ≡ tile.numbers
     → ((t column : ℕ) → t < side → column < side → band_number depth.bitpix side band col t column ≡ stored_at depth.bitpix raw (t * side + column))
     → ShowsSquare shape leaves cell n (pixel_in tile)
-    → ShowsSquare shape leaves cell (levels_of n) (λ column line. band_number depth.bitpix (side_of n) band col (side_of n - 1 - line) column)
+    → ShowsSquare shape leaves cell (cell_levels n) (λ column line. band_number depth.bitpix (side_of n) band col (side_of n - 1 - line) column)
 raw_shown shape leaves cell n col side depth tile raw band has small side_is is written shows column line column_in line_in =
-    let levels : levels_of n ≡ n = omega arith in
+    let levels : cell_levels n ≡ n = omega arith in
     let side_n : side_of n ≡ 2 ^ n = ap (λ (k : ℕ). 2 ^ k) levels in
     let tile_side : 2 ^ tile.n ≡ side_of n = ap (λ (k : ℕ). 2 ^ k) has.1 ∙ sym side_n in
     let P : ℕ → Type 0 = λ k. ShowsSquare shape leaves cell k (pixel_in tile) in
@@ -65,8 +65,8 @@ raw_shown shape leaves cell n col side depth tile raw band has small side_is is 
 pub halved_shown : (shape : PyramidShape) (leaves : LeafMap) (cell n col bits : ℕ) (square band : List ℕ) → 7 ≤ n
     → ((t column : ℕ) → t < 64 → column < 64 → band_number bits 64 band col t column ≡ stored_at bits square (t * 64 + column))
     → ShowsSquare shape leaves cell 6 (square_number bits 64 square)
-    → ShowsSquare shape leaves cell (levels_of n) (λ column line. band_number bits (side_of n) band col (side_of n - 1 - line) column)
+    → ShowsSquare shape leaves cell (cell_levels n) (λ column line. band_number bits (side_of n) band col (side_of n - 1 - line) column)
 halved_shown shape leaves cell n col bits square band large written shows =
-    let levels : 6 ≡ levels_of n = omega arith in
+    let levels : 6 ≡ cell_levels n = omega arith in
     let P : ℕ → Type 0 = λ k. ShowsSquare shape leaves cell k (λ column line. band_number bits (2 ^ k) band col (2 ^ k - 1 - line) column) in
     subst P levels (λ column line column_in line_in. written (64 - 1 - line) column (omega arith) column_in ∙ shows column line column_in line_in)

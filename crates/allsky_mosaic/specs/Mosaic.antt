@@ -8,11 +8,11 @@ use Rattle.pyramid_model.specs.Shape.{PyramidShape, LeafMap}
 use Rattle.pyramid_model.specs.Value.{value}
 
 -- a cell of it has 2^levels columns and lines: those of a tile of 2^n, and at most 64
-abbrev pub levels_of : ℕ → ℕ
-levels_of n = min n 6
+abbrev pub cell_levels : ℕ → ℕ
+cell_levels n = min n 6
 
 abbrev pub side_of : ℕ → ℕ
-side_of n = 2 ^ levels_of n
+side_of n = 2 ^ cell_levels n
 
 -- 27 cells stand side by side, in 29 rows
 abbrev pub width_of : ℕ → ℕ
@@ -25,7 +25,7 @@ height_of n = 29 * side_of n
 -- the number, and blank in a place past the cells of order 3
 abbrev pub place_pixel : PyramidShape → LeafMap → ℕ → ℕ → ℕ → ℤ
 place_pixel shape leaves place column line =
-    if nat_lt place (cell_count 3) then value shape leaves (3 + levels_of shape.n) (place * 4 ^ levels_of shape.n + z_order column line)
+    if nat_lt place (cell_count 3) then value shape leaves (3 + cell_levels shape.n) (place * 4 ^ cell_levels shape.n + z_order column line)
     else shape.depth.blank
 
 -- the pixel in a column and a line of the mosaic, both counted from 0 at the top left

@@ -19,8 +19,8 @@ pub record AreOfOrder3 (depth : PixelDepth) (n : ℕ) (tiles : List (ℕ × Pixe
 abbrev pub order_3 : PixelDepth → ℕ → PyramidShape
 order_3 depth n = record { top = 3; low = 3; n = n; depth = depth }
 
-abbrev pub leaves_of : List (ℕ × PixelTile) → LeafMap
-leaves_of tiles = map (λ tile. (tile.0, tile.1.numbers)) tiles
+abbrev pub leaf_map : List (ℕ × PixelTile) → LeafMap
+leaf_map tiles = map (λ tile. (tile.0, tile.1.numbers)) tiles
 
 -- a survey whose tiles have that depth and size
 pub record IsSurvey (depth : PixelDepth) (n : ℕ) (shape : PyramidShape) : Type 0 where

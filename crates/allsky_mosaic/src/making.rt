@@ -2,7 +2,7 @@
 ghost use Rattle.std.specs.Prelude.{◌≡◌, ℕ, ◌-◌, ◌<◌, ◌≤◌, ◌↔◌, [], vec_len, slice_index_or, IfOk, IfSome, IsNone};
 ghost use Rattle.pyramid_model.specs.Shape.{PyramidShape, LeafMap};
 ghost use Rattle.allsky_mosaic.specs.Mosaic.{side_of};
-ghost use Rattle.allsky_mosaic.specs.Tiles.{AreOfOrder3, IsSurvey, IsMosaic, ShowsCell, order_3, leaves_of};
+ghost use Rattle.allsky_mosaic.specs.Tiles.{AreOfOrder3, IsSurvey, IsMosaic, ShowsCell, order_3, leaf_map};
 ghost use Rattle.allsky_mosaic.specs.Cells.{AreBands};
 
 use crate::bands::{ROWS, band};
@@ -35,7 +35,7 @@ pub fn whole<R: Threads + Sync>(
     requires greatest_n { n ≤ 9 }
     requires tiles { AreOfOrder3 depth n tiles.now }
     ensures none { IfOk result (λ found. IsNone found ↔ (tiles.now ≡ [])) }
-    ensures mosaic { IfOk result (λ found. IfSome found (λ raw. IsMosaic depth n (order_3 depth n) (leaves_of tiles.now) raw.items)) }
+    ensures mosaic { IfOk result (λ found. IfSome found (λ raw. IsMosaic depth n (order_3 depth n) (leaf_map tiles.now) raw.items)) }
     ensures survey { IfOk result (λ found. IfSome found (λ raw. (shape : PyramidShape) (leaves : LeafMap) → IsSurvey depth n shape
         → ((cell : ℕ) → cell < 768 → ShowsCell shape leaves tiles.now cell) → IsMosaic depth n shape leaves raw.items)) }
 {

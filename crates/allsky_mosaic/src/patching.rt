@@ -3,7 +3,7 @@ ghost use Rattle.std.specs.Prelude.{◌≡◌, ◌≢◌, ℕ, ◌+◌, ◌-◌,
 ghost use Rattle.pyramid_model.specs.Shape.{PyramidShape, LeafMap};
 ghost use Rattle.tile_pixels.specs.Stored.{stored_at};
 ghost use Rattle.allsky_mosaic.specs.Mosaic.{side_of, place_pixel};
-ghost use Rattle.allsky_mosaic.specs.Tiles.{AreOfOrder3, IsSurvey, IsMosaic, ShowsCell, order_3, leaves_of};
+ghost use Rattle.allsky_mosaic.specs.Tiles.{AreOfOrder3, IsSurvey, IsMosaic, ShowsCell, order_3, leaf_map};
 ghost use Rattle.allsky_mosaic.specs.Patch.{WasMosaic};
 ghost use Rattle.allsky_mosaic.specs.Cells.{ShowCells, ShowsPlace, band_number, number_in_place};
 
@@ -35,7 +35,7 @@ pub fn patch(
     requires tiles { AreOfOrder3 depth n tiles.now }
     requires old { WasMosaic depth n touched.now tiles.now old.now }
     ensures none { IfOk result (λ found. IsNone found ↔ (tiles.now ≡ [])) }
-    ensures mosaic { IfOk result (λ found. IfSome found (λ raw. IsMosaic depth n (order_3 depth n) (leaves_of tiles.now) raw.items)) }
+    ensures mosaic { IfOk result (λ found. IfSome found (λ raw. IsMosaic depth n (order_3 depth n) (leaf_map tiles.now) raw.items)) }
     ensures survey { IfOk result (λ found. IfSome found (λ raw. (shape : PyramidShape) (leaves : LeafMap) → IsSurvey depth n shape
         → ((cell : ℕ) → cell < 768 → ShowsCell shape leaves tiles.now cell) → IsMosaic depth n shape leaves raw.items)) }
 {
@@ -67,7 +67,7 @@ pub fn patch_in_place(
     requires touched { All (λ cell. cell < 768) touched.now }
     requires tiles { AreOfOrder3 depth n tiles.now }
     requires old { WasMosaic depth n touched.now tiles.now raw.old }
-    ensures mosaic { OnOk result (IsMosaic depth n (order_3 depth n) (leaves_of tiles.now) raw.new) }
+    ensures mosaic { OnOk result (IsMosaic depth n (order_3 depth n) (leaf_map tiles.now) raw.new) }
     ensures survey { OnOk result ((shape : PyramidShape) (leaves : LeafMap) → IsSurvey depth n shape
         → ((cell : ℕ) → cell < 768 → ShowsCell shape leaves tiles.now cell) → IsMosaic depth n shape leaves raw.new) }
 {

@@ -2,7 +2,7 @@
 ghost use Rattle.std.specs.Prelude.{◌≡◌, ◌≢◌, ℕ, ◌+◌, ◌-◌, ◌*◌, ◌/◌, ◌^◌, ◌<◌, ◌≤◌, length, IfOk};
 ghost use Rattle.pyramid_model.specs.Shape.{PyramidShape, LeafMap};
 ghost use Rattle.tile_pixels.specs.Tile.{HasShape, pixel_in};
-ghost use Rattle.allsky_mosaic.specs.Mosaic.{levels_of, side_of};
+ghost use Rattle.allsky_mosaic.specs.Mosaic.{cell_levels, side_of};
 ghost use Rattle.allsky_mosaic.specs.Tiles.{IsSurvey};
 ghost use Rattle.tile_pixels.specs.Stored.{stored_at};
 ghost use Rattle.allsky_mosaic.specs.Cells.{ShowsSquare, square_number, number_over, band_number};
@@ -40,7 +40,7 @@ pub fn write_tile(
     requires band { length band.old ≡ 27 * side_of n * side_of n * (depth.bitpix / 8) }
     ensures shown { IfOk result (λ _. (shape : PyramidShape) (leaves : LeafMap) (cell : ℕ) → IsSurvey depth n shape
         → ShowsSquare shape leaves cell n (pixel_in tile.now)
-        → ShowsSquare shape leaves cell (levels_of n) (λ column line. band_number depth.bitpix (side_of n) band.new col (side_of n - 1 - line) column)) }
+        → ShowsSquare shape leaves cell (cell_levels n) (λ column line. band_number depth.bitpix (side_of n) band.new col (side_of n - 1 - line) column)) }
     ensures kept { (t other column : ℕ) → t < side_of n → other < 27 → other ≢ col → column < side_of n
         → band_number depth.bitpix (side_of n) band.new other t column ≡ band_number depth.bitpix (side_of n) band.old other t column }
 {
@@ -145,7 +145,7 @@ fn halve_line(
     requires line { length line.old ≡ side * (depth.bitpix / 8) }
     ensures { (column : ℕ) → column < side → stored_at depth.bitpix line.new column ≡ number_over depth side square.now column (side - 1 - t) }
 {
-    // Its contract says what a blank number is.
+    // For the prover: what a blank number is.
     let _blank = depth.blank();
     let length = 2 * line.len();
     let start = 2 * t * length;

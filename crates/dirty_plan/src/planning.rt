@@ -32,7 +32,7 @@ pub fn plan(
     ensures refused { OnErr result (steps.new ≤ steps_after steps.old (work top low touched.now)) }
     ensures never_falls { steps.old ≤ steps.new }
 {
-    // A count fits 64 bits.
+    // For the prover: a count fits 64 bits.
     let _count = steps.count();
     let mut cells = touched.to_vec(alloc)?;
     let mut list = Worklist::new(alloc);

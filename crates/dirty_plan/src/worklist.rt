@@ -101,7 +101,7 @@ fn issue(
     ensures counted { OnOk result (steps.new ≡ steps_after steps.old (length cells.now)) }
     ensures refused { OnErr result (steps.new ≡ steps.old) }
 {
-    // A count fits 64 bits.
+    // For the prover: a count fits 64 bits.
     let _count = steps.count();
     let mut permits = Vec::with_capacity(alloc, cells.len())?;
     for cell in cells {

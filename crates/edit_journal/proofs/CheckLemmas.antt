@@ -13,7 +13,7 @@ use Rattle.tile_pixels.specs.Tile.{PixelTile}
 use Rattle.leaf_store.specs.Store.{IsAscending, value_at}
 use Rattle.edit_journal.specs.declared.edit.Edit.{Edit}
 use Rattle.edit_journal.specs.declared.fault.EditFault.{EditFault}
-use Rattle.edit_journal.specs.Edit.{LeafEdit, edit_of, leaf_of, tile_of}
+use Rattle.edit_journal.specs.Edit.{LeafEdit, edit_of, leaf_of, edit_tile}
 use Rattle.edit_journal.specs.Leaves.{LeafTiles, leaves_of, charge_of, tile_charge, edit_charge, FitsTile}
 use Rattle.edit_journal.specs.Faults.{most_edits, most_charge, has_leaf, leaf_fault, limit_fault, edit_fault, item_fault}
 use Rattle.edit_journal.proofs.LeafLemmas.{has_of_last}
@@ -50,7 +50,7 @@ is_some_map f (Some x) = refl
 
 -- the last edit of the leaf among some decides whether it is there
 pub has_at : {X : Type 0} (lent : X → PixelTile) (r : Option X) (opening : LeafTiles) (edits : List LeafEdit) (leaf : ℕ) (items : List Edit) (i : ℕ) (e : Edit) → IsAscending opening → slice_get items i ≡ Some e → leaf_of (edit_of e) ≡ leaf →
-    ((k : ℕ) (other : Edit) → i + 1 ≤ k → slice_get items k ≡ Some other → leaf_of (edit_of other) ≢ leaf) → option_map lent r ≡ tile_of (edit_of e) →
+    ((k : ℕ) (other : Edit) → i + 1 ≤ k → slice_get items k ≡ Some other → leaf_of (edit_of other) ≢ leaf) → option_map lent r ≡ edit_tile (edit_of e) →
     is_some r ≡ has_leaf leaf (leaves_of opening (edits ++ map edit_of items))
 has_at lent r opening edits leaf items i e up found at none tile =
     let all : All (λ edit. leaf_of edit ≢ leaf) (map edit_of (drop (i + 1) items)) = all_after (λ edit. leaf_of edit ≢ leaf) (i + 1) items none in

@@ -15,7 +15,7 @@ use Rattle.healpix_nested.specs.Cells.{cell_count}
 use Rattle.pyramid_model.specs.Shape.{PyramidShape}
 use Rattle.tile_pixels.specs.Tile.{PixelTile}
 use Rattle.leaf_store.specs.Store.{IsAscending, value_at, with_value, without_key}
-use Rattle.edit_journal.specs.Edit.{LeafEdit, put, add, replace, remove, leaf_of, tile_of}
+use Rattle.edit_journal.specs.Edit.{LeafEdit, put, add, replace, remove, leaf_of, edit_tile}
 use Rattle.edit_journal.specs.Leaves.{LeafTiles, leaves_after, leaves_of, FitsTile, FitsLeaves, FitsEdit}
 use Rattle.edit_journal.specs.Faults.{has_leaf}
 
@@ -144,7 +144,7 @@ fold_ascending leaves (edit ∷ edits) up = fold_ascending (leaves_after leaves 
 
 -- ---- whether a leaf is there
 
-pub has_after_same : (leaf : ℕ) (leaves : LeafTiles) (edit : LeafEdit) → IsAscending leaves → leaf_of edit ≡ leaf → has_leaf leaf (leaves_after leaves edit) ≡ is_some (tile_of edit)
+pub has_after_same : (leaf : ℕ) (leaves : LeafTiles) (edit : LeafEdit) → IsAscending leaves → leaf_of edit ≡ leaf → has_leaf leaf (leaves_after leaves edit) ≡ is_some (edit_tile edit)
 has_after_same leaf leaves (put at tile) up e = ap (λ k. has_leaf k (with_value at tile leaves)) (sym e) ∙ ap is_some (value_at-with_same at tile leaves)
 has_after_same leaf leaves (add at tile) up e = ap (λ k. has_leaf k (with_value at tile leaves)) (sym e) ∙ ap is_some (value_at-with_same at tile leaves)
 has_after_same leaf leaves (replace at tile) up e = ap (λ k. has_leaf k (with_value at tile leaves)) (sym e) ∙ ap is_some (value_at-with_same at tile leaves)
@@ -178,7 +178,7 @@ has_of_none leaf opening edits more all =
 
 -- the last edit of the leaf decides
 pub has_of_last : (leaf : ℕ) (opening : LeafTiles) (edits : List LeafEdit) (edit : LeafEdit) (more : List LeafEdit) → IsAscending opening → leaf_of edit ≡ leaf → All (λ edit. leaf_of edit ≢ leaf) more →
-    has_leaf leaf (leaves_of opening (edits ++ edit ∷ more)) ≡ is_some (tile_of edit)
+    has_leaf leaf (leaves_of opening (edits ++ edit ∷ more)) ≡ is_some (edit_tile edit)
 unfolding leaves_of
 has_of_last leaf opening edits edit more up e all =
     ap (has_leaf leaf) (fold-append leaves_after opening edits (edit ∷ more))
@@ -202,7 +202,7 @@ unfolding IsStrictlySortedBy
 none_fits shape = record { ascending = tt; cells = λ k d h. absurd (omega arith); tiles = λ k d h. absurd (omega arith) }
 
 -- an edit fits where its leaf and its tile do
-pub fits_edit : (shape : PyramidShape) (edit : LeafEdit) → leaf_of edit < cell_count shape.top → ((tile : PixelTile) → tile_of edit ≡ Some tile → FitsTile shape tile) → FitsEdit shape edit
+pub fits_edit : (shape : PyramidShape) (edit : LeafEdit) → leaf_of edit < cell_count shape.top → ((tile : PixelTile) → edit_tile edit ≡ Some tile → FitsTile shape tile) → FitsEdit shape edit
 fits_edit shape (put leaf tile) lt fits = (lt, fits tile refl)
 fits_edit shape (add leaf tile) lt fits = (lt, fits tile refl)
 fits_edit shape (replace leaf tile) lt fits = (lt, fits tile refl)

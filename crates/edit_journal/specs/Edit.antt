@@ -26,8 +26,8 @@ leaf_of (replace leaf tile) = leaf
 leaf_of (remove leaf) = leaf
 
 -- the tile that the leaf then has
-abbrev pub tile_of : LeafEdit → Option PixelTile
-tile_of (put leaf tile) = Some tile
-tile_of (add leaf tile) = Some tile
-tile_of (replace leaf tile) = Some tile
-tile_of (remove leaf) = None
+abbrev pub edit_tile : LeafEdit → Option PixelTile
+edit_tile (put leaf tile) = Some tile
+edit_tile (add leaf tile) = Some tile
+edit_tile (replace leaf tile) = Some tile
+edit_tile (remove leaf) = None

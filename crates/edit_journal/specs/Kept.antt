@@ -32,7 +32,7 @@ abbrev pub kept_content : PyramidShape → LeafTiles → List Note → JournalCo
 kept_content shape opening notes = record { shape = shape; opening = opening; batches = noted_batches notes }
 
 -- what is kept beside the notes is what the edits make of the opening leaves
-pub record IsKept (shape : PyramidShape) (opening : LeafTiles) (notes : List Note) (leaves : LeafTiles) (charge : ℕ) : Type 0 where
+pub record IsKeptJournal (shape : PyramidShape) (opening : LeafTiles) (notes : List Note) (leaves : LeafTiles) (charge : ℕ) : Type 0 where
   pub journal : IsJournal (kept_content shape opening notes)
   pub closed : IsClosed notes
   pub leaves_are : leaves ≡ leaves_of opening (noted_edits notes)

@@ -1,7 +1,7 @@
 //! One edit of a leaf tile.
 ghost use Rattle.std.specs.Prelude.{◌≡◌, option_map};
 ghost use Rattle.std.specs.Arc.{arc_value};
-ghost use Rattle.edit_journal.specs.Edit.{edit_of, leaf_of, tile_of};
+ghost use Rattle.edit_journal.specs.Edit.{edit_of, leaf_of, edit_tile};
 ghost use Rattle.edit_journal.specs.Leaves.{edit_charge};
 
 use crate::charge::charge_of_tile;
@@ -60,7 +60,7 @@ impl Edit {
 
     /// The tile that the leaf then has; `None` exactly for a Remove.
     pub fn tile(&self) -> Option<&Arc<Tile>>
-        ensures { option_map (λ tile. arc_value tile.now) result ≡ tile_of (edit_of self.now) }
+        ensures { option_map (λ tile. arc_value tile.now) result ≡ edit_tile (edit_of self.now) }
     {
         match self {
             Edit::Put { tile, .. } => Some(tile),

@@ -38,13 +38,13 @@ pub struct Journal {
 impl Model for Journal {
     ghost use Rattle.std.specs.Arc.{arc_value};
     ghost use Rattle.edit_journal.specs.Journal.{JournalContent};
-    ghost use Rattle.edit_journal.specs.Kept.{kept_content, IsKept};
+    ghost use Rattle.edit_journal.specs.Kept.{kept_content, IsKeptJournal};
 
     ghost Value = { JournalContent };
 
     ghost view = { λ j. kept_content j.shape (arc_value j.opening) j.newest.notes };
 
-    ghost invariant = { λ j. IsKept j.shape (arc_value j.opening) j.newest.notes j.newest.leaves j.newest.charge };
+    ghost invariant = { λ j. IsKeptJournal j.shape (arc_value j.opening) j.newest.notes j.newest.leaves j.newest.charge };
 }
 
 impl Journal {

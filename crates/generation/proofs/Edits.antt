@@ -6,7 +6,7 @@ use Rattle.std.proofs.lemmas.List.{take_more, map-append, get_or-drop, length-dr
 use Rattle.std.proofs.lemmas.Option.{slice_get_within, get_or_from_slice_get}
 use Rattle.std.proofs.lemmas.Map.Views.{All-values-insert_entry, All-map-remove_entry}
 use Rattle.tile_pixels.specs.Tile.{PixelTile, IsTile}
-use Rattle.edit_journal.specs.Edit.{LeafEdit, put, add, replace, remove, leaf_of, tile_of}
+use Rattle.edit_journal.specs.Edit.{LeafEdit, put, add, replace, remove, leaf_of, edit_tile}
 use Rattle.edit_journal.specs.Leaves.{LeafTiles, leaves_after, leaves_of}
 use Rattle.generation.specs.Changes.{AreTiles, IsTileOf, TakesEdit}
 use Rattle.generation.specs.Steps.{edits_between, touched}
@@ -39,7 +39,7 @@ leaves_more leaves edits e = fold_more leaves_after leaves edits e
 tiles_with : (leaf : ℕ) (tile : PixelTile) (leaves : LeafTiles) → IsTile tile.depth tile.n tile.numbers → AreTiles leaves → AreTiles (leaves_after leaves (put leaf tile))
 tiles_with leaf tile leaves is all = All-values-insert_entry nat_cmp leaf tile (λ (t : PixelTile). IsTile t.depth t.n t.numbers) leaves all is
 
-pub tiles_after : (leaves : LeafTiles) (e : LeafEdit) → IsTileOf (tile_of e) → AreTiles leaves → AreTiles (leaves_after leaves e)
+pub tiles_after : (leaves : LeafTiles) (e : LeafEdit) → IsTileOf (edit_tile e) → AreTiles leaves → AreTiles (leaves_after leaves e)
 tiles_after leaves (put leaf tile) is all = tiles_with leaf tile leaves is all
 tiles_after leaves (add leaf tile) is all = tiles_with leaf tile leaves is all
 tiles_after leaves (replace leaf tile) is all = tiles_with leaf tile leaves is all

@@ -22,7 +22,7 @@ use Rattle.pyramid_model.specs.Shape.{PyramidShape, LeafMap, IsShape}
 use Rattle.pyramid_model.specs.Tile.{exists}
 use Rattle.survey_conf.specs.Description.{Description}
 use Rattle.generation.specs.Files.{leaf_map, tile_paths, mosaic_paths, paths, file_of, files}
-use Rattle.generation.specs.Kept.{HasTile, tile_of, PyramidContent, IsKept, KeepsMosaic, IsMosaicFile}
+use Rattle.generation.specs.Kept.{HasTile, tile_of, PyramidContent, IsKeptGeneration, KeepsMosaic, IsMosaicFile}
 use Rattle.tile_pixels.specs.Tile.{PixelTile}
 use Rattle.coverage_moc.specs.Cover.{MocCover, cover}
 use Rattle.coverage_moc.specs.CoverFile.{moc_file}
@@ -241,7 +241,7 @@ leaf_count : (leaves : LeafTiles) → length (leaf_map leaves) ≡ length leaves
 leaf_count [] = refl
 leaf_count (e ∷ es) = ap suc (leaf_count es)
 
-module _ (d : Description) (pyramid : PyramidContent) (coverage : MocCover) (kept_mosaic : Option (List ℕ)) (properties : List ℕ) (is : IsKept d pyramid coverage kept_mosaic properties) (differ : SpellingsDiffer) where
+module _ (d : Description) (pyramid : PyramidContent) (coverage : MocCover) (kept_mosaic : Option (List ℕ)) (properties : List ℕ) (is : IsKeptGeneration d pyramid coverage kept_mosaic properties) (differ : SpellingsDiffer) where
   pub file_at : (path : Path) → IsPath path → HasFile d.shape (leaf_map pyramid.leaves) path → get (files d (leaf_map pyramid.leaves)) (spelling path) ≡ Some (file_of d (leaf_map pyramid.leaves) path)
   unfolding files
   file_at path known has = file_there d.shape (leaf_map pyramid.leaves) is.description.shape is.numbers.cells d differ path known has
@@ -400,7 +400,7 @@ module _ (f : Path → List ℕ) (differ : SpellingsDiffer) where
       let rest : len m ≡ length ps = len_entries ps (λ q a. known q (inr a)) once.1 in
       len-insert nat_list_cmp_total m (spelling p) (f p) ∙ ap (λ (o : Option (List ℕ)). cond (is_some o) (len m) (len m + 1)) none ∙ omega (arith, rest)
 
-module _ (d : Description) (pyramid : PyramidContent) (coverage : MocCover) (kept_mosaic : Option (List ℕ)) (properties : List ℕ) (is : IsKept d pyramid coverage kept_mosaic properties) (differ : SpellingsDiffer) where
+module _ (d : Description) (pyramid : PyramidContent) (coverage : MocCover) (kept_mosaic : Option (List ℕ)) (properties : List ℕ) (is : IsKeptGeneration d pyramid coverage kept_mosaic properties) (differ : SpellingsDiffer) where
   pub file_len_is : len (files d (leaf_map pyramid.leaves)) ≡ length (paths d.shape (leaf_map pyramid.leaves))
   unfolding files
   file_len_is =

@@ -21,7 +21,7 @@ use Rattle.leaf_store.specs.Store.{value_at}
 use Rattle.survey_conf.specs.Description.{Description}
 use Rattle.fits_tile.specs.TileFile.{image_file, image_cards}
 use Rattle.allsky_mosaic.specs.Mosaic.{mosaic, mosaic_count, mosaic_number, width_of, height_of}
-use Rattle.allsky_mosaic.specs.Tiles.{AreOfOrder3, IsSurvey, IsMosaic, ShowsCell, order_3, leaves_of}
+use Rattle.allsky_mosaic.specs.Tiles.{AreOfOrder3, IsSurvey, IsMosaic, ShowsCell, order_3, leaf_map}
 use Rattle.allsky_mosaic.specs.Patch.{WasMosaic}
 use Rattle.std.proofs.lemmas.List.{length-append, length-replicate, take_at, drop_at}
 use Rattle.std.proofs.Math.Seq.{take-append_seam}
@@ -65,7 +65,7 @@ no_leaves shape (leaf ∷ leaves) k small h cells none =
 -- what is made of tiles of order 3: nothing where there are none, and otherwise the mosaic of whatever survey has them
 pub record IsMade (depth : PixelDepth) (n : ℕ) (tiles : List (ℕ × PixelTile)) (found : Option (Vec ℕ Global)) : Type 0 where
   pub none : IsNone found ↔ (tiles ≡ [])
-  pub mosaic : IfSome found (λ raw. IsMosaic depth n (order_3 depth n) (leaves_of tiles) raw.items)
+  pub mosaic : IfSome found (λ raw. IsMosaic depth n (order_3 depth n) (leaf_map tiles) raw.items)
   pub survey : IfSome found (λ raw. (shape : PyramidShape) (leaves : LeafMap) → IsSurvey depth n shape → ((cell : ℕ) → cell < 768 → ShowsCell shape leaves tiles cell) → IsMosaic depth n shape leaves raw.items)
 
 module _ (d : Description) (leaves : LeafMap) (tiles : List (ℕ × PixelTile)) (known : IsShape d.shape.top d.shape.low d.shape.n) (fits : FitsShape d.shape leaves) (is : tiles ≡ tiles_of d.shape leaves 3) where
@@ -89,7 +89,7 @@ module _ (d : Description) (leaves : LeafMap) (tiles : List (ℕ × PixelTile)) 
   are_pixels (Some raw) made = record {
     some = λ e. let none = made.none.1 (empty_tiles e) in cc;
     survey = made.survey d.shape leaves is_survey shows_cells;
-    order_3 = subst (λ t. IsMosaic d.shape.depth d.shape.n (order_3 d.shape.depth d.shape.n) (leaves_of t) raw.items) is made.mosaic;
+    order_3 = subst (λ t. IsMosaic d.shape.depth d.shape.n (order_3 d.shape.depth d.shape.n) (leaf_map t) raw.items) is made.mosaic;
   }
 
 pub kept_file : {E : Type 0} (d : Description) (tiles : List (ℕ × PixelTile)) (found : Option (Vec ℕ Global)) (r : Result (Option (Vec ℕ Global)) E) → IsShape d.shape.top d.shape.low d.shape.n → IsMade d.shape.depth d.shape.n tiles found
@@ -130,7 +130,7 @@ image_kept d leaves raw file shows made long pixels = record {
   some = shows.some;
   file_is = made ∙ ap (image_file d (width_of d.shape.n) (height_of d.shape.n)) shows.survey.numbers;
   long = long;
-  pixels = subst (λ bytes. IsMosaic d.shape.depth d.shape.n (order_3 d.shape.depth d.shape.n) (leaves_of (tiles_of d.shape leaves 3)) bytes) (sym pixels) shows.order_3;
+  pixels = subst (λ bytes. IsMosaic d.shape.depth d.shape.n (order_3 d.shape.depth d.shape.n) (leaf_map (tiles_of d.shape leaves 3)) bytes) (sym pixels) shows.order_3;
 }
 
 -- a part of a list between a head and an end is put in the place of another
@@ -184,6 +184,6 @@ was_mosaic d touched tiles file raw was is = (
   record {
     tiles = order_3_tiles d.shape was.before (tiles_of d.shape was.before 3) refl;
     agrees = was.agrees;
-    mosaic = subst (λ bytes. IsMosaic d.shape.depth d.shape.n (order_3 d.shape.depth d.shape.n) (leaves_of (tiles_of d.shape was.before 3)) bytes) (sym is) was.file_is.pixels;
+    mosaic = subst (λ bytes. IsMosaic d.shape.depth d.shape.n (order_3 d.shape.depth d.shape.n) (leaf_map (tiles_of d.shape was.before 3)) bytes) (sym is) was.file_is.pixels;
   },
 )

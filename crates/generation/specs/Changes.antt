@@ -2,7 +2,7 @@
 use Rattle.std.specs.Prelude.{◌≡◌, ℕ, List, [], ◌∷◌, ◌++◌, All, Contains, Option, Some, IfSome, slice_get}
 use Rattle.std.specs.Map.{values_of}
 use Rattle.tile_pixels.specs.Tile.{PixelTile, IsTile}
-use Rattle.edit_journal.specs.Edit.{LeafEdit, leaf_of, tile_of}
+use Rattle.edit_journal.specs.Edit.{LeafEdit, leaf_of, edit_tile}
 use Rattle.edit_journal.specs.Leaves.{LeafTiles, leaves_after}
 
 -- each leaf's tile is one
@@ -23,5 +23,5 @@ pub record TakesEdit (edits : List LeafEdit) (i : ℕ) (before after : LeafTiles
   pub edit : LeafEdit
   pub is : slice_get edits i ≡ Some edit
   pub done : after ≡ leaves_after before edit
-  pub tile : IsTileOf (tile_of edit)
+  pub tile : IsTileOf (edit_tile edit)
   pub leaf : noted' ≡ noted ++ leaf_of edit ∷ []

@@ -11,7 +11,7 @@ use Rattle.coverage_moc.specs.Cover.{MocCover, cover}
 use Rattle.fits_header.specs.Cards.{whole_blocks}
 use Rattle.fits_tile.specs.TileFile.{image_file}
 use Rattle.allsky_mosaic.specs.Mosaic.{mosaic, mosaic_count, width_of, height_of}
-use Rattle.allsky_mosaic.specs.Tiles.{IsMosaic, order_3, leaves_of}
+use Rattle.allsky_mosaic.specs.Tiles.{IsMosaic, order_3}
 use Rattle.dirty_plan.specs.Dirty.{is_dirty, orders_down}
 use Rattle.edit_journal.specs.Leaves.{LeafTiles, FitsLeaves}
 use Rattle.generation.specs.Files.{leaf_map, existing}
@@ -75,7 +75,7 @@ file_pixels d file = take (pixel_len d) (drop (length file - whole_blocks (pixel
 pub record ShowsBoth (d : Description) (leaves : LeafMap) (raw : List ℕ) : Type 0 where
   pub some : leaves ≢ []
   pub survey : IsMosaic d.shape.depth d.shape.n d.shape leaves raw
-  pub order_3 : IsMosaic d.shape.depth d.shape.n (order_3 d.shape.depth d.shape.n) (leaves_of (tiles_of d.shape leaves 3)) raw
+  pub order_3 : IsMosaic d.shape.depth d.shape.n (order_3 d.shape.depth d.shape.n) (leaf_map (tiles_of d.shape leaves 3)) raw
 
 -- there are such bytes exactly where there is a leaf
 abbrev pub ArePixels : Description → LeafMap → Option (List ℕ) → Type 0
@@ -87,7 +87,7 @@ pub record IsMosaicFile (d : Description) (leaves : LeafMap) (file : List ℕ) :
   pub some : leaves ≢ []
   pub file_is : file ≡ image_file d (width_of d.shape.n) (height_of d.shape.n) (mosaic d.shape leaves)
   pub long : whole_blocks (pixel_len d) ≤ length file
-  pub pixels : IsMosaic d.shape.depth d.shape.n (order_3 d.shape.depth d.shape.n) (leaves_of (tiles_of d.shape leaves 3)) (file_pixels d file)
+  pub pixels : IsMosaic d.shape.depth d.shape.n (order_3 d.shape.depth d.shape.n) (leaf_map (tiles_of d.shape leaves 3)) (file_pixels d file)
 
 -- the file of the mosaic of leaves whose tiles of order 3 are these, but for those of the touched cells
 pub record WasMosaicFile (d : Description) (touched : List ℕ) (tiles : List (ℕ × PixelTile)) (file : List ℕ) : Type 0 where
@@ -101,7 +101,7 @@ KeepsMosaic d leaves None = leaves ≡ []
 KeepsMosaic d leaves (Some file) = IsMosaicFile d leaves file
 
 -- what a generation keeps beside its leaves: the cover and its file, the mosaic's file and the text of the properties
-pub record IsKept (d : Description) (pyramid : PyramidContent) (coverage : MocCover) (mosaic : Option (List ℕ)) (properties : List ℕ) : Type 0 where
+pub record IsKeptGeneration (d : Description) (pyramid : PyramidContent) (coverage : MocCover) (mosaic : Option (List ℕ)) (properties : List ℕ) : Type 0 where
   pub description : IsDescription d
   pub shape : pyramid.shape ≡ d.shape
   pub fits : FitsLeaves d.shape pyramid.leaves

@@ -2,7 +2,7 @@
 ghost use Rattle.std.specs.Prelude.{◌≡◌, ℕ, ◌-◌, ◌/◌, ◌^◌, ◌<◌, ◌≤◌, All, Contains, length, OnOk, IfOk};
 ghost use Rattle.std.specs.List.Sorted.{IsStrictlyIncreasing};
 ghost use Rattle.healpix_nested.specs.Cells.{cell_count};
-ghost use Rattle.edit_journal.specs.Edit.{edit_of, tile_of};
+ghost use Rattle.edit_journal.specs.Edit.{edit_of, edit_tile};
 ghost use Rattle.edit_journal.specs.Journal.{journal_edits};
 ghost use Rattle.edit_journal.specs.Leaves.{leaves_after, leaves_of};
 ghost use Rattle.generation.specs.Steps.{edits_between, touched};
@@ -69,11 +69,11 @@ fn take_edit(
 // Does the edit to the leaves.
 fn apply(edit: &Edit, leaves: &mut Store<Tile>) -> Result<(), AllocError>
     ensures done { OnOk result (leaves.new ≡ leaves_after leaves.old (edit_of edit.now)) }
-    ensures tile { OnOk result (IsTileOf (tile_of (edit_of edit.now))) }
+    ensures tile { OnOk result (IsTileOf (edit_tile (edit_of edit.now))) }
 {
     match edit.tile() {
         Some(tile) => {
-            // Its contract says what a tile is.
+            // For the prover: what a tile is.
             let _n = tile.n();
             leaves.put(edit.leaf(), tile.clone()?)?
         }

@@ -107,6 +107,7 @@ impl Generation {
     {
         spellings_differ();
         deep_tiles_are_no_paths();
+        // For the prover: what a cell is.
         let _order = cell.order();
         match self.pyramid.tile(cell) {
             Some(tile) => Some(Body::Written(encode_into(tile, cell, &self.conf, out))),
@@ -124,6 +125,7 @@ impl Generation {
     {
         spellings_differ();
         deep_tiles_are_no_paths();
+        // For the prover: what a cell is.
         let _order = cell.order();
         match self.pyramid.tile(cell) {
             Some(tile) => Some(parts_of(tile, cell, &self.conf, out)),

@@ -58,13 +58,13 @@ impl Model for Generation {
     ghost use Rattle.std.specs.Prelude.{option_map};
     ghost use Rattle.std.specs.Arc.{arc_value};
     ghost use Rattle.generation.specs.Generation.{GenerationContent};
-    ghost use Rattle.generation.specs.Kept.{IsKept};
+    ghost use Rattle.generation.specs.Kept.{IsKeptGeneration};
 
     ghost Value = { GenerationContent };
 
     ghost view = { λ g. record { conf = arc_value g.conf; prefix = g.prefix; leaves = g.pyramid.leaves } };
 
-    ghost invariant = { λ g. IsKept (arc_value g.conf) g.pyramid (arc_value g.coverage) (option_map (λ file. file.items) g.mosaic) g.properties.items };
+    ghost invariant = { λ g. IsKeptGeneration (arc_value g.conf) g.pyramid (arc_value g.coverage) (option_map (λ file. file.items) g.mosaic) g.properties.items };
 }
 
 impl Generation {
@@ -125,7 +125,7 @@ impl Generation {
             work self.now.conf.shape.top self.now.conf.shape.low (touched (journal_edits journal.now) self.now.prefix k)) }
         ensures never_falls { steps.old ≤ steps.new }
     {
-        // A count fits 64 bits.
+        // For the prover: a count fits 64 bits.
         let _count = steps.count();
         let changes = self.changes_to(journal, k)?;
         let coverage = self.coverage_of(&changes)?;
@@ -155,6 +155,7 @@ impl Generation {
         edits_keep_the_shape();
         edits_touch_their_leaves();
         more_touched_is_more_work();
+        // For the prover: what a journal is.
         let _count = journal.len();
         let changes = Changes::of(self.alloc, self.pyramid.leaves(), journal, self.prefix, k)?;
         Ok(changes)
@@ -209,7 +210,7 @@ impl Generation {
         requires mosaic { KeepsMosaic (arc_value conf) (leaf_map pyramid.leaves) (option_map (λ file. file.items) mosaic) }
         ensures { IfOk result (λ made. made ≡ record { conf = arc_value conf; prefix = prefix; leaves = pyramid.leaves }) }
     {
-        // Its contract says what a description is.
+        // For the prover: what a description is.
         let _shape = conf.shape();
         let properties = conf.properties(alloc, pyramid.leaves().len() as u64)?;
         Ok(Generation {

@@ -49,7 +49,7 @@ pub(crate) fn patched_file(
     ensures { IfOk result (λ found. (leaves : LeafMap) → FitsShape conf.now.shape leaves → tiles.now ≡ tiles_of conf.now.shape leaves 3
         → KeepsMosaic conf.now leaves (option_map (λ file. file.items) found)) }
 {
-    // Its contract says what a description is.
+    // For the prover: what a description is.
     let _shape = conf.shape();
     if tiles.len() == 0 {
         return Ok(None);

@@ -64,7 +64,7 @@ impl Pyramid {
         ensures steps { steps.new ≤ steps_after steps.old (tiles_above shape (leaf_map leaves)) }
         ensures never_falls { steps.old ≤ steps.new }
     {
-        // A count fits 64 bits.
+        // For the prover: a count fits 64 bits.
         let _count = steps.count();
         let numbers = leaf_numbers(alloc, &leaves)?;
         let levels = levels_above(rt, alloc, gate, shape, &leaves, &[], &numbers, steps)?;
@@ -219,7 +219,7 @@ fn leaf_numbers(alloc: Global, leaves: &Store<Tile>) -> Result<Vec<u64>, AllocEr
 {
     let mut numbers = Vec::with_capacity(alloc, leaves.len())?;
     for (leaf, tile) in leaves.iter() {
-        // Its contract says what a tile is.
+        // For the prover: what a tile is.
         let _n = tile.n();
         numbers.push(leaf)?;
     }

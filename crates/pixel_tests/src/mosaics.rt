@@ -2,7 +2,7 @@
 ghost use Rattle.std.specs.Prelude.{◌≡◌, ◌≢◌, ℕ, ◌<◌, ◌≤◌, IfOk};
 ghost use Rattle.leaf_store.specs.Store.{value_at};
 ghost use Rattle.tile_pixels.specs.Tile.{HasShape};
-ghost use Rattle.allsky_mosaic.specs.Tiles.{AreOfOrder3, IsMosaic, order_3, leaves_of};
+ghost use Rattle.allsky_mosaic.specs.Tiles.{AreOfOrder3, IsMosaic, order_3, leaf_map};
 
 use crate::squares::{self, B};
 use allsky_mosaic::{patch, whole};
@@ -88,7 +88,7 @@ fn mosaic<R: Threads + Sync>(
     requires least_n { 1 ≤ n }
     requires greatest_n { n ≤ 9 }
     requires tiles { AreOfOrder3 depth n tiles.now }
-    ensures { IfOk result (λ raw. IsMosaic depth n (order_3 depth n) (leaves_of tiles.now) raw.items) }
+    ensures { IfOk result (λ raw. IsMosaic depth n (order_3 depth n) (leaf_map tiles.now) raw.items) }
 {
     match whole(rt, alloc, depth, n, tiles)? {
         Some(raw) => Ok(raw),

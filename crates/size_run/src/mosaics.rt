@@ -1,6 +1,6 @@
 //! The mosaic of a full sky, all squares of which are patched.
 ghost use Rattle.std.specs.Prelude.{◌<◌, All, IsTrue, IfOk};
-ghost use Rattle.allsky_mosaic.specs.Tiles.{AreOfOrder3, IsMosaic, order_3, leaves_of};
+ghost use Rattle.allsky_mosaic.specs.Tiles.{AreOfOrder3, IsMosaic, order_3, leaf_map};
 
 use crate::tiles::{leaves, shape_of};
 use allsky_mosaic::{patch, whole};
@@ -54,7 +54,7 @@ fn mosaic<R: Threads + Sync>(
     tiles: &Store<Tile>,
 ) -> Result<Vec<u8>, Fail>
     requires { AreOfOrder3 depth 1 tiles.now }
-    ensures { IfOk result (λ raw. IsMosaic depth 1 (order_3 depth 1) (leaves_of tiles.now) raw.items) }
+    ensures { IfOk result (λ raw. IsMosaic depth 1 (order_3 depth 1) (leaf_map tiles.now) raw.items) }
 {
     match whole(rt, alloc, depth, 1, tiles)? {
         Some(raw) => Ok(raw),
@@ -65,7 +65,7 @@ fn mosaic<R: Threads + Sync>(
 // A sum of the bytes of the mosaic, each square of which is made anew.
 fn patched(alloc: Global, depth: Depth, old: &[u8], tiles: &Store<Tile>) -> Result<u64, Fail>
     requires tiles { AreOfOrder3 depth 1 tiles.now }
-    requires old { IsMosaic depth 1 (order_3 depth 1) (leaves_of tiles.now) old.now }
+    requires old { IsMosaic depth 1 (order_3 depth 1) (leaf_map tiles.now) old.now }
 {
     let touched = all_cells(alloc)?;
     if !are_cells(&touched) {

@@ -2,7 +2,7 @@
 ghost use Rattle.std.specs.Prelude.{IfOk, [], ◌∷◌};
 ghost use Rattle.std.specs.Arc.{arc_value};
 ghost use Rattle.allsky_mosaic.specs.Patch.{WasMosaic};
-ghost use Rattle.allsky_mosaic.specs.Tiles.{AreOfOrder3, IsMosaic, order_3, leaves_of};
+ghost use Rattle.allsky_mosaic.specs.Tiles.{AreOfOrder3, IsMosaic, order_3, leaf_map};
 ghost use Rattle.tile_pixels.specs.Tile.{HasShape};
 
 use crate::clocks::{Started, spent_since};
@@ -104,7 +104,7 @@ fn time_rest<R: Clock + CpuClock>(
     raw: &[u8],
 ) -> io::Result<MosaicTimes>
     requires tiles { AreOfOrder3 depth 9 tiles.now }
-    requires raw { IsMosaic depth 9 (order_3 depth 9) (leaves_of tiles.now) raw.now }
+    requires raw { IsMosaic depth 9 (order_3 depth 9) (leaf_map tiles.now) raw.now }
 {
     let took = started.took(rt)?;
     let sum = sum_after(0, raw);
@@ -126,7 +126,7 @@ fn mosaic<R: Threads + Sync>(
     tiles: &Store<Tile>,
 ) -> io::Result<Vec<u8>>
     requires { AreOfOrder3 depth 9 tiles.now }
-    ensures { IfOk result (λ raw. IsMosaic depth 9 (order_3 depth 9) (leaves_of tiles.now) raw.items) }
+    ensures { IfOk result (λ raw. IsMosaic depth 9 (order_3 depth 9) (leaf_map tiles.now) raw.items) }
 {
     match whole(rt, alloc, depth, N, tiles)? {
         Some(raw) => Ok(raw),
@@ -144,7 +144,7 @@ fn time_patch<R: CpuClock>(
     tile: Arc<Tile>,
 ) -> io::Result<(u128, u32)>
     requires tiles { AreOfOrder3 depth 9 tiles.now }
-    requires old { IsMosaic depth 9 (order_3 depth 9) (leaves_of tiles.now) old.now }
+    requires old { IsMosaic depth 9 (order_3 depth 9) (leaf_map tiles.now) old.now }
     requires tile { HasShape (arc_value tile) depth 9 }
 {
     let mut now = tiles.share()?;

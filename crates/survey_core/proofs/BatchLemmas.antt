@@ -4,7 +4,7 @@ use Rattle.std.specs.Prelude.{is_some}
 use Rattle.std.proofs.lemmas.List.Sums.{sum_by-append}
 use Rattle.survey_conf.specs.Description.{Description}
 use Rattle.dirty_plan.specs.Dirty.{steps_after}
-use Rattle.edit_journal.specs.Edit.{LeafEdit, put, add, replace, remove, tile_of, edit_of}
+use Rattle.edit_journal.specs.Edit.{LeafEdit, put, add, replace, remove, edit_tile, edit_of}
 use Rattle.edit_journal.specs.declared.edit.Edit.{Edit}
 use Rattle.survey_core.specs.declared.fault.EntryFault.{EntryFault}
 use Rattle.survey_core.specs.declared.fault.EntryFault.TheVariants.{Many, Line as NoLine}
@@ -83,7 +83,7 @@ so_far-many d edits bytes full some =
 -- ---- how many tiles
 
 pub tiles_of-append : (edits more : List LeafEdit) → tiles_of (edits ++ more) ≡ tiles_of edits + tiles_of more
-tiles_of-append edits more = sum_by-append (λ edit. cond (is_some (tile_of edit)) 1 0) edits more
+tiles_of-append edits more = sum_by-append (λ edit. cond (is_some (edit_tile edit)) 1 0) edits more
 
 tiles_of-one : (edit : LeafEdit) (rest : List ℕ) → tiles_of (edit ∷ []) ≡ entry_tiles (Ok (edit, rest))
 tiles_of-one (put leaf tile) rest = refl

@@ -5,7 +5,7 @@ use Rattle.survey_conf.specs.Description.{Description}
 use Rattle.tile_pixels.specs.Tile.{PixelTile}
 use Rattle.fits_tile.specs.Reading.{reads}
 use Rattle.fits_tile.specs.declared.fault.TileFault.{TileFault}
-use Rattle.edit_journal.specs.Edit.{LeafEdit, put, add, replace, remove, tile_of}
+use Rattle.edit_journal.specs.Edit.{LeafEdit, put, add, replace, remove, edit_tile}
 use Rattle.survey_core.specs.Line.{line_at}
 use Rattle.survey_core.specs.declared.line.Verb.{Verb}
 use Rattle.survey_core.specs.declared.line.Verb.TheVariants.{Put, Add, Replace}
@@ -94,12 +94,12 @@ tiles_read (Err fault) = 0
 
 -- one for an edit that has a tile
 abbrev pub entry_tiles : ReadEntry → ℕ
-entry_tiles (Ok read) = if is_some (tile_of read.0) then 1 else 0
+entry_tiles (Ok read) = if is_some (edit_tile read.0) then 1 else 0
 entry_tiles (Err fault) = 0
 
 -- how many of the edits have a tile
 abbrev pub tiles_of : List LeafEdit → ℕ
-tiles_of edits = count_by (λ edit. is_some (tile_of edit)) edits
+tiles_of edits = count_by (λ edit. is_some (edit_tile edit)) edits
 
 abbrev pub tile_count : BatchEntries → ℕ
 tile_count entries = tiles_of entries.edits

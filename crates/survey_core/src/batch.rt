@@ -24,7 +24,7 @@ pub fn batch_room(conf: &Conf) -> usize
     ensures room { result ≡ 4 * (106560 + whole_blocks (data_len conf.now.shape)) }
     ensures at_most { result ≤ 2 ^ 30 }
 {
-    // The shape that is read bounds the product.
+    // For the prover: a shape bounds the product.
     let _shape = conf.shape();
     4 * body_room(conf)
 }
@@ -61,7 +61,7 @@ pub fn read_batch(
             fault: EntryFault::Line,
         });
     }
-    // A count fits 64 bits.
+    // For the prover: a count fits 64 bits.
     let _count = steps.count();
     let mut edits = Vec::new(alloc);
     let mut left = body;

@@ -31,7 +31,7 @@ pub(crate) fn read_entry<'a>(
     ensures at_most { steps.new ≤ steps.old + entry_tiles (entry conf.now bytes.now) }
     ensures never_falls { steps.old ≤ steps.new }
 {
-    // A count fits 64 bits.
+    // For the prover: a count fits 64 bits.
     let _count = steps.count();
     match line_at(bytes, conf.shape().top) {
         None => Err(EntryRefusal::Fault(EntryFault::Line)),

@@ -4,7 +4,7 @@ use Rattle.pyramid_model.specs.Shape.{PyramidShape, LeafMap}
 use Rattle.tile_pixels.specs.StoredLaws.{AreBytes}
 use Rattle.allsky_mosaic.specs.Mosaic.{mosaic_count}
 use Rattle.allsky_mosaic.specs.Patch.{WasMosaic}
-use Rattle.allsky_mosaic.specs.Tiles.{IsMosaic, IsSurvey, ShowsCell, order_3, leaves_of}
+use Rattle.allsky_mosaic.specs.Tiles.{IsMosaic, IsSurvey, ShowsCell, order_3, leaf_map}
 use Rattle.generation.specs.Kept.{pixel_len, ShowsBoth}
 use Rattle.generation.proofs.Mosaics.{was_mosaic, image_patched, shows_cells, is_survey}
 use Rattle.generation.proofs.mosaic.patch_pixels.Goals as goal
@@ -42,12 +42,12 @@ returns c leaves some fits is =
     let wide : size ≡ pixel_len d = between start c.pixel_bytes-len.result ∙ len in
     let P : PyramidShape → Type 0 = λ s. (shape : PyramidShape) (ls : LeafMap) → IsSurvey s.depth s.n shape → ((cell : ℕ) → cell < 768 → ShowsCell shape ls tiles cell) → IsMosaic s.depth s.n shape ls pixels in
     let surveys : P d.shape = subst P same c.in_ok-patch_in_place.ensures.survey in
-    let Q : PyramidShape → Type 0 = λ s. IsMosaic s.depth s.n (order_3 s.depth s.n) (leaves_of tiles) pixels in
+    let Q : PyramidShape → Type 0 = λ s. IsMosaic s.depth s.n (order_3 s.depth s.n) (leaf_map tiles) pixels in
     let order : Q d.shape = subst Q same c.in_ok-patch_in_place.ensures.mosaic in
     let shows : ShowsBoth d leaves pixels = record {
       some = some;
       survey = surveys d.shape leaves (is_survey d leaves tiles c.shape-shape.ensures.kept.shape fits is) (shows_cells d leaves tiles c.shape-shape.ensures.kept.shape fits is);
-      order_3 = subst (λ t. IsMosaic d.shape.depth d.shape.n (order_3 d.shape.depth d.shape.n) (leaves_of t) pixels) is order;
+      order_3 = subst (λ t. IsMosaic d.shape.depth d.shape.n (order_3 d.shape.depth d.shape.n) (leaf_map t) pixels) is order;
     } in
     let bytes : AreBytes (put_mid start size file pixels) = λ i. let byte = c.type_inv.file i in omega (arith, byte) in
     image_patched d c.requires.old.before leaves file pixels start size c.shape-shape.ensures.kept.bitpix bytes c.requires.old.file_is at wide shows

@@ -5,7 +5,7 @@ use Rattle.std.proofs.lemmas.List.{length-map}
 use Rattle.edit_journal.specs.Edit.{edit_of}
 use Rattle.edit_journal.specs.Leaves.{leaves_after, edit_charge}
 use Rattle.edit_journal.specs.Faults.{most_edits}
-use Rattle.edit_journal.specs.Kept.{noted, kept_content, IsKept}
+use Rattle.edit_journal.specs.Kept.{noted, kept_content, IsKeptJournal}
 use Rattle.edit_journal.specs.declared.newest.Newest.{Newest}
 use Rattle.edit_journal.proofs.KeptLemmas.{grown_count, grown_charge, grown_kept, grown_seen}
 use Rattle.edit_journal.proofs.journal.Journal.grown.Goals as goal
@@ -32,13 +32,13 @@ pub invariant_of-result : goal.invariant_of-result
 invariant_of-result c =
     let long : length (map edit_of c.args.batch.now) ≡ length c.args.batch.now = length-map c.args.batch.now edit_of in
     let some : 0 < length (map edit_of c.args.batch.now) = omega (arith, c.requires.some) in
-    let kept : IsKept c.self.inside.shape (arc_value c.self.inside.opening) c.in_ok-newest.newest.notes c.in_ok-newest.newest.leaves c.in_ok-newest.newest.charge =
+    let kept : IsKeptJournal c.self.inside.shape (arc_value c.self.inside.opening) c.in_ok-newest.newest.notes c.in_ok-newest.newest.leaves c.in_ok-newest.newest.charge =
     grown_kept c.self.inside.shape (arc_value c.self.inside.opening) c.self.inside.newest.notes c.args.self.now c.self.view_is _ _ c.self.invariant (map edit_of c.args.batch.now) some c.requires.fits c.requires.accepted
     c.in_ok-newest.newest.notes c.in_ok-newest.newest.leaves c.in_ok-newest.newest.charge
     (c.in_ok-newest.ensures.notes ∙ ap (λ (n : Newest). n.notes ++ noted (map edit_of c.args.batch.now)) c.in_ok-share.ensures)
     (c.in_ok-newest.ensures.leaves ∙ ap (λ (n : Newest). fold leaves_after n.leaves (map edit_of c.args.batch.now)) c.in_ok-share.ensures)
     (c.in_ok-newest.ensures.charge ∙ ap (λ (n : Newest). n.charge + sum_by edit_charge (map edit_of c.args.batch.now)) c.in_ok-share.ensures) in
-    subst (λ o. IsKept c.self.inside.shape o c.in_ok-newest.newest.notes c.in_ok-newest.newest.leaves c.in_ok-newest.newest.charge) (sym c.in_ok-opening.ensures.cases) kept
+    subst (λ o. IsKeptJournal c.self.inside.shape o c.in_ok-newest.newest.notes c.in_ok-newest.newest.leaves c.in_ok-newest.newest.charge) (sym c.in_ok-opening.ensures.cases) kept
 
 pub returns : goal.returns
 returns c =
