@@ -20,7 +20,7 @@ use survey_link::{Gate, Sink, Source};
 
 /// Serves one connection: reads its requests and answers each from the states that the board sees, until the input ends, a
 /// request asked to close, 65,536 were answered, or the source or the sink failed. What the board held is given up first. Each
-/// reply is handed on before the next request is read.
+/// reply is handed on before the next one is written.
 ///
 /// `OutOfMemory` ends it where there is no memory for its buffers, before anything is read or written. From then on only PUT,
 /// DELETE, POST batch and POST publish may want memory, and they answer it with code 503; `wants` is the number of these

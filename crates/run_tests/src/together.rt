@@ -104,6 +104,8 @@ impl Door for OneDoor {
 
     ghost faults = { λ _. 0 };
 
+    ghost wants = { λ _. 0 };
+
     fn accept(&mut self) -> Result<Option<(Client, Replies)>, DoorFault> {
         Ok(self.comes.take())
     }
