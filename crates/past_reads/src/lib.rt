@@ -1,0 +1,12 @@
+//! Past states of a survey.
+//!
+//! A `Past` keeps a few generations, those used last, and makes the generation of any prefix of a journal's edits that splits
+//! no batch from the nearest one below it.
+#![tactic(auto)]
+
+mod past;
+mod refusal;
+mod saying;
+
+pub use past::Past;
+pub use refusal::PastRefusal;
