@@ -14,7 +14,7 @@ ghost use Rattle.hipsd_run.specs.Command.{texts, Asks, IsCommand};
 mod faults;
 
 use faults::say_fault;
-use hipsd_run::{run, words};
+use hipsd_run::{Command, command_for, run, say_version, words};
 use log::sink::Console;
 use log::{LevelFilter, Log, Logged, error, warn};
 use parent_rule::Steps;
