@@ -1,7 +1,8 @@
 #!/bin/bash
 # Tries what an operator and an editor use beside the program, as they do: examples/nginx.conf (with openssl, for TLS), edit.sh with
-# its journal, import-hipsgen.py, what export and verify say of a folder, the service of systemd (by systemd's own verifiers, since systemd isn't running here), the man
-# page (mandoc) and scripts/install.sh. What it starts it ends, and nothing is written outside a folder of its own.
+# its journal, import-hipsgen.py, what export and verify say of a folder, the service of systemd (by systemd's own verifiers,
+# since systemd isn't running here), the man page (mandoc), scripts/install.sh and what the program says. What it starts it
+# ends, and nothing is written outside a folder of its own.
 #
 #     scripts/check-operate.sh [PROGRAM]
 #
