@@ -731,7 +731,7 @@ wrong_descriptions() {
     described 9 'WARN ' "\$a hips_frames = equatorial"
     grep -qF 'the key hips_frames has no meaning here; hips_frame is a known one' "$folder/said" || blame "a key one letter away: $(cat "$folder/said")"
     cp "$folder/survey/survey.conf" . && mkdir -p "$(dirname "$leaf")" && gzip -c "$folder/leaf" >"$leaf"
-    says 3 'it looks like gzip' verify
+    says 3 'looks like gzip' verify
     cd "$folder/survey" || exit 1
 }
 
