@@ -1,0 +1,12 @@
+pub mod Order
+pub mod OneMore
+pub mod Places
+pub mod Steps
+pub mod Descent
+pub mod Ascent
+pub mod Listed
+pub mod Shared
+pub mod Best
+pub mod Full
+pub mod Sunk
+pub mod Found

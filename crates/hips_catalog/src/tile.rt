@@ -1,0 +1,345 @@
+//! The tiles, by the numbers of their cells.
+ghost use Rattle.std.specs.Prelude.{◌≡◌, ℕ, List, ◌+◌, ◌<◌, ◌≤◌, ◌^◌, [], ◌∷◌, length, IfOk, MatchOption, drop, take as first_of, ◌++◌, None, IfErr, OnSome, IsSome, slice_get, slice_index_or, option_map, option_copied};
+ghost use Rattle.std.specs.Arc.{arc_value};
+ghost use Rattle.std.specs.List.{insert, remove};
+ghost use Rattle.balanced_list.specs.Search.{leading, HoldsAtFirst};
+ghost use Rattle.hips_catalog.specs.Rows.{Source, is_better, placed};
+ghost use Rattle.healpix_nested.specs.Cells.{NestedCell};
+ghost use Rattle.hips_catalog.specs.Tiles.{sources, child_cell, rows_at, is_of, AreListed, HasTile, IsGap, OthersStay, OthersStayButTwo, HasSameCells, IsBest, first_at, NoneIsEmpty, number};
+
+use crate::row::Row;
+use balanced_list::{BalancedList, Item, Probe};
+use healpix_nested::Cell;
+use std::sync::Arc;
+
+/// Rows that several lists share, in some order.
+pub(crate) type Rows = BalancedList<Arc<Row>>;
+
+/// Tiles, by ascending number of their cells.
+pub(crate) type Tiles = BalancedList<Tile>;
+
+/// The tile of a cell: its rows, the best first.
+#[derive(Drop)]
+pub(crate) struct Tile {
+    pub(crate) cell: Cell,
+    pub(crate) rows: Rows,
+}
+
+// Whether the place of a row lies after a better one.
+#[derive(Drop)]
+struct Worse<'a>(&'a Row);
+
+impl<'a> Probe<Arc<Row>> for Worse<'a> {
+    ghost use Rattle.std.specs.Arc.{arc_value};
+    ghost use Rattle.hips_catalog.specs.Rows.{is_better};
+
+    ghost past = { λ s row. is_better (arc_value row) s.0.now };
+
+    fn is_past(&self, row: &Arc<Row>) -> bool {
+        row.is_better(self.0)
+    }
+}
+
+// Whether the place of a cell lies after a tile of a lower number.
+#[derive(Drop)]
+struct Later(u64);
+
+impl Probe<Tile> for Later {
+    ghost use Rattle.std.specs.Prelude.{nat_lt};
+    ghost use Rattle.hips_catalog.specs.Tiles.{number};
+
+    ghost past = { λ s tile. nat_lt (number tile) s.0 };
+
+    fn is_past(&self, tile: &Tile) -> bool {
+        tile.cell.uniq() < self.0
+    }
+}
+
+impl Tile {
+    // Whether this is the tile of the cell.
+    fn is_of(&self, cell: Cell) -> bool
+        ensures { result ≡ is_of cell.order cell.npix self.now }
+    {
+        self.cell.order() == cell.order() && self.cell.npix() == cell.npix()
+    }
+}
+
+/// The place of the row among rows in order.
+pub(crate) fn place_of(rows: &Rows, row: &Row) -> usize
+    ensures place { HoldsAtFirst (λ s. is_better s row.now) (sources rows.now) → result ≡ leading (λ s. is_better s row.now) (sources rows.now) }
+    ensures within { result ≤ length rows.now }
+{
+    rows.place(&Worse(row))
+}
+
+/// The place of the cell's tile, or else where it would stand.
+pub(crate) fn find(tiles: &Tiles, cell: Cell) -> Result<usize, usize>
+    requires { AreListed tiles.now }
+    ensures there { IfOk result (λ at. HasTile tiles.now at cell) }
+    ensures gap { IfErr result (λ at. IsGap tiles.now at cell) }
+{
+    let at = tiles.place(&Later(cell.uniq()));
+    match tiles.get(at) {
+        Some(tile) => { if tile.is_of(cell) { Ok(at) } else { Err(at) } }
+        None => Err(at),
+    }
+}
+
+/// Puts a row into the cell's tile, which is there.
+pub(crate) fn put(tiles: &mut Tiles, cell: Cell, at: usize, i: usize, row: Item<Arc<Row>>)
+    requires listed { AreListed tiles.old }
+    requires there { HasTile tiles.old at cell }
+    requires place { i ≤ length (rows_at tiles.old cell.order cell.npix) }
+    requires fits { length (rows_at tiles.old cell.order cell.npix) + 1 < 2 ^ 64 }
+    ensures rows { rows_at tiles.new cell.order cell.npix ≡ insert (rows_at tiles.old cell.order cell.npix) i (arc_value row) }
+    ensures others { OthersStay cell.order cell.npix tiles.old tiles.new }
+    ensures listed { AreListed tiles.new }
+    ensures cells { HasSameCells tiles.old tiles.new }
+{
+    let mut tile = Tile {
+        cell,
+        rows: BalancedList::new(),
+    };
+    tiles.swap(at, &mut tile);
+    tile.rows.insert(i, row);
+    tiles.swap(at, &mut tile);
+}
+
+/// Takes a row out of the cell's tile, which stays there even if it has no other.
+pub(crate) fn take(tiles: &mut Tiles, cell: Cell, at: usize, i: usize) -> Item<Arc<Row>>
+    requires listed { AreListed tiles.old }
+    requires there { HasTile tiles.old at cell }
+    requires place { i < length (rows_at tiles.old cell.order cell.npix) }
+    ensures rows { rows_at tiles.new cell.order cell.npix ≡ remove (rows_at tiles.old cell.order cell.npix) i }
+    ensures row { arc_value result ≡ slice_index_or (rows_at tiles.old cell.order cell.npix) i (arc_value result) }
+    ensures others { OthersStay cell.order cell.npix tiles.old tiles.new }
+    ensures listed { AreListed tiles.new }
+    ensures cells { HasSameCells tiles.old tiles.new }
+{
+    let mut tile = Tile {
+        cell,
+        rows: BalancedList::new(),
+    };
+    tiles.swap(at, &mut tile);
+    let row = tile.rows.remove(i);
+    tiles.swap(at, &mut tile);
+    row
+}
+
+/// The rows of the cell's tile; `None` where there is no tile.
+pub(crate) fn rows(tiles: &Tiles, cell: Cell) -> Option<&Rows>
+    requires { AreListed tiles.now }
+    ensures { MatchOption result (rows_at tiles.now cell.order cell.npix ≡ []) (λ rows. rows_at tiles.now cell.order cell.npix ≡ sources rows.now) }
+{
+    match find(tiles, cell) {
+        Ok(at) => match tiles.get(at) {
+            Some(tile) => Some(&tile.rows),
+            None => None,
+        },
+        Err(_) => None,
+    }
+}
+
+/// How many rows the cell's tile has; 0 where there is no tile.
+pub(crate) fn count(tiles: &Tiles, cell: Cell) -> usize
+    requires { AreListed tiles.now }
+    ensures { result ≡ length (rows_at tiles.now cell.order cell.npix) }
+{
+    match rows(tiles, cell) {
+        Some(rows) => rows.len(),
+        None => 0,
+    }
+}
+
+/// The first row of the cell's tile, if it has one.
+pub(crate) fn first(tiles: &Tiles, cell: Cell) -> Option<&Row>
+    requires { AreListed tiles.now }
+    ensures { option_copied result ≡ first_at tiles.now cell }
+{
+    match rows(tiles, cell) {
+        Some(rows) => match rows.get(0) {
+            Some(row) => Some(&**row),
+            None => None,
+        },
+        None => None,
+    }
+}
+
+// The child in the place of the best of some cells, if its tile has a better first row.
+fn better_of(tiles: &Tiles, best: Option<Cell>, child: Cell) -> Option<Cell>
+    requires { AreListed tiles.now }
+    ensures { (cells : List NestedCell) → IsBest tiles.now best cells → IsBest tiles.now result (child ∷ cells) }
+{
+    match first(tiles, child) {
+        None => best,
+        Some(row) => match best {
+            None => Some(child),
+            Some(other) => match first(tiles, other) {
+                None => Some(child),
+                Some(first) => {
+                    if row.is_better(first) {
+                        Some(child)
+                    } else {
+                        best
+                    }
+                }
+            },
+        },
+    }
+}
+
+/// The child of the cell whose tile has the best first row; `None` where no child's tile has rows.
+pub(crate) fn best_child(tiles: &Tiles, cell: Cell) -> Option<Cell>
+    requires listed { AreListed tiles.now }
+    requires order { cell.order < 20 }
+    ensures { IsBest tiles.now result (child_cell cell 3 ∷ child_cell cell 2 ∷ child_cell cell 1 ∷ child_cell cell 0 ∷ []) }
+{
+    let best = better_of(tiles, None, cell.child(0));
+    let best = better_of(tiles, best, cell.child(1));
+    let best = better_of(tiles, best, cell.child(2));
+    better_of(tiles, best, cell.child(3))
+}
+
+// Makes the tile of a cell that has none, with one row.
+fn add(tiles: &mut Tiles, at: usize, cell: Cell, row: Item<Arc<Row>>, mut spare: Item<Tile>)
+    requires listed { AreListed tiles.old }
+    requires gap { IsGap tiles.old at cell }
+    ensures rows { rows_at tiles.new cell.order cell.npix ≡ arc_value row ∷ [] }
+    ensures others { OthersStay cell.order cell.npix tiles.old tiles.new }
+    ensures listed { AreListed tiles.new }
+    ensures full { NoneIsEmpty tiles.old → NoneIsEmpty tiles.new }
+{
+    let _order = cell.order();
+    let mut rows = BalancedList::new();
+    rows.insert(0, row);
+    spare.set(Tile { cell, rows });
+    tiles.insert(at, spare);
+}
+
+/// The place of a row in the cell's tile.
+pub(crate) fn place_in(tiles: &Tiles, cell: Cell, row: &Row) -> usize
+    requires { AreListed tiles.now }
+    ensures place { HoldsAtFirst (λ s. is_better s row.now) (rows_at tiles.now cell.order cell.npix) → result ≡ leading (λ s. is_better s row.now) (rows_at tiles.now cell.order cell.npix) }
+    ensures within { result ≤ length (rows_at tiles.now cell.order cell.npix) }
+{
+    match rows(tiles, cell) {
+        Some(rows) => place_of(rows, row),
+        None => 0,
+    }
+}
+
+// Places a row in the cell's tile, which is there; the last row, if the tile has more than there is room for.
+fn offer_to(
+    tiles: &mut Tiles,
+    cell: Cell,
+    at: usize,
+    row: Item<Arc<Row>>,
+    room: usize,
+) -> Option<Item<Arc<Row>>>
+    requires listed { AreListed tiles.old }
+    requires there { HasTile tiles.old at cell }
+    requires in_order { HoldsAtFirst (λ s. is_better s (arc_value row)) (rows_at tiles.old cell.order cell.npix) }
+    requires room { length (rows_at tiles.old cell.order cell.npix) ≤ room }
+    requires fits { length (rows_at tiles.old cell.order cell.npix) + 1 < 2 ^ 64 }
+    requires some { 0 < room }
+    ensures rows { rows_at tiles.new cell.order cell.npix ≡ first_of room (placed (arc_value row) (rows_at tiles.old cell.order cell.npix)) }
+    ensures out { option_map arc_value result ≡ slice_get (placed (arc_value row) (rows_at tiles.old cell.order cell.npix)) room }
+    ensures others { OthersStay cell.order cell.npix tiles.old tiles.new }
+    ensures listed { AreListed tiles.new }
+    ensures full { NoneIsEmpty tiles.old → NoneIsEmpty tiles.new }
+{
+    let i = place_in(tiles, cell, row.item());
+    if i == room {
+        return Some(row);
+    }
+    put(tiles, cell, at, i, row);
+    if count(tiles, cell) > room {
+        Some(take(tiles, cell, at, room))
+    } else {
+        None
+    }
+}
+
+/// Places a row in the cell's tile, which is made of the spare one where there is none; the last row, if the tile has more
+/// than there is room for.
+pub(crate) fn offer(
+    tiles: &mut Tiles,
+    cell: Cell,
+    row: Item<Arc<Row>>,
+    room: usize,
+    spare: &mut Option<Item<Tile>>,
+) -> Option<Item<Arc<Row>>>
+    requires listed { AreListed tiles.old }
+    requires in_order { HoldsAtFirst (λ s. is_better s (arc_value row)) (rows_at tiles.old cell.order cell.npix) }
+    requires room { length (rows_at tiles.old cell.order cell.npix) ≤ room }
+    requires fits { length (rows_at tiles.old cell.order cell.npix) + 1 < 2 ^ 64 }
+    requires some { 0 < room }
+    requires spare { IsSome spare.old }
+    ensures rows { rows_at tiles.new cell.order cell.npix ≡ first_of room (placed (arc_value row) (rows_at tiles.old cell.order cell.npix)) }
+    ensures out { option_map arc_value result ≡ slice_get (placed (arc_value row) (rows_at tiles.old cell.order cell.npix)) room }
+    ensures others { OthersStay cell.order cell.npix tiles.old tiles.new }
+    ensures listed { AreListed tiles.new }
+    ensures full { NoneIsEmpty tiles.old → NoneIsEmpty tiles.new }
+    ensures spare { OnSome result (IsSome spare.new) }
+{
+    match find(tiles, cell) {
+        Ok(at) => offer_to(tiles, cell, at, row, room),
+        Err(at) => match spare.take() {
+            Some(tile) => {
+                add(tiles, at, cell, row, tile);
+                None
+            }
+            None => Some(row),
+        },
+    }
+}
+
+/// Takes row `i` out of the cell's tile, puts the child's first row at its end, and the row that was taken out in that one's
+/// place.
+pub(crate) fn pull(tiles: &mut Tiles, cell: Cell, i: usize, child: Cell)
+    requires listed { AreListed tiles.old }
+    requires place { i < length (rows_at tiles.old cell.order cell.npix) }
+    requires first { IsSome (first_at tiles.old child) }
+    requires orders { child.order ≡ cell.order + 1 }
+    requires fits { length (rows_at tiles.old child.order child.npix) < 2 ^ 64 }
+    ensures cell { (z : Source) → first_at tiles.old child ≡ Some z → rows_at tiles.new cell.order cell.npix ≡ remove (rows_at tiles.old cell.order cell.npix) i ++ z ∷ [] }
+    ensures child { (dead : Source) × (rows_at tiles.new child.order child.npix ≡ dead ∷ drop 1 (rows_at tiles.old child.order child.npix)) }
+    ensures others { OthersStayButTwo cell child tiles.old tiles.new }
+    ensures listed { AreListed tiles.new }
+    ensures full { NoneIsEmpty tiles.old → NoneIsEmpty tiles.new }
+{
+    let last = count(tiles, cell) - 1;
+    match find(tiles, cell) {
+        Err(_) => {}
+        Ok(upper) => match find(tiles, child) {
+            Err(_) => {}
+            Ok(lower) => {
+                let dead = take(tiles, cell, upper, i);
+                let best = take(tiles, child, lower, 0);
+                put(tiles, child, lower, 0, dead);
+                put(tiles, cell, upper, last, best);
+            }
+        },
+    }
+}
+
+/// Takes row `i` out of the cell's tile, and the tile too where it has no other.
+pub(crate) fn take_out(tiles: &mut Tiles, cell: Cell, i: usize)
+    requires listed { AreListed tiles.old }
+    requires place { i < length (rows_at tiles.old cell.order cell.npix) }
+    ensures rows { rows_at tiles.new cell.order cell.npix ≡ remove (rows_at tiles.old cell.order cell.npix) i }
+    ensures others { OthersStay cell.order cell.npix tiles.old tiles.new }
+    ensures listed { AreListed tiles.new }
+    ensures full { NoneIsEmpty tiles.old → NoneIsEmpty tiles.new }
+{
+    match find(tiles, cell) {
+        Err(_) => {}
+        Ok(at) => {
+            if count(tiles, cell) == 1 {
+                let _tile = tiles.remove(at);
+                return;
+            }
+            let _row = take(tiles, cell, at, i);
+        }
+    }
+}
