@@ -25,7 +25,7 @@ use Rattle.leaf_probe.specs.declared.fault.ProbeFault.{ProbeFault}
 use Rattle.leaf_probe.specs.declared.fault.ProbeFault.TheVariants.{Cut, Read, Write, NoLeaf, OutOfMemory, TooMany, OutOfRange}
 use Rattle.leaf_probe.specs.Merging.{steps_after}
 use Rattle.leaf_probe.specs.Probe.{probe_depth, records_under}
-use Rattle.leaf_probe.specs.Records.{record_length, leaf_number, stored_number, stored_numbers, leaves_of, most_records, numbers_read, names_no_leaf, goes_on, ends_within, reading_status}
+use Rattle.leaf_probe.specs.Records.{record_length, leaf_number, stored_number, stored_numbers, recorded_leaves, most_records, numbers_read, names_no_leaf, goes_on, ends_within, reading_status}
 use Rattle.leaf_probe.specs.Reading.{TakesRecord, IsCut, NamesNoLeaf, StopsRecord, StandsFor}
 use Rattle.leaf_probe.proofs.CountLemmas.{steps_sum}
 use Rattle.leaf_probe.proofs.MergingLemmas.{KeepsLeaves}
@@ -66,7 +66,7 @@ numbers_of_rest n input i =
     ap (λ bytes. cast_signed w16 (big_number 2 bytes)) (drop-drop (0 * record_length n + 8 + 2 * s) (i * record_length n) input ∙ ap (λ k. drop k input) (omega arith)) in
     λ j. map (λ s. same s j) (range_with_len 0 (4 ^ n))
 
-leaves_more : (n : ℕ) (input : List ℕ) (i : ℕ) → leaves_of n input (i + 1) ≡ insert_entry nat_cmp (leaves_of n input i) (leaf_number n input i) (stored_numbers n input i)
+leaves_more : (n : ℕ) (input : List ℕ) (i : ℕ) → recorded_leaves n input (i + 1) ≡ insert_entry nat_cmp (recorded_leaves n input i) (leaf_number n input i) (stored_numbers n input i)
 leaves_more n input i =
     let taken : LeafMap → ℕ → LeafMap = λ leaves k. insert_entry nat_cmp leaves (leaf_number n input k) (stored_numbers n input k) in
     ap (fold taken []) (row_more i) ∙ fold-append taken [] (range_with_len 0 i) (i ∷ [])
@@ -262,7 +262,7 @@ lookup-insert_entry (e ∷ es) leaf numbers q =
     either false false x y z apart = refl
 
 -- nothing is kept of no record
-pub keeps_none : (asked : Probe) (input : List ℕ) → KeepsLeaves asked.top asked.order asked.npix (leaves_of asked.n input 0) []
+pub keeps_none : (asked : Probe) (input : List ℕ) → KeepsLeaves asked.top asked.order asked.npix (recorded_leaves asked.n input 0) []
 keeps_none asked input q = either (lies_under asked.top q asked.order asked.npix) None
   where
     either : (b : Bool) (o : Option (List ℤ)) → o ≡ cond b o o
@@ -274,17 +274,17 @@ pub keeps_more : (asked : Probe) (input : List ℕ) (i leaf : ℕ) (numbers : Li
     → TakesRecord asked.top asked.n (drop (i * record_length asked.n) input) left' leaf numbers
     → ((q : ℕ) → lookup (is_at (nat_cmp q)) tiles' ≡ cond (lies_under asked.top leaf asked.order asked.npix && is_at (nat_cmp leaf) q)
     (Some (record { depth = probe_depth; n = asked.n; numbers = numbers })) (lookup (is_at (nat_cmp q)) tiles))
-    → KeepsLeaves asked.top asked.order asked.npix (leaves_of asked.n input i) tiles → KeepsLeaves asked.top asked.order asked.npix (leaves_of asked.n input (i + 1)) tiles'
+    → KeepsLeaves asked.top asked.order asked.npix (recorded_leaves asked.n input i) tiles → KeepsLeaves asked.top asked.order asked.npix (recorded_leaves asked.n input (i + 1)) tiles'
 keeps_more asked input i leaf numbers left' tiles tiles' taken put keeps q =
     let leaf_is : leaf_number asked.n input i ≡ leaf = sym (taken.leaf_is ∙ leaf_of_rest asked.n input i) in
     let numbers_are : stored_numbers asked.n input i ≡ numbers = sym (taken.numbers_are ∙ numbers_of_rest asked.n input i) in
-    let more : leaf_numbers (leaves_of asked.n input (i + 1)) q ≡ cond (is_at (nat_cmp leaf) q) (Some numbers) (leaf_numbers (leaves_of asked.n input i) q) =
-    ap (lookup (is_at (nat_cmp q))) (leaves_more asked.n input i ∙ ap₂ (λ l ns. insert_entry nat_cmp (leaves_of asked.n input i) l ns) leaf_is numbers_are)
-    ∙ lookup-insert_entry (leaves_of asked.n input i) leaf numbers q in
+    let more : leaf_numbers (recorded_leaves asked.n input (i + 1)) q ≡ cond (is_at (nat_cmp leaf) q) (Some numbers) (leaf_numbers (recorded_leaves asked.n input i) q) =
+    ap (lookup (is_at (nat_cmp q))) (leaves_more asked.n input i ∙ ap₂ (λ l ns. insert_entry nat_cmp (recorded_leaves asked.n input i) l ns) leaf_is numbers_are)
+    ∙ lookup-insert_entry (recorded_leaves asked.n input i) leaf numbers q in
     let same : is_at (nat_cmp leaf) q ≡ true → lies_under asked.top q asked.order asked.npix ≡ lies_under asked.top leaf asked.order asked.npix =
     λ at. let one : q ≡ leaf = grind (arith, nat_tests) in ap (λ l. lies_under asked.top l asked.order asked.npix) one in
     rw (put q, more) (at_number (lies_under asked.top leaf asked.order asked.npix) (lies_under asked.top q asked.order asked.npix) (is_at (nat_cmp leaf) q) numbers
-    (lookup (is_at (nat_cmp q)) tiles) (leaf_numbers (leaves_of asked.n input i) q) (record { depth = probe_depth; n = asked.n; numbers = numbers }) same refl (keeps q))
+    (lookup (is_at (nat_cmp q)) tiles) (leaf_numbers (recorded_leaves asked.n input i) q) (record { depth = probe_depth; n = asked.n; numbers = numbers }) same refl (keeps q))
   where
     at_number : (u v at : Bool) (numbers : List ℤ) (o : Option PixelTile) (kept : Option (List ℤ)) (tile : PixelTile) → (at ≡ true → v ≡ u) → tile.numbers ≡ numbers
         → option_map (λ t. t.numbers) o ≡ cond v kept None

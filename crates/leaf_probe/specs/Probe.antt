@@ -8,7 +8,7 @@ use Rattle.pyramid_model.specs.Shape.{PyramidShape, LeafMap}
 use Rattle.pyramid_model.specs.Tile.{exists, pixels}
 use Rattle.tile_pixels.specs.Stored.{stored_bytes}
 use Rattle.leaf_probe.specs.declared.asked.Probe.{Probe}
-use Rattle.leaf_probe.specs.Records.{leaf_number, leaves_of, reading_status, record_length}
+use Rattle.leaf_probe.specs.Records.{leaf_number, recorded_leaves, reading_status, record_length}
 use Rattle.leaf_probe.specs.Merging.{tiles_made}
 
 -- the tile of a probe: leaves of order 3 to 11, tiles of 2 to 512 columns, an order up to that of the leaves, any number
@@ -39,7 +39,7 @@ only_status status = record { status = status; output = [] }
 
 -- the leaves of an input of whole records
 abbrev pub leaves_read : Probe → List ℕ → LeafMap
-leaves_read asked input = leaves_of asked.n input (length input / record_length asked.n)
+leaves_read asked input = recorded_leaves asked.n input (length input / record_length asked.n)
 
 -- the tile of these leaves, or status 10 where no leaf lies at or under it
 abbrev pub tile_answer : Probe → LeafMap → Answer

@@ -25,8 +25,8 @@ abbrev pub stored_numbers : ℕ → List ℕ → ℕ → List ℤ
 stored_numbers n input i = map (stored_number n input i) (range_with_len 0 (4 ^ n))
 
 -- the leaves of the first records, the last of each number
-abbrev pub leaves_of : ℕ → List ℕ → ℕ → LeafMap
-leaves_of n input count =
+abbrev pub recorded_leaves : ℕ → List ℕ → ℕ → LeafMap
+recorded_leaves n input count =
     fold (λ leaves i. insert_entry nat_cmp leaves (leaf_number n input i) (stored_numbers n input i)) [] (range_with_len 0 count)
 
 -- the most records that are read

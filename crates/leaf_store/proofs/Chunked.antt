@@ -9,7 +9,7 @@ use Rattle.std.proofs.lemmas.Grind.{flat_map-append}
 use Rattle.std.proofs.lemmas.List.{take-append-drop, drop_more, set_split}
 use Rattle.leaf_store.specs.declared.slot.Slot.{Slot}
 use Rattle.leaf_store.specs.Store.{IsAscending, value_at, with_value, without_key}
-use Rattle.leaf_store.specs.Chunks.{first_key, AllBelow, AllAbove, slot_pairs, slots_pairs, IsSlot, IsPlace}
+use Rattle.leaf_store.specs.Chunks.{first_key, AllBelow, AllAbove, slot_pairs, slots_pairs, IsSlot, IsSlotFor}
 use Rattle.leaf_store.proofs.Changed.{less_cmp, from_less, each-append, each_left, each_right, each-weaker, value_between, with_between, without_between}
 
 -- ---- ascending pairs in parts
@@ -105,11 +105,11 @@ module _ {C T : Type 0} (pairs : C → List (ℕ × T)) where
       (ascending_right (slots_pairs pairs (take i slots)) (slot_pairs pairs (get_or slots i d) ++ slots_pairs pairs (drop (i + 1) slots)) (subst P (pairs-cut slots i d h) a))
 
   -- ---- what the place of a key makes of its value and of changes
-  pub value_at_place : (key : ℕ) (slots : List (Slot C)) (i : ℕ) (d : Slot C) → IsPlace pairs key slots i → value_at key (slots_pairs pairs slots) ≡ value_at key (slot_pairs pairs (get_or slots i d))
+  pub value_at_place : (key : ℕ) (slots : List (Slot C)) (i : ℕ) (d : Slot C) → IsSlotFor pairs key slots i → value_at key (slots_pairs pairs slots) ≡ value_at key (slot_pairs pairs (get_or slots i d))
   value_at_place key slots i d p = ap (value_at key) (pairs-cut slots i d p.bound)
       ∙ value_between key (slots_pairs pairs (take i slots)) (slot_pairs pairs (get_or slots i d)) (slots_pairs pairs (drop (i + 1) slots)) p.below p.above
 
-  pub with_at_place : (key : ℕ) (value : T) (slots : List (Slot C)) (i : ℕ) (d slot : Slot C) → IsPlace pairs key slots i
+  pub with_at_place : (key : ℕ) (value : T) (slots : List (Slot C)) (i : ℕ) (d slot : Slot C) → IsSlotFor pairs key slots i
       → slot_pairs pairs slot ≡ with_value key value (slot_pairs pairs (get_or slots i d))
       → slots_pairs pairs (set slots i slot) ≡ with_value key value (slots_pairs pairs slots)
   with_at_place key value slots i d slot p e = pairs-set slots i slot p.bound
@@ -117,7 +117,7 @@ module _ {C T : Type 0} (pairs : C → List (ℕ × T)) where
       ∙ sym (with_between key value (slots_pairs pairs (take i slots)) (slot_pairs pairs (get_or slots i d)) (slots_pairs pairs (drop (i + 1) slots)) p.below p.above)
       ∙ ap (with_value key value) (sym (pairs-cut slots i d p.bound))
 
-  pub without_at_place : (key : ℕ) (slots : List (Slot C)) (i : ℕ) (d slot : Slot C) → IsPlace pairs key slots i
+  pub without_at_place : (key : ℕ) (slots : List (Slot C)) (i : ℕ) (d slot : Slot C) → IsSlotFor pairs key slots i
       → slot_pairs pairs slot ≡ without_key key (slot_pairs pairs (get_or slots i d))
       → slots_pairs pairs (set slots i slot) ≡ without_key key (slots_pairs pairs slots)
   without_at_place key slots i d slot p e = pairs-set slots i slot p.bound

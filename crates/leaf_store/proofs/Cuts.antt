@@ -8,7 +8,7 @@ use Rattle.std.proofs.lemmas.List.{take-append-drop, drop_more, set_at, take_at,
 use Rattle.std.proofs.lemmas.List.Elements.{length_all_zip}
 use Rattle.leaf_store.specs.declared.slot.Slot.{Slot}
 use Rattle.leaf_store.specs.Store.{IsAscending}
-use Rattle.leaf_store.specs.Chunks.{first_key, AllBelow, AllAbove, slot_pairs, slot_places, slots_pairs, IsSlot, AreSlots, IsPlace}
+use Rattle.leaf_store.specs.Chunks.{first_key, AllBelow, AllAbove, slot_pairs, slot_places, slots_pairs, IsSlot, AreSlots, IsSlotFor}
 use Rattle.leaf_store.proofs.Changed.{each-append, each_left, each_right}
 use Rattle.leaf_store.proofs.Chunked.{ascending_left, ascending_right, below_from_first, above_from_first, parts-append, parts-cut, pairs-cut, set_parts, pairs-set, pairs-removed}
 use Rattle.leaf_store.proofs.Slots.{first-append, nonempty_from_first}
@@ -106,7 +106,7 @@ module _ {C T : Type 0} (pairs : C → List (ℕ × T)) (IsSound : C → Type 0)
     ascending = a;
   }
 
-  place_in : (key : ℕ) (front back : List (Slot C)) (x : Slot C) (i : ℕ) → length front ≡ i → AllBelow key (slots_pairs pairs front) → AllAbove key (slots_pairs pairs back) → IsPlace pairs key (front ++ x ∷ back) i
+  place_in : (key : ℕ) (front back : List (Slot C)) (x : Slot C) (i : ℕ) → length front ≡ i → AllBelow key (slots_pairs pairs front) → AllAbove key (slots_pairs pairs back) → IsSlotFor pairs key (front ++ x ∷ back) i
   place_in key front back x i len below above =
       let more : length (front ++ x ∷ back) ≡ length front + length (x ∷ back) = length-append front (x ∷ back) in
       let one : length (front ++ x ∷ []) ≡ length front + 1 = length-append front (x ∷ []) in
@@ -145,20 +145,20 @@ module _ {C T : Type 0} (pairs : C → List (ℕ × T)) (IsSound : C → Type 0)
       (subst P (sym (cut_pairs slots i front back d h e)) s.ascending)
 
   -- the key's place after the cut
-  pub place_front : (key : ℕ) (slots : List (Slot C)) (i : ℕ) (front back : Slot C) → IsPlace pairs key slots i → IsSlot pairs IsSound back → IsAscending (slot_pairs pairs back) → key < back.first
-      → IsPlace pairs key (cut_slots slots i front back) i
+  pub place_front : (key : ℕ) (slots : List (Slot C)) (i : ℕ) (front back : Slot C) → IsSlotFor pairs key slots i → IsSlot pairs IsSound back → IsAscending (slot_pairs pairs back) → key < back.first
+      → IsSlotFor pairs key (cut_slots slots i front back) i
   place_front key slots i front back p b a l =
       place_in key (take i slots) (back ∷ drop (i + 1) slots) front i (length-take-le i slots (let h : i < length slots = p.bound in omega arith)) p.below
       (each-append (λ x. key < x.0) (slot_pairs pairs back) (slots_pairs pairs (drop (i + 1) slots)) (above_from_first key back.first (slot_pairs pairs back) b.first a l) p.above)
 
-  pub place_back : (key : ℕ) (slots : List (Slot C)) (i : ℕ) (front back : Slot C) → IsPlace pairs key slots i → IsSlot pairs IsSound back → IsAscending (slot_pairs pairs front ++ slot_pairs pairs back) → back.first ≤ key
-      → IsPlace pairs key (cut_slots slots i front back) (i + 1)
+  pub place_back : (key : ℕ) (slots : List (Slot C)) (i : ℕ) (front back : Slot C) → IsSlotFor pairs key slots i → IsSlot pairs IsSound back → IsAscending (slot_pairs pairs front ++ slot_pairs pairs back) → back.first ≤ key
+      → IsSlotFor pairs key (cut_slots slots i front back) (i + 1)
   place_back key slots i front back p b a l =
       let h : i < length slots = p.bound in
       let len : length (take i slots ++ front ∷ []) ≡ i + 1 = length-append (take i slots) (front ∷ []) ∙ ap (λ n. n + 1) (length-take-le i slots (omega arith)) in
       let low : AllBelow key (slot_pairs pairs front) = below_from_first key back.first (slot_pairs pairs front) (slot_pairs pairs back) b.first a l in
       let B : List (ℕ × T) → Type 0 = λ l. AllBelow key l in
-      let Q : List (Slot C) → Type 0 = λ l. IsPlace pairs key l (i + 1) in
+      let Q : List (Slot C) → Type 0 = λ l. IsSlotFor pairs key l (i + 1) in
       subst Q (append_assoc (take i slots) (front ∷ []) (back ∷ drop (i + 1) slots))
       (place_in key (take i slots ++ front ∷ []) (drop (i + 1) slots) back (i + 1) len
       (subst B (sym (parts-append pairs (take i slots) (front ∷ []))) (each-append (λ x. x.0 < key) (slots_pairs pairs (take i slots)) (slots_pairs pairs (front ∷ [])) p.below (each-append (λ x. x.0 < key) (slot_pairs pairs front) [] low tt)))

@@ -10,7 +10,7 @@ use Rattle.std.proofs.lemmas.List.Folds.{list_any-append}
 use Rattle.std.proofs.lemmas.List.Elements.{All-from_recursion}
 use Rattle.leaf_store.specs.declared.slot.Slot.{Slot}
 use Rattle.leaf_store.specs.Store.{IsAscending, value_at, any_key_in}
-use Rattle.leaf_store.specs.Chunks.{first_key, AllBelow, AllFrom, AllAbove, slot_pairs, slots_pairs, IsSlot, IsPlace}
+use Rattle.leaf_store.specs.Chunks.{first_key, AllBelow, AllFrom, AllAbove, slot_pairs, slots_pairs, IsSlot, IsSlotFor}
 use Rattle.leaf_store.proofs.Slots.{first-append}
 use Rattle.leaf_store.proofs.Chunked.{value_at_place, above_keys, ascending_right, pairs-cut}
 
@@ -95,10 +95,10 @@ module _ {C T : Type 0} (pairs : C → List (ℕ × T)) (IsSound : C → Type 0)
       let both : length (slots_pairs pairs (s ∷ ss)) ≡ length (slot_pairs pairs s) + length (slots_pairs pairs ss) = length-append (slot_pairs pairs s) (slots_pairs pairs ss) in omega arith
 
   -- ---- what the functions of a level read
-  pub level_get : (key : ℕ) (slots xs : List (Slot C)) (i : ℕ) (slot : Slot C) (chunk : C) (r : Option T) → xs ≡ slots → IsPlace pairs key xs i → slot ≡ get_or slots i slot → chunk ≡ arc_value slot.chunk
+  pub level_get : (key : ℕ) (slots xs : List (Slot C)) (i : ℕ) (slot : Slot C) (chunk : C) (r : Option T) → xs ≡ slots → IsSlotFor pairs key xs i → slot ≡ get_or slots i slot → chunk ≡ arc_value slot.chunk
       → r ≡ value_at key (pairs chunk) → r ≡ value_at key (slots_pairs pairs slots)
   level_get key slots xs i slot chunk r same p e f g =
-      let P : List (Slot C) → Type 0 = λ l. IsPlace pairs key l i in
+      let P : List (Slot C) → Type 0 = λ l. IsSlotFor pairs key l i in
       g ∙ ap (λ c. value_at key (pairs c)) f ∙ ap (λ s. value_at key (slot_pairs pairs s)) e ∙ sym (value_at_place pairs key slots i slot (subst P same p))
 
   -- a slot is right
@@ -127,7 +127,7 @@ module _ {C T : Type 0} (pairs : C → List (ℕ × T)) (IsSound : C → Type 0)
   counts_step slots i slot h e = ap sum_of_counts (rest_is slots i slot h e)
 
   -- a range begins in the chunk at its start's place
-  any_parts : (low high : ℕ) (slots : List (Slot C)) (i : ℕ) (slot : Slot C) → IsAscending (slots_pairs pairs slots) → IsPlace pairs low slots i → slot ≡ get_or slots i slot
+  any_parts : (low high : ℕ) (slots : List (Slot C)) (i : ℕ) (slot : Slot C) → IsAscending (slots_pairs pairs slots) → IsSlotFor pairs low slots i → slot ≡ get_or slots i slot
       → any_key_in low high (slots_pairs pairs slots) ≡ (any_key_in low high (slot_pairs pairs slot) || first_below high (slots_pairs pairs (drop (i + 1) slots)))
   any_parts low high slots i slot a p e =
       let P : List (ℕ × T) → Type 0 = λ l. IsAscending l in
@@ -135,11 +135,11 @@ module _ {C T : Type 0} (pairs : C → List (ℕ × T)) (IsSound : C → Type 0)
       ap (any_key_in low high) cut ∙ any_between low high (slots_pairs pairs (take i slots)) (slot_pairs pairs (get_or slots i slot)) (slots_pairs pairs (drop (i + 1) slots)) (subst P cut a) p.below p.above
       ∙ ap (λ s. any_key_in low high (slot_pairs pairs s) || first_below high (slots_pairs pairs (drop (i + 1) slots))) (sym e)
 
-  pub any_here : (low high : ℕ) (slots : List (Slot C)) (i : ℕ) (slot : Slot C) → IsAscending (slots_pairs pairs slots) → IsPlace pairs low slots i → slot ≡ get_or slots i slot
+  pub any_here : (low high : ℕ) (slots : List (Slot C)) (i : ℕ) (slot : Slot C) → IsAscending (slots_pairs pairs slots) → IsSlotFor pairs low slots i → slot ≡ get_or slots i slot
       → any_key_in low high (slot_pairs pairs slot) ≡ true → any_key_in low high (slots_pairs pairs slots) ≡ true
   any_here low high slots i slot a p e h = any_parts low high slots i slot a p e ∙ ap (λ b. b || first_below high (slots_pairs pairs (drop (i + 1) slots))) h
 
-  pub any_next : (low high : ℕ) (slots : List (Slot C)) (i : ℕ) (slot next : Slot C) → AllByRecursion (IsSlot pairs IsSound) slots → IsAscending (slots_pairs pairs slots) → IsPlace pairs low slots i → slot ≡ get_or slots i slot
+  pub any_next : (low high : ℕ) (slots : List (Slot C)) (i : ℕ) (slot next : Slot C) → AllByRecursion (IsSlot pairs IsSound) slots → IsAscending (slots_pairs pairs slots) → IsSlotFor pairs low slots i → slot ≡ get_or slots i slot
       → any_key_in low high (slot_pairs pairs slot) ≡ false → i + 1 < length slots → next ≡ get_or slots (i + 1) next → any_key_in low high (slots_pairs pairs slots) ≡ nat_lt next.first high
   any_next low high slots i slot next r a p e h b f =
       let rest : drop (i + 1) slots ≡ next ∷ drop (i + 1 + 1) slots = rest_is slots (i + 1) next b f in
@@ -148,7 +148,7 @@ module _ {C T : Type 0} (pairs : C → List (ℕ × T)) (IsSound : C → Type 0)
       ∙ ap (λ xs. first_below high (slots_pairs pairs xs)) rest
       ∙ first_is_below high next.first (slot_pairs pairs next ++ slots_pairs pairs (drop (i + 1 + 1) slots)) (first-append next.first (slot_pairs pairs next) (slots_pairs pairs (drop (i + 1 + 1) slots)) right.first)
 
-  pub any_last : (low high : ℕ) (slots : List (Slot C)) (i : ℕ) (slot : Slot C) → IsAscending (slots_pairs pairs slots) → IsPlace pairs low slots i → slot ≡ get_or slots i slot
+  pub any_last : (low high : ℕ) (slots : List (Slot C)) (i : ℕ) (slot : Slot C) → IsAscending (slots_pairs pairs slots) → IsSlotFor pairs low slots i → slot ≡ get_or slots i slot
       → any_key_in low high (slot_pairs pairs slot) ≡ false → length slots ≤ i + 1 → any_key_in low high (slots_pairs pairs slots) ≡ false
   any_last low high slots i slot a p e h b =
       any_parts low high slots i slot a p e ∙ ap (λ b. b || first_below high (slots_pairs pairs (drop (i + 1) slots))) h

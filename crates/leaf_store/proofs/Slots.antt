@@ -12,7 +12,7 @@ use Rattle.std.proofs.lemmas.List.Sorted.{IsPartitionedBy-leb}
 use Rattle.std.proofs.lemmas.Map.Keys.{non_decreasing_from_sorted}
 use Rattle.leaf_store.specs.declared.slot.Slot.{Slot}
 use Rattle.leaf_store.specs.Store.{IsAscending, value_at, with_value}
-use Rattle.leaf_store.specs.Chunks.{first_key, slot_pairs, slots_pairs, IsSlot, AreSlots, IsPlace}
+use Rattle.leaf_store.specs.Chunks.{first_key, slot_pairs, slots_pairs, IsSlot, AreSlots, IsSlotFor}
 use Rattle.leaf_store.proofs.Changed.{compared, less_cmp, equal_cmp, greater_cmp, with_cons, each_right, length-with}
 use Rattle.leaf_store.proofs.Chunked.{ascending_right, below_from_first, above_slots, firsts_ascend, pairs-cut, parts-append}
 
@@ -69,7 +69,7 @@ module _ {C T : Type 0} (pairs : C → List (ℕ × T)) (IsSound : C → Type 0)
       let P : Slot C → Type 0 = λ slot. key < slot.first in subst P (sym (get_or-drop m slots k d)) here)
 
   pub place_found : {places : C → ℕ} (key : ℕ) (slots : List (Slot C)) (n : ℕ) → AreSlots pairs places IsSound slots → 0 < length slots → n ≤ length slots
-      → IsPartitionPoint (λ slot. nat_le slot.first key ≡ true) (λ slot. nat_le slot.first key ≡ false) slots n → IsPlace pairs key slots (n - 1)
+      → IsPartitionPoint (λ slot. nat_le slot.first key ≡ true) (λ slot. nat_le slot.first key ≡ false) slots n → IsSlotFor pairs key slots (n - 1)
   place_found key slots zero s some bound at = record {
     bound = omega arith;
     below = tt;
@@ -84,7 +84,7 @@ module _ {C T : Type 0} (pairs : C → List (ℕ × T)) (IsSound : C → Type 0)
       let low : (get_or slots m head).first ≤ key = grind (arith, nat_tests) in
       let right : IsSlot pairs IsSound (get_or slots m head) = All-from_recursion (IsSlot pairs IsSound) slots s.right m head inside in
       let Q : List (ℕ × T) → Type 0 = λ l. IsAscending l in
-      let R : ℕ → Type 0 = λ i. IsPlace pairs key slots i in
+      let R : ℕ → Type 0 = λ i. IsSlotFor pairs key slots i in
       subst R (sym one) (record {
         bound = inside;
         below = below_from_first key (get_or slots m head).first (slots_pairs pairs (take m slots)) (slot_pairs pairs (get_or slots m head) ++ slots_pairs pairs (drop (m + 1) slots))

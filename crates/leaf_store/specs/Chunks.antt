@@ -58,7 +58,7 @@ abbrev pub IsLevel : {C T : Type 0} → (C → List (ℕ × T)) → (C → ℕ) 
 IsLevel pairs places IsSound level = AreSlots pairs places IsSound level.slots.items
 
 -- the chunk at this place is the one that the key goes to: the chunks before it have lower keys, and those after it higher ones
-pub record IsPlace {C T : Type 0} (pairs : C → List (ℕ × T)) (key : ℕ) (slots : List (Slot C)) (i : ℕ) : Type 0 where
+pub record IsSlotFor {C T : Type 0} (pairs : C → List (ℕ × T)) (key : ℕ) (slots : List (Slot C)) (i : ℕ) : Type 0 where
   pub bound : i < length slots
   pub below : AllBelow key (slots_pairs pairs (take i slots))
   pub above : AllAbove key (slots_pairs pairs (drop (i + 1) slots))

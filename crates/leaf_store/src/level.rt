@@ -3,7 +3,7 @@ ghost use Rattle.std.specs.Prelude.{◌≡◌, ℕ, ◌+◌, ◌<◌, ◌≤◌,
 ghost use Rattle.std.specs.List.{HoldsAt};
 ghost use Rattle.std.specs.Arc.{arc_value};
 ghost use Rattle.leaf_store.specs.Store.{value_at, with_value};
-ghost use Rattle.leaf_store.specs.Chunks.{slot_places, level_pairs, level_places, AreSlots, IsLevel, IsPlace};
+ghost use Rattle.leaf_store.specs.Chunks.{slot_places, level_pairs, level_places, AreSlots, IsLevel, IsSlotFor};
 
 use crate::chunk::{Changing, Chunk, MOST};
 use crate::slot::Slot;
@@ -30,7 +30,7 @@ impl<C: Chunk + Drop> Clone for Level<C> {
 fn place<C: Chunk>(slots: &[Slot<C>], key: u64) -> usize
     requires sound { AreSlots C.pairs C.places C.IsSound slots.now }
     requires some { 0 < length slots.now }
-    ensures { IsPlace C.pairs key slots.now result }
+    ensures { IsSlotFor C.pairs key slots.now result }
 {
     slots
         .partition_point(|slot| slot.first <= key)
@@ -107,12 +107,12 @@ where
     fn cut(&mut self, alloc: Global, i: usize, key: u64) -> Result<usize, AllocError>
         requires sound { IsLevel C.pairs C.places C.IsSound self.old }
         requires fits { length (level_pairs C.pairs self.old) < 2 ^ 64 }
-        requires place { IsPlace C.pairs key self.old.slots.items i }
+        requires place { IsSlotFor C.pairs key self.old.slots.items i }
         requires full { HoldsAt (λ slot. slot_places C.places slot ≡ 64) self.old.slots.items i }
         ensures same { level_pairs C.pairs self.new ≡ level_pairs C.pairs self.old }
         ensures places { level_places self.new ≤ level_places self.old + 1 }
         ensures sound { IsLevel C.pairs C.places C.IsSound self.new }
-        ensures place { IfOk result (IsPlace C.pairs key self.new.slots.items) }
+        ensures place { IfOk result (IsSlotFor C.pairs key self.new.slots.items) }
         ensures room { IfOk result (HoldsAt (λ slot. slot_places C.places slot < 64) self.new.slots.items) }
     {
         let slot = &self.slots[i];
@@ -139,7 +139,7 @@ where
         ensures same { level_pairs C.pairs self.new ≡ level_pairs C.pairs self.old }
         ensures places { level_places self.new ≤ level_places self.old + 1 }
         ensures sound { IsLevel C.pairs C.places C.IsSound self.new }
-        ensures place { IfOk result (IsPlace C.pairs key self.new.slots.items) }
+        ensures place { IfOk result (IsSlotFor C.pairs key self.new.slots.items) }
         ensures room { IfOk result (HoldsAt (λ slot. slot_places C.places slot < 64) self.new.slots.items) }
     {
         let i = place(&self.slots, key);

@@ -3,7 +3,7 @@ use Rattle.std.specs.Arc.{arc_value}
 use Rattle.std.proofs.lemmas.List.{length-append}
 use Rattle.leaf_store.specs.declared.slot.Slot.{Slot}
 use Rattle.leaf_store.specs.Store.{IsAscending}
-use Rattle.leaf_store.specs.Chunks.{slot_pairs, slot_places, level_pairs, slots_pairs, AreSlots, IsPlace}
+use Rattle.leaf_store.specs.Chunks.{slot_pairs, slot_places, level_pairs, slots_pairs, AreSlots, IsSlotFor}
 use Rattle.leaf_store.proofs.Chunked.{part_ascends}
 use Rattle.leaf_store.proofs.Cuts.{cut_slots, cut_is, cut_pairs, cut_sound, place_front, place_back, part_fits}
 use Rattle.leaf_store.proofs.level.Level.cut.Goals.{then-i-len, else-i-len, then-back-key, else-back-key}
@@ -58,8 +58,8 @@ returns-clause-place g c =
     let A : List (ℕ × g.row.C-Value.Denot) → Type 0 = λ l. IsAscending l in
     let ascends : IsAscending (slot_pairs g.C.Chunk.pairs c.in_ok-front-2.front ++ slot_pairs g.C.Chunk.pairs c.in_ok-back.back) =
     subst A (sym parts) (part_ascends g.C.Chunk.pairs c.args.self.now.slots.items c.args.i c.index-slot.result.now c.requires.place.bound c.requires.sound.ascending) in
-    let P : List (Slot g.row.C.Denot) → Type 0 = λ l. IsPlace g.C.Chunk.pairs c.args.key l c.if-back-key.chosen in
-    let N : ℕ → Type 0 = λ n. IsPlace g.C.Chunk.pairs c.args.key (cut_slots c.args.self.now.slots.items c.args.i c.in_ok-front-2.front c.in_ok-back.back) n in
+    let P : List (Slot g.row.C.Denot) → Type 0 = λ l. IsSlotFor g.C.Chunk.pairs c.args.key l c.if-back-key.chosen in
+    let N : ℕ → Type 0 = λ n. IsSlotFor g.C.Chunk.pairs c.args.key (cut_slots c.args.self.now.slots.items c.args.i c.in_ok-front-2.front c.in_ok-back.back) n in
     subst P (sym cut) (elim c.if-back-key.branch [
       | then-back-key w ↦ subst N (sym w.chosen-is) (place_back g.C.Chunk.pairs g.C.Chunk.IsSound c.args.key c.args.self.now.slots.items c.args.i c.in_ok-front-2.front c.in_ok-back.back c.requires.place c.in_ok-back.ensures.right ascends w.if-back-key.true)
       | else-back-key w ↦ subst N (sym w.chosen-is) (place_front g.C.Chunk.pairs g.C.Chunk.IsSound c.args.key c.args.self.now.slots.items c.args.i c.in_ok-front-2.front c.in_ok-back.back c.requires.place c.in_ok-back.ensures.right
