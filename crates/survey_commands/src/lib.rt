@@ -5,17 +5,17 @@
 //! Each is the whole command over the ends that it is given: it writes what there is to say, and answers the exit status.
 #![tactic(auto)]
 
-mod exporting;
-mod making;
+mod export;
+mod make;
 mod output;
 mod refusing;
-mod serving;
-mod sharing;
+mod serve;
+mod session;
 mod summary;
-mod verifying;
+mod verify;
 
-pub use exporting::run_export;
-pub use making::run_make;
-pub use serving::run_session;
-pub use sharing::run_serve;
-pub use verifying::run_verify;
+pub use export::run_export;
+pub use make::run_make;
+pub use serve::run_serve;
+pub use session::run_session;
+pub use verify::run_verify;

@@ -1,5 +1,5 @@
 use Rattle.survey_commands.proofs.MakeLemmas.{no_charge}
-use Rattle.survey_commands.proofs.making.empty_board.Goals as goal
+use Rattle.survey_commands.proofs.make.empty_board.Goals as goal
 
 pub first_board-requires-clause-charge : goal.first_board-requires-clause-charge
 first_board-requires-clause-charge g c =

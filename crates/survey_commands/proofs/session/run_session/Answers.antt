@@ -1,5 +1,5 @@
 use Rattle.std.proofs.Common.{refl, Ok, Err}
-use Rattle.survey_commands.proofs.serving.run_session.Goals as goal
+use Rattle.survey_commands.proofs.session.run_session.Goals as goal
 
 pub returns-in-Ok-clause-run : goal.returns-in-Ok-clause-run
 returns-in-Ok-clause-run g c = λ input e.

@@ -1,5 +1,5 @@
 use Rattle.survey_commands.proofs.ShelfLemmas.{stopped}
-use Rattle.survey_commands.proofs.exporting.export_survey.Goals as goal
+use Rattle.survey_commands.proofs.export.export_survey.Goals as goal
 
 pub returns-clause-outcome : goal.returns-clause-outcome
 returns-clause-outcome g c =

@@ -3,7 +3,7 @@ use Rattle.survey_core.specs.State.{StateContent}
 use Rattle.hips_place.specs.Place.{SomeRises}
 use Rattle.survey_commands.specs.Serve.{Serves}
 use Rattle.survey_commands.proofs.ServeLemmas.{first_of, rises_among}
-use Rattle.survey_commands.proofs.sharing.run_serve.Goals as goal
+use Rattle.survey_commands.proofs.serve.run_serve.Goals as goal
 
 pub serve_state-requires-clause-first : goal.serve_state-requires-clause-first
 serve_state-requires-clause-first g c κs within = let is = c.in-Ok.ensures.opened.2 in (ap (λ (s : StateContent). s.batches) is, ap (λ (s : StateContent). s.tip) is)

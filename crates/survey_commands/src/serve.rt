@@ -7,7 +7,7 @@ ghost use Rattle.survey_commands.specs.Session.{OpensAs, OpensNot};
 ghost use Rattle.survey_commands.specs.Serve.{IsServe, state_of, Serves, RunsServe, place_status};
 
 use crate::refusing::say_why;
-use crate::serving::first_state;
+use crate::session::first_state;
 use generation::Generation;
 use hips_place::{PlaceEnd, serve_doors};
 use log::{Log, error, info};

@@ -6,7 +6,7 @@ ghost use Rattle.survey_commands.specs.Session.{board_of};
 ghost use Rattle.survey_commands.specs.Make.{IsMake, made_survey, RunsScript, IsMade, RunsMake};
 
 use crate::output::say;
-use crate::serving::first_board;
+use crate::session::first_board;
 use crate::summary::{Summary, summary_of};
 use generation::Generation;
 use hips_http::{SessionEnd, session};

@@ -1,5 +1,5 @@
 use Rattle.survey_commands.proofs.ShelfLemmas.{not_compared}
-use Rattle.survey_commands.proofs.verifying.verify_survey.Goals as goal
+use Rattle.survey_commands.proofs.verify.verify_survey.Goals as goal
 
 pub returns-clause-outcome : goal.returns-clause-outcome
 returns-clause-outcome g c =

@@ -1,8 +1,8 @@
-use Rattle.survey_commands.proofs.sharing.open_state.Goals as goal
+use Rattle.survey_commands.proofs.session.open_board.Goals as goal
 
 pub returns-clause-opened : goal.returns-clause-opened
 returns-clause-opened g c = (
   record { conf = c.in_ok-generation.generation.conf; leaves = c.in_ok-generation.generation.leaves },
   c.in_ok-generation.ensures.opened,
-  c.in_ok-first_state.ensures,
+  c.in_ok-first_board.ensures,
 )
