@@ -14,15 +14,19 @@
 # leaves were replaced (a journal's charge lets no more of them be replaced); its files as they are handed out; the same of a
 # field of 65,536 leaves of order 11, and an edit of it that is accepted. The goals are printed beside the times.
 #
-#   bench/publication.sh [RUNS]
+#   bench/publication.sh [RUNS]    (BENCH=PROGRAM: a proved survey_bench that is there)
 set -u
 here=$(cd "$(dirname "$0")" && pwd)
 runs=${1:-5}
 work=$(mktemp -d) || exit 1
 trap 'rm -rf "$work"' EXIT
-# Builds the proved program at crates/survey_bench/out/survey_bench.
-(cd "$here/../crates/survey_bench" && rt run >/dev/null 2>&1) || { echo "publication.sh: survey_bench isn't built"; exit 1; }
-bench="$here/../crates/survey_bench/out/survey_bench"
+if [ -n "${BENCH:-}" ]; then
+    bench=$(realpath -e "$BENCH") || exit 1
+else
+    # Builds the proved program at crates/survey_bench/out/survey_bench.
+    (cd "$here/../crates/survey_bench" && rt run >/dev/null 2>&1) || { echo "publication.sh: survey_bench isn't built"; exit 1; }
+    bench="$here/../crates/survey_bench/out/survey_bench"
+fi
 programs=hipsd
 if command -v gcc >/dev/null 2>&1; then
     gcc -O3 -march=x86-64-v2 -o "$work/level" "$here/level.c" || exit 1

@@ -10,7 +10,8 @@
 # --equal that is all that is done; it takes two and a half minutes.
 #
 # What the log costs at `info` is timed by pairs of runs against a second hipsd, which says nothing: requests a second of both, and
-# the middle of the pairs' ratios. With --log that is all that is done; it takes two minutes.
+# the middle of the pairs' ratios. Then, where valgrind is installed, the instructions of a request at either level, which no other
+# program changes. With --log that is all that is done; it takes two minutes.
 #
 # wrk takes processors too: on a machine with few of them all three share. PROGRAM is the proved build; one of `rt try` has checks
 # in it, and its times say nothing. Best of RUNS, each of SECONDS, 3 of 3 if not said; at one rate the middle of RUNS, 5 of 7; of the
@@ -214,6 +215,16 @@ log_rates() {
     log_costs "tile, 529,920 bytes" "$tile" 4
     kill "$editor" 2>/dev/null
     wait "$editor" 2>/dev/null
+    command -v valgrind >/dev/null 2>&1 || return
+    echo "instructions of a request of properties, in a session: off $(instructions off), info $(instructions info)"
+}
+# instructions LEVEL: of each of 2,000 requests, by callgrind, whatever else runs.
+instructions() {
+    for count in 1000 3000; do
+        for _ in $(seq $count); do printf 'GET /properties HTTP/1.1\r\nHost: a\r\n\r\n'; done >"$work/requests"
+        HIPSD_LOG=$1 valgrind --tool=callgrind --callgrind-out-file=/dev/null "$hipsd" session <"$work/requests" 2>&1 >"$work/replies" |
+            sed -n 's/.*Collected : //p'
+    done | paste -sd ' ' | awk '{ printf "%.0f", ($2 - $1) / 2000 }'
 }
 
 # ---- what is timed

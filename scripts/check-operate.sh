@@ -1,8 +1,8 @@
 #!/bin/bash
 # Tries what an operator and an editor use beside the program, as they do: examples/nginx.conf (with openssl, for TLS), edit.sh with
-# its journal, import-hipsgen.py, what export and verify say of a folder, the service of systemd (by systemd's own verifiers,
-# since systemd isn't running here), the man page (mandoc), scripts/install.sh and what the program says. What it starts it
-# ends, and nothing is written outside a folder of its own.
+# its journal, look-back.sh over that, import-hipsgen.py, what export and verify say of a folder, the service of systemd (by
+# systemd's own verifiers, since systemd isn't running here), the man page (mandoc), scripts/install.sh and what the program says.
+# What it starts it ends, and nothing is written outside a folder of its own.
 #
 #     scripts/check-operate.sh [PROGRAM]
 #
@@ -346,6 +346,53 @@ by_curl() {
     edited 0 'published 4' publish
 }
 
+# looked STATUS TEXT WORD ..: look-back.sh's status, and a text that stands in what it says or writes; what it writes in $folder/body.
+looked() {
+    status=$1 text=$2
+    shift 2
+    HIPSD_PROGRAM=$program "$examples/look-back.sh" "$@" >"$folder/body" 2>"$folder/said"
+    got=$?
+    [ "$got" = "$status" ] || blame "look-back.sh $*: status $got in place of $status: $(cat "$folder/said")"
+    [ -z "$text" ] || grep -qF -- "$text" "$folder/said" "$folder/body" || blame "look-back.sh $*: no '$text' in: $(cat "$folder/said")"
+}
+# looks_back JOURNAL: files of earlier states, by the journal of `journaled`.
+looks_back() {
+    looked 0 '' "$1"
+    [ "$(tr '\n' ';' <"$folder/body")" = "1 put Norder5/Dir0/Npix8.fits;2 add $leaf;4 batch;4 published;5 put $leaf;5 published;" ] ||
+        blame "look-back.sh lists the states $(cat "$folder/body")"
+    looked 1 "after 1 edits there was no $leaf" "$1" 1 "$leaf"
+    for edits in 2 4; do
+        looked 0 '' "$1" "$edits" "$leaf"
+        cmp -s "$folder/leaf" "$folder/body" || blame "look-back.sh: after $edits edits $leaf isn't the tile that was put"
+    done
+    looked 0 '' "$1" 5 "$leaf"
+    cmp -s "$folder/other" "$folder/body" || blame "look-back.sh: after 5 edits $leaf isn't the other tile"
+    looked 0 'survey_leaves = 0' "$1" 0 properties
+    looked 0 'survey_leaves = 1' "$1" 1 properties
+    for path in properties "$leaf" Norder3/Dir0/Npix0.fits; do
+        looked 0 '' "$1" 5 "$path"
+        cat "$folder/body"
+    done | cmp -s "$folder/before" - || blame "look-back.sh: after 5 edits the files aren't those that were served"
+    looked 1 'there was no state of 3 edits' "$1" 3 properties
+    looked 1 'fewer than 6 edits' "$1" 6 properties
+    looked 2 'is no number of edits' "$1" 05 properties
+    looked 2 'is no path' "$1" 5 ../properties
+    looked 2 'JOURNAL EDITS PATH' "$1" 5
+    looked 2 'there is no folder' "$folder/nothing"
+
+    # An edit whose answer is missing was accepted where the numbers say so, and not where they don't. One that is missing itself
+    # is told.
+    cp -r "$1" "$folder/doubtful"
+    rm "$folder/doubtful/00000002.answer" "$folder/doubtful/00000003.answer" "$folder/doubtful/00000007.answer"
+    looked 0 '' "$folder/doubtful" 4 "$leaf"
+    cmp -s "$folder/leaf" "$folder/body" || blame "look-back.sh, with an answer missing: after 4 edits $leaf isn't the tile that was put"
+    rm "$folder/doubtful/00000006.answer"
+    looked 0 'nobody knows whether the server took them: 00000006' "$folder/doubtful"
+    rm "$folder/doubtful/00000001.edit"
+    looked 1 '00000004: the server had 4 edits' "$folder/doubtful" 4 "$leaf"
+    rm -r "$folder/doubtful"
+}
+
 # journaled: edits outlive the server's end, also one that was accepted and not answered, and one that was never sent isn't made up.
 journaled() {
     journal=$folder/journal
@@ -363,6 +410,7 @@ journaled() {
     [ "$(cat "$journal/00000002.edit" "$journal/00000002.answer")" = "add $leaf
 201 2" ] || blame "the second entry of the journal: $(cat "$journal"/00000002.[ea]*)"
     for path in properties "$leaf" Norder3/Dir0/Npix0.fits; do curl -s "$direct/$path"; done >"$folder/before"
+    looks_back "$journal"
 
     # It is on the disk before it is sent: what is called of these two, in order.
     mkdir "$folder/calls"
@@ -700,6 +748,16 @@ wrong_words() {
     says 1 'K = 12: 3 to 11' probe 12 1 3 0
     says 1 'k = 5: 0 to K, which is 4' probe 4 1 5 0
     says 1 'export takes 0 words after its name, and here are 1' export all
+    says 1 'CACHE = 9: 1 to 8' past 9
+}
+
+# wrong_records: which record of `past` has no line, and what a line may be.
+wrong_records() {
+    printf 'read 0 x\nlook\nread 0 x\n' >"$folder/records"
+    "$program" past 1 <"$folder/records" >"$folder/output" 2>"$folder/said"
+    got=$?
+    [ "$got $(cat "$folder/output")" = '17 absent' ] || blame "hipsd past: status $got, and it writes $(cat "$folder/output")"
+    grep -qF 'record 1, counted from 0, has no line of a record: "batch LENGTH" or "read K PATH"' "$folder/said" || blame "hipsd past, with a line that is none: $(cat "$folder/said")"
 }
 
 # its_version: the log has version and toolchain, as the manual page has and `rt` where it is here.
@@ -766,6 +824,7 @@ levels() {
 
 start
 wrong_words
+wrong_records
 its_version
 wrong_descriptions
 addresses
@@ -793,7 +852,9 @@ installs() {
     for file in share/man/man1/hipsd.1 lib/systemd/system/hipsd.service lib/sysusers.d/hipsd.conf share/doc/hipsd/examples/README.md; do
         [ -s "$root/usr/$file" ] || blame "install.sh: there is no $file"
     done
-    [ -x "$root/usr/share/doc/hipsd/examples/edit.sh" ] || blame "edit.sh can't be run where it is installed"
+    for script in edit.sh look-back.sh; do
+        [ -x "$root/usr/share/doc/hipsd/examples/$script" ] || blame "$script can't be run where it is installed"
+    done
     grep -rqE '@(PREFIX|VERSION|REVISION|TOOLCHAIN)@' "$root/usr/share/man" "$root/usr/lib" && blame "install.sh leaves a word unfilled"
     grep -q '^ExecStart=/usr/bin/hipsd serve 127.0.0.1:' "$root/usr/lib/systemd/system/hipsd.service" || blame "the service starts another program"
     if command -v mandoc >/dev/null 2>&1; then
@@ -848,7 +909,7 @@ if command -v nft >/dev/null 2>&1; then port_for_the_proxy; else leaves_out nfta
 
 # The scripts that operators and editors run.
 if command -v shellcheck >/dev/null 2>&1; then
-    shellcheck "$examples/edit.sh" "$scripts/install.sh" "$scripts/install-tools.sh" "$scripts/check-operate.sh" || blame "shellcheck"
+    shellcheck "$examples/edit.sh" "$examples/look-back.sh" "$scripts/install.sh" "$scripts/install-tools.sh" "$scripts/check-operate.sh" || blame "shellcheck"
 else
     leaves_out shellcheck
 fi

@@ -13,6 +13,7 @@ program=$(realpath -e "${1:-crates/hipsd/out/hipsd}") || { echo "check-serve: th
 seconds=${2:-20}
 python=/usr/bin/python3
 scripts=$PWD/scripts
+examples=$PWD/examples
 missing=
 command -v curl >/dev/null 2>&1 || missing="$missing curl"
 [ -x "$python" ] || missing="$missing python3"
@@ -81,6 +82,15 @@ stop() {
     server=
 }
 
+# told TEXT: once the log has it. A request is said after its reply was sent.
+told() {
+    for _ in $(seq 100); do
+        grep -qF "$1" "$folder/log" && return
+        sleep 0.05
+    done
+    return 1
+}
+
 # ---- the command line
 
 "$program" serve 127.0.0.1:1 0 1 >"$folder/output" 2>/dev/null
@@ -114,7 +124,7 @@ grep -q '^survey_leaves = 1$' "$folder/body" || blame "properties by HTTP/1.0: $
 asks 405 -X PUT -d '' "$base/properties"
 asks 405 -X BREW "$base/properties"
 asks 404 "$base/a%0Ab"
-grep -qF ' GET /a\nb: 404' "$folder/log" || blame "a path with a line end isn't one line of the log: $(tail -n 2 "$folder/log")"
+told ' GET /a\nb 404 10 ' || blame "a path with a line end isn't one line of the log: $(tail -n 2 "$folder/log")"
 asks 411 -X PUT -H 'Content-Length:' "$leaf"
 asks 422 -X PUT -d 'no tile' "$leaf"
 asks 400 -H 'Host:' "$base/properties"
@@ -188,6 +198,51 @@ ended=$?
 server=
 [ "$ended" = 0 ] || blame "two places of one connection end with status $ended: $(cat "$folder/log")"
 [ -s "$folder/output" ] && blame "the server wrote to standard output"
+
+# ---- the log at `debug`: each request is ten words, and the example counts the requests and bytes of each client
+
+HIPSD_LOG=debug start 65536 2
+leaf=$base/Norder5/Dir0/Npix7.fits
+asks 404 "$leaf"
+asks 201 -T "$folder/leaf" "$leaf"
+asks 412 -T "$folder/leaf" -H 'If-None-Match: *' "$leaf"
+asks 422 -X PUT -d 'no tile' "$leaf"
+asks 411 -X PUT -H 'Content-Length:' "$leaf"
+asks 200 -X POST "$base/publish"
+asks 200 "$leaf"
+asks 200 -I "$leaf"
+asks 204 -X DELETE "$leaf"
+asks 201 -T "$folder/leaf" "$leaf"
+asks 200 -X POST "$base/publish"
+asks 405 -X BREW "$base/properties"
+asks 404 --interface 127.0.0.2 "$base/a%20b"
+for _ in $(seq 100); do [ "$(grep -c '^\[DEBUG request\]' "$folder/log")" -ge 13 ] && break; sleep 0.05; done
+sort >"$folder/wanted" <<'LINES'
+GET /Norder5/Dir0/Npix7.fits 404 10 not_found
+PUT /Norder5/Dir0/Npix7.fits 201 0 -
+PUT /Norder5/Dir0/Npix7.fits 412 20 precondition_failed
+PUT /Norder5/Dir0/Npix7.fits 422 24 tile_refused_1_header_1
+- - 411 0 length_required
+POST /publish 200 12 -
+GET /Norder5/Dir0/Npix7.fits 200 5760 -
+HEAD /Norder5/Dir0/Npix7.fits 200 0 -
+DELETE /Norder5/Dir0/Npix7.fits 204 0 -
+PUT /Norder5/Dir0/Npix7.fits 201 0 -
+POST /publish 200 12 -
+OTHER /properties 405 19 method_not_allowed
+GET /a\x20b 404 10 not_found
+LINES
+awk '$2 == "request]" { print $5, $6, $7, $8, $10 }' "$folder/log" | sort | diff "$folder/wanted" - >"$folder/differs" || blame "requests as the log has them: $(cat "$folder/differs")"
+odd=$(awk '$2 == "client]" { client[$3 $4] } $2 == "request]" && (NF != 10 || $9 !~ /^[0-9]+$/ || !(($3 $4) in client))' "$folder/log")
+[ -z "$odd" ] || blame "a request without ten words, microseconds or a client: $odd"
+[ "$(awk '$2 == "request]" { all += $9 } END { print (all > 0) }' "$folder/log")" = 1 ] || blame "no request took a microsecond"
+published=$(sed -n 's/.*: \(published .*\): .*/\1/p' "$folder/log")
+[ "$published" = $'published 1 edits, 1 of 1 in all\npublished 2 edits, 3 of 3 in all' ] || blame "publications as the log has them: $published"
+count=$(sed -n "s/^awk '\(.*\)' log\$/\1/p" "$examples/README.md")
+clients=$(awk "$count" "$folder/log" | LC_ALL=C sort)
+[ "$clients" = $'1 10 127.0.0.2\n12 5857 127.0.0.1' ] || blame "requests and bytes of each client: $clients"
+grep -q 'connection{place=[12] number=[1-9][0-9]*}: Closed$' "$folder/log" || blame "the end of a connection isn't said"
+stop
 
 # ---- many connections at once
 

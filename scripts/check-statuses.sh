@@ -72,14 +72,52 @@ check 3 'tile Norder4/Dir0/Npix0.fits 1 header 1\n' '' verify
 
 # Connections: over that folder, which is refused, and over a survey without leaves, which stays as it is.
 check 3 'tile Norder4/Dir0/Npix0.fits 1 header 1\n' 'GET /prop' session
+check 3 'tile Norder4/Dir0/Npix0.fits 1 header 1\n' 'look\n' past 1
 rm -r Norder4
 closed='Content-Length: 0\r\nConnection: close\r\n\r\n'
 check 0 '' '' session
 check 4 '' 'GET /prop' session
 check 14 "HTTP/1.1 411 Length Required\r\n$closed" 'PUT /Norder4/Dir0/Npix0.fits HTTP/1.1\r\nHost: a\r\n\r\n' session
 check 14 "HTTP/1.1 505 HTTP Version Not Supported\r\n$closed" 'GET / HTTP/2.0\r\nHost: a\r\n\r\n' session
+
+# Records about past states, over the same survey.
+check 1 "$usage" 'look\n' past 0
+check 1 "$usage" 'look\n' past 9
+check 0 '' '' past 1
+check 0 'refused 0 edit 2\nabsent\nfuture 0\n' 'batch 9\nremove 0\nread 0 x\nread 1 x\n' past 8
+check 4 'absent\n' 'read 0 x\nread 0 x' past 1
+check 17 'absent\n' 'read 0 x\nlook\n' past 1
 check 0 'HTTP/1.1 200 OK\r\nContent-Type: text/plain\r\nContent-Length: 9\r\nSurvey-Prefix: 0\r\n\r\npinned 0\n' \
     'POST /pin HTTP/1.1\r\nHost: a\r\n\r\n' session
+check 0 'verified 2\n' '' verify
+
+# A catalogue beside the survey, which stays: its rows and its tiles; lines with a fault, which change nothing; no rows.
+rows='5\t0\ta\t\n3\t1\tb\t\n4\t0\tc\t\n'
+head='rank\tnpix\tid\trest\n'
+# holds PATH TEXT: the file is this text, a format of printf; without TEXT there is no such file.
+holds() {
+    if [ $# = 1 ]; then
+        [ ! -e "$1" ] && return
+    else
+        printf "$2" | cmp -s - "$1" && return
+    fi
+    echo "check-statuses: $1 isn't as the catalogue has it" >&2
+    wrong=1
+}
+check 1 "$usage" "$rows" catalog 12 1
+check 1 "$usage" "$rows" catalog 1 4097
+check 0 'rows 3 tiles 2\n' "$rows" catalog 1 1
+holds Norder0/Dir0/Npix0.tsv "${head}3\t1\tb\t\n"
+holds Norder1/Dir0/Npix0.tsv "${head}4\t0\tc\t\n5\t0\ta\t\n"
+check 16 'row 4 7\n' "${rows}5\t0\ta\t\n" catalog 1 1
+check 16 'row 1 9\n' '\055\tb\n' catalog 1 1
+check 4 '' "${rows}5" catalog 1 1
+holds Norder0/Dir0/Npix0.tsv "${head}3\t1\tb\t\n"
+check 0 'rows 2 tiles 2\n' "${rows}-\tb\n" catalog 1 1
+holds Norder0/Dir0/Npix0.tsv "${head}4\t0\tc\t\n"
+check 0 'rows 0 tiles 0\n' '' catalog 0 4096
+holds Norder0/Dir0/Npix0.tsv
+holds Norder1/Dir0/Npix0.tsv
 check 0 'verified 2\n' '' verify
 
 # 65,536 requests are answered, the last of them with `Connection: close`, and no more.

@@ -1,11 +1,12 @@
 //! The list, as a tree whose nodes count what is below them.
-ghost use Rattle.std.specs.Prelude.{◌≡◌, ℕ, ◌+◌, ◌<◌, ◌≤◌, ◌^◌, [], ◌∷◌, ◌++◌, length, option_copied, option_to_list, slice_get, slice_set, slice_index_or, IfNone};
+ghost use Rattle.std.specs.Prelude.{◌≡◌, ℕ, ◌+◌, ◌<◌, ◌≤◌, ◌^◌, [], ◌∷◌, ◌++◌, length, option_copied, option_to_list, slice_get, slice_set, slice_index_or, map, IfNone, IfOk, OnOk};
 ghost use Rattle.std.specs.List.{insert, remove};
 ghost use Rattle.balanced_list.specs.Search.{leading, HoldsAtFirst};
 ghost use Rattle.balanced_list.specs.Tree.{node_items, CountsItems, tree_items, IsCounted};
 
 use crate::balance::{Fork, Tree, balanced};
 use crate::item::Item;
+use std::alloc::{AllocError, Global};
 use std::marker::Model;
 use std::mem;
 
@@ -95,6 +96,33 @@ impl<T: Drop> BalancedList<T> {
                 } else {
                     node.left.place(probe)
                 }
+            }
+        }
+    }
+
+    /// The items in order.
+    ///
+    /// # Errors
+    ///
+    /// `AllocError` where there is no memory for them.
+    pub fn to_vec(&self, alloc: Global) -> Result<Vec<&T>, AllocError>
+        ensures { IfOk result (λ items. map (λ item. item.now) items.items ≡ self.now) }
+    {
+        let mut items = Vec::with_capacity(alloc, self.len())?;
+        self.push_all(&mut items)?;
+        Ok(items)
+    }
+
+    // Appends the items in order.
+    fn push_all<'a>(&'a self, items: &mut Vec<&'a T>) -> Result<(), AllocError>
+        ensures { OnOk result (map (λ item. item.now) items.new.items ≡ map (λ item. item.now) items.old.items ++ self.now) }
+    {
+        match &self.tree {
+            Tree::Empty => Ok(()),
+            Tree::Fork(node) => {
+                node.left.push_all(items)?;
+                items.push(&node.item)?;
+                node.right.push_all(items)
             }
         }
     }

@@ -1,8 +1,8 @@
 //! Calls of boards as values, and what they are answered.
-use crate::survey::{all_fit, fits};
 use edit_journal::Edit;
 use parent_rule::Steps;
 use reader_pin::{Board, BoardBatch, BoardRefusal, Published};
+use small_survey::{all_fit, fits};
 use std::alloc::Global;
 use std::sync::{Arc, Wait};
 use std::thread::Threads;

@@ -6,10 +6,10 @@
 mod calling;
 mod replay;
 mod story;
-mod survey;
 mod teller;
+mod tiles;
 
 pub use calling::{Answer, Asked, Call, Seen, Told};
 pub use story::{Ending, play};
-pub use survey::{all_fit, first_state, fits, tile};
 pub use teller::{Teller, explained, meet, tellers, tile_of};
+pub use tiles::tile;

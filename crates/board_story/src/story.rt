@@ -2,10 +2,11 @@
 ghost use Rattle.std.specs.Prelude.{◌≡◌, []};
 
 use crate::calling::{Answer, Asked, Call, Seen};
-use crate::survey::first_state;
 use crate::teller::{Teller, explained, meet, tellers, tile_of};
 use reader_pin::{Survey, SurveyBook, SurveySeat, open_shared};
 use shared_history::Naming;
+use small_files::SURVEY;
+use small_survey::first_state;
 use std::alloc::{AllocError, Global};
 use std::io::Print;
 use std::marker::Brand;
@@ -65,7 +66,7 @@ static END: [(usize, Call); 10] = [
 ///
 /// Where there is no memory to begin it, or a call is refused again and again.
 pub fn play<R: Threads + Wait + Print + Sync>(rt: &R, alloc: Global) -> Result<Ending, Fail> {
-    let state = first_state(rt, alloc)?;
+    let state = first_state(rt, alloc, SURVEY)?;
     open::<Brand, R>(rt, alloc, SurveyBook::new(), state)
 }
 

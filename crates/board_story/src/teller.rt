@@ -1,7 +1,7 @@
 //! Boards that tell what they were answered, and whether one history explains it.
 use crate::calling::{Answer, Call, Seen, Told, made};
 use crate::replay::Replay;
-use crate::survey::tile;
+use crate::tiles::tile;
 use reader_pin::{Board, Shared, Survey, SurveySeat};
 use shared_history::Naming;
 use std::alloc::{AllocError, Global};

@@ -1,7 +1,8 @@
 //! A survey through the board of its only connection.
 use crate::calls::check_all;
-use board_story::first_state;
 use reader_pin::Solo;
+use small_files::SURVEY;
+use small_survey::first_state;
 use std::test::Fail;
 
 // A call, what is answered, the last state seen then, and the one that is held.
@@ -31,6 +32,6 @@ publish||already 7 by 0|7 7 2|none";
 #[test]
 fn a_survey_has_one_board(rt: HostRuntime) -> Result<(), Fail> {
     let alloc = rt.alloc();
-    let mut board = Solo::new(alloc, first_state(&rt, alloc)?)?;
+    let mut board = Solo::new(alloc, first_state(&rt, alloc, SURVEY)?)?;
     check_all(&rt, alloc, &mut board, CALLS)
 }

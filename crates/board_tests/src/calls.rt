@@ -1,8 +1,9 @@
 //! Calls of boards as lines of text, and what they are answered.
-use board_story::{all_fit, fits, tile};
+use board_story::tile;
 use edit_journal::Edit;
 use parent_rule::{Depth, Steps};
 use reader_pin::{Board, BoardBatch, BoardRefusal, Published};
+use small_survey::{all_fit, fits};
 use std::alloc::{AllocError, Global};
 use std::process::Abort;
 use std::sync::Wait;

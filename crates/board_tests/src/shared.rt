@@ -4,11 +4,12 @@ ghost use Rattle.std.specs.Prelude.{◌≡◌, ◌<◌, ◌≤◌};
 use crate::calls::{check_all, edit};
 use crate::gates::{CountingGate, EditGate};
 use crate::storm::storm;
-use board_story::{first_state, fits};
 use edit_journal::Edit;
 use parent_rule::Steps;
 use reader_pin::{Board, Published, Shared, Survey, SurveyBook, SurveySeat, open_shared};
 use shared_history::Naming;
+use small_files::SURVEY;
+use small_survey::{first_state, fits};
 use std::alloc::{AllocError, Global};
 use std::marker::Brand;
 use std::process::Abort;
@@ -336,7 +337,7 @@ fn played<J: Naming + Send + Sync, R: Threads + Wait + Abort + Sync>(
     requires book { book ≡ J.book }
     requires places { (0 < places) × (places ≤ 64) }
 {
-    let state = first_state(rt, alloc)?;
+    let state = first_state(rt, alloc, SURVEY)?;
     let (survey, seats): (Survey<J>, Vec<SurveySeat<J>>) = open_shared(
         rt, alloc, book, state, places,
     )?;

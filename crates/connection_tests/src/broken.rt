@@ -3,10 +3,11 @@ ghost use Rattle.std.specs.Prelude.{◌<◌};
 
 use crate::conversations::{EDIT, EDITED};
 use crate::rows::{push_replies, push_requests, replies, requests};
-use crate::surveys::{SURVEY, opened, serve};
+use crate::surveys::{opened, serve};
 use hips_http::SessionEnd;
 use log::Log;
 use parent_rule::Steps;
+use small_files::SURVEY;
 use std::alloc::Global;
 use std::process::Abort;
 use std::sync::Wait;

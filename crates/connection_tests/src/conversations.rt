@@ -1,9 +1,10 @@
 //! Connections in full: what is asked, and what is answered.
 use crate::rows::{push_replies, push_requests};
-use crate::surveys::{SURVEY, answers, opened};
+use crate::surveys::{answers, opened};
 use hips_http::SessionEnd;
 use log::Log;
 use parent_rule::Steps;
+use small_files::SURVEY;
 use std::alloc::Global;
 use std::sync::Wait;
 use std::test::Fail;

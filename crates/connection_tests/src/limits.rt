@@ -1,11 +1,13 @@
 //! The most that a connection or a survey takes.
 use crate::rows::{push_replies, replies, requests};
-use crate::surveys::{SURVEY, answers, fits, opened};
+use crate::surveys::{answers, opened};
 use edit_journal::Edit;
 use hips_http::SessionEnd;
 use log::Log;
 use parent_rule::{Depth, Steps};
 use reader_pin::{Board, Solo};
+use small_files::SURVEY;
+use small_survey::fits;
 use std::alloc::Global;
 use std::sync::{Arc, Wait};
 use std::test::Fail;

@@ -1,8 +1,9 @@
 //! Places over a door in memory.
-use crate::surveys::{SURVEY, opened};
+use crate::surveys::opened;
 use hips_place::{PlaceEnd, serve_place};
 use log::Log;
 use parent_rule::Steps;
+use small_files::SURVEY;
 use std::alloc::{AllocError, Global};
 use std::sync::Wait;
 use std::test::Fail;
@@ -51,6 +52,7 @@ fn place<R: Threads + Wait + Sync + Clock + Log>(
     let end = serve_place(
         rt,
         alloc,
+        1,
         &mut board,
         &mut door,
         most,

@@ -5,21 +5,11 @@
 
 ghost use Rattle.std.specs.Prelude.{◌≤◌};
 
+use small_files::{TILE_CARDS, fill_block, header};
 use std::alloc::Global;
 use std::test::Fail;
 
-// The cards of each tile of a survey whose tiles have two columns and two lines of 16 bits, but for those of its cell.
-static TILE: &str = "SIMPLE  =                    T
-BITPIX  =                   16
-NAXIS   =                    2
-NAXIS1  =                    2
-NAXIS2  =                    2
-BSCALE  =                1.0E0
-BZERO   =                0.0E0
-BLANK   =               -32768
-";
-
-// The cards of the mosaic of such a survey.
+// The cards of the mosaic of a survey whose tiles have two columns and two lines of 16 bits.
 static MOSAIC: &str = "SIMPLE  =                    T
 BITPIX  =                   16
 NAXIS   =                    2
@@ -86,28 +76,9 @@ survey_bzero = 0.0E0
 survey_blank = -32768
 ";
 
-// Appends the byte until the last block of 2,880 bytes is full.
-fn pad(file: &mut Vec<u8>, byte: u8) -> Result<(), Fail> {
-    for _ in 0..2_880 {
-        if file.len() % 2_880 == 0 {
-            break;
-        }
-        file.push(byte)?;
-    }
-    Ok(())
-}
-
 // Appends a header with a card of each line.
-fn push_header(alloc: Global, file: &mut Vec<u8>, text: &str) -> Result<(), Fail> {
-    let mut header = Vec::new(alloc);
-    for line in text.lines() {
-        header.extend_from_slice(line.as_bytes())?;
-        for _ in line.len()..80 {
-            header.push(b' ')?;
-        }
-    }
-    pad(&mut header, b' ')?;
-    file.extend_from_slice(&header)?;
+fn push_header(alloc: Global, file: &mut Vec<u8>, cards: &str) -> Result<(), Fail> {
+    file.extend_from_slice(&header(alloc, cards)?)?;
     Ok(())
 }
 
@@ -161,7 +132,7 @@ fn push_line(body: &mut Vec<u8>, line: &str) -> Result<(), Fail> {
 // Appends the header of a tile: `cell` is its order and its number.
 fn push_tile(alloc: Global, body: &mut Vec<u8>, cell: &str) -> Result<(), Fail> {
     let (order, npix) = cell.split_once(' ').unwrap_or((cell, ""));
-    let cards = format!(in alloc; "{TILE}ORDER   = {order:>20}\nNPIX    = {npix:>20}\nEND")?;
+    let cards = format!(in alloc; "{TILE_CARDS}ORDER   = {order:>20}\nNPIX    = {npix:>20}\nEND")?;
     push_header(alloc, body, &cards)
 }
 
@@ -197,7 +168,7 @@ fn push_part(alloc: Global, body: &mut Vec<u8>, part: &str) -> Result<(), Fail> 
         // Numbers of 16 bits and of 64, and zero bytes until the block is full.
         "short" => push_numbers(body, rest, 2),
         "long" => push_numbers(body, rest, 8),
-        "pad" => pad(body, 0),
+        "pad" => Ok(fill_block(body, 0)?),
         "spaces" => push_times(body, rest, b" "),
         "blanks" => push_times(body, rest, &[0x80, 0]),
         "removals" => push_times(body, rest, b"remove 0\n"),

@@ -3,12 +3,13 @@ ghost use Rattle.std.specs.Prelude.{◌≡◌};
 
 use crate::conversations::{EDIT, EDITED};
 use crate::rows::{replies, requests};
-use crate::surveys::{SURVEY, first_state};
 use hips_http::{SessionEnd, session};
 use log::Log;
 use parent_rule::Steps;
 use reader_pin::{Board, Shared, Survey, SurveyBook, SurveySeat, open_shared};
 use shared_history::Naming;
+use small_files::SURVEY;
+use small_survey::first_state;
 use std::alloc::Global;
 use std::marker::Brand;
 use std::process::Abort;

@@ -2,28 +2,9 @@
 
 use decimal_scale::Decimal;
 use fits_header::{BLOCK_LEN, CARD_LEN, Card, Header, HeaderFault, whole_blocks, write_cards};
+use small_files::{fill_block, push_card};
 use std::alloc::{AllocError, Global};
 use std::test::Fail;
-
-// Adds a card: the line, filled with spaces.
-fn push_card(text: &mut Vec<u8>, line: &str) -> Result<(), AllocError> {
-    text.extend_from_slice(line.as_bytes())?;
-    for _ in line.len()..CARD_LEN {
-        text.push(b' ')?;
-    }
-    Ok(())
-}
-
-// Fills the block with spaces.
-fn fill_block(text: &mut Vec<u8>) -> Result<(), AllocError> {
-    let used = text.len() % BLOCK_LEN;
-    if used > 0 {
-        for _ in used..BLOCK_LEN {
-            text.push(b' ')?;
-        }
-    }
-    Ok(())
-}
 
 // So many cards COMMENT, and these cards, one a line.
 fn header(alloc: Global, comments: usize, lines: &str) -> Result<Vec<u8>, AllocError> {
@@ -34,7 +15,7 @@ fn header(alloc: Global, comments: usize, lines: &str) -> Result<Vec<u8>, AllocE
     for line in lines.lines() {
         push_card(&mut text, line)?;
     }
-    fill_block(&mut text)?;
+    fill_block(&mut text, b' ')?;
     Ok(text)
 }
 
@@ -220,7 +201,7 @@ fn header_of(alloc: Global, line: &str) -> Result<Header, Fail> {
     let mut text = Vec::new(alloc);
     push_card(&mut text, line)?;
     push_card(&mut text, "END")?;
-    fill_block(&mut text)?;
+    fill_block(&mut text, b' ')?;
     match Header::read(&text) {
         Ok((header, _)) => Ok(header),
         Err(_) => Err("no header".into()),

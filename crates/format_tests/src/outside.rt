@@ -1,6 +1,7 @@
 //! Files for tools of others, which `scripts/check-fits.sh` hands them.
-use crate::tile_files::{header, written_again};
+use crate::tile_files::written_again;
 use healpix_nested::Cell;
+use small_files::header;
 use std::alloc::Global;
 use std::test::Fail;
 use survey_conf::Conf;

@@ -4,20 +4,10 @@ ghost use Rattle.std.specs.Prelude.{◌≡◌, IfOk, length};
 use fits_tile::{body_room, decode, encode_image, encode_into, file_len};
 use healpix_nested::Cell;
 use parent_rule::Steps;
+use small_files::{SURVEY, TILE_HEADER, fill_block, header, push_card};
 use std::alloc::{AllocError, Global};
 use std::test::Fail;
 use survey_conf::Conf;
-
-// A survey of order 4 whose tiles have two columns and two lines of 16 bits.
-const SURVEY: &str = "creator_did = ivo://example/P/one
-obs_title = Survey one
-hips_release_date = 2024-05-01T00:00Z
-hips_status = public master clonable
-hips_order = 4
-hips_tile_width = 2
-survey_bitpix = 16
-survey_blank = -32768
-";
 
 // A survey of the width that HiPS recommends, whose numbers have no sign.
 const WIDE_SURVEY: &str = "creator_did = ivo://example/P/one
@@ -30,39 +20,6 @@ survey_bzero = 32768
 survey_blank = -32768
 ";
 
-// The header of a tile of the first survey, one card a line.
-const HEADER: &str = "SIMPLE  =                    T
-BITPIX  =                   16
-NAXIS   =                    2
-NAXIS1  =                    2
-NAXIS2  =                    2
-BSCALE  =                1.0E0
-BZERO   =                0.0E0
-BLANK   =               -32768
-ORDER   =                    4
-NPIX    =                    0
-END";
-
-// Adds a card: the line, filled with spaces.
-fn push_card(text: &mut Vec<u8>, line: &str) -> Result<(), AllocError> {
-    text.extend_from_slice(line.as_bytes())?;
-    for _ in line.len()..80 {
-        text.push(b' ')?;
-    }
-    Ok(())
-}
-
-// Fills the block.
-fn fill_block(text: &mut Vec<u8>, byte: u8) -> Result<(), AllocError> {
-    let used = text.len() % 2_880;
-    if used > 0 {
-        for _ in used..2_880 {
-            text.push(byte)?;
-        }
-    }
-    Ok(())
-}
-
 // So many bytes, all the same.
 fn repeated(alloc: Global, byte: u8, len: usize) -> Result<Vec<u8>, AllocError>
     ensures { IfOk result (λ bytes. length bytes.items ≡ len) }
@@ -70,16 +27,6 @@ fn repeated(alloc: Global, byte: u8, len: usize) -> Result<Vec<u8>, AllocError>
     let mut bytes = Vec::new(alloc);
     bytes.resize(len, byte)?;
     Ok(bytes)
-}
-
-// A header of these cards, one a line.
-pub(crate) fn header(alloc: Global, cards: &str) -> Result<Vec<u8>, AllocError> {
-    let mut text = Vec::new(alloc);
-    for line in cards.lines() {
-        push_card(&mut text, line)?;
-    }
-    fill_block(&mut text, b' ')?;
-    Ok(text)
 }
 
 // A file of a header of these cards, and so many bytes that differ, filled with zeros up to a whole block.
@@ -95,7 +42,7 @@ fn file(alloc: Global, cards: &str, len: usize) -> Result<Vec<u8>, AllocError> {
 // The header of a tile with other cards at place `at`, a `;` between them.
 fn changed_header(alloc: Global, at: usize, other: &str) -> Result<Vec<u8>, AllocError> {
     let mut text = Vec::new(alloc);
-    for (i, line) in HEADER.lines().enumerate() {
+    for (i, line) in TILE_HEADER.lines().enumerate() {
         let cards = if i == at { other } else { line };
         for card in cards.split(';') {
             push_card(&mut text, card)?;
@@ -241,7 +188,7 @@ fn writes_what_tools_wrote(rt: HostRuntime) -> Result<(), Fail> {
     let conf = Conf::read(alloc, SURVEY.as_bytes())?;
     let cell = Cell::new(4, 0).ok_or("no cell")?;
     let out = written_again(alloc, &file(alloc, OUTSIDE, 8)?, &conf, cell)?;
-    let mut wanted = file(alloc, HEADER, 8)?;
+    let mut wanted = file(alloc, TILE_HEADER, 8)?;
     wanted.push(b'#')?;
     assert_eq!(rt; out.as_slice(), wanted.as_slice());
     Ok(())

@@ -1,17 +1,17 @@
 -- How a source less changes the tiles: each tile from its own downward takes up the best source of those below.
-use Rattle.std.proofs.Common.{◌≡◌, ◌≢◌, ℕ, zero, suc, ◌+◌, ◌-◌, ◌*◌, ◌/◌, ◌^◌, ◌≤◌, ◌<◌, Bool, true, false, cond, ltb, List, [], ◌∷◌, ◌++◌, length, take, drop, refl, sym, ap, ◌∙◌, subst, arith, ◌⊎◌, inl, inr}
+use Rattle.std.proofs.Common.{◌≡◌, ℕ, zero, suc, ◌+◌, ◌-◌, ◌/◌, ◌^◌, ◌<◌, Bool, true, false, cond, ltb, List, [], ◌∷◌, ◌++◌, length, take, drop, refl, sym, ap, ◌∙◌, subst, arith, ◌⊎◌, inl, inr}
 use Rattle.std.proofs.lemmas.List.{take_all, drop_all}
-use Rattle.std.specs.Prelude.{slice_get, Option, Some, None, unwrap_or}
+use Rattle.std.specs.Prelude.{slice_get, Some, None, unwrap_or}
 use Rattle.std.specs.List.{AllByRecursion as All, filter, remove}
 use Rattle.healpix_nested.specs.Cells.{lies_under}
 use Rattle.hips_catalog.specs.Rows.{Source, is_better}
 use Rattle.hips_catalog.specs.Held.{is_under, rest_of, held}
 pub use Rattle.hips_catalog.specs.Rising.{Rising}
-use Rattle.hips_catalog.proofs.Order.{either, not_both, not_itself as never_itself, IsInOrder, all_map}
-use Rattle.hips_catalog.proofs.OneMore.{OneMore, here, later, more_has, more_behind, Cut, beyond, fits, pushes, cut, more_length}
-use Rattle.hips_catalog.proofs.Places.{Same, same, same_few}
+use Rattle.hips_catalog.proofs.Order.{not_both, not_itself as never_itself, IsInOrder, all_map}
+use Rattle.hips_catalog.proofs.OneMore.{OneMore, here, later, more_has, more_behind, beyond, fits, pushes, cut, more_length}
+use Rattle.hips_catalog.proofs.Places.{same, same_few}
 use Rattle.hips_catalog.proofs.Steps.{dropped_ordered, dropped_all, picked_all, ended_ordered}
-use Rattle.hips_catalog.proofs.Descent.{under_from, Where, outside, itself, under_child, where_is, same_held, held_above, child_same, child_more, child_left, rest_under, rest_ordered, goes_under, child_of, not_itself, deeper, under_deeper, under_as, others_same, above_child, SameBut}
+use Rattle.hips_catalog.proofs.Descent.{under_from, outside, itself, under_child, where_is, same_held, held_above, child_more, rest_under, rest_ordered, goes_under, child_of, not_itself, deeper, under_deeper, under_as, others_same, above_child, SameBut}
 
 -- ---- lists
 

@@ -1,12 +1,12 @@
 -- The best of the first rows of tiles.
-use Rattle.std.proofs.Common.{◌≡◌, Bool, true, false, List, [], ◌∷◌, refl, sym, ap, ◌∙◌, subst, arith, inl, inr}
+use Rattle.std.proofs.Common.{◌≡◌, true, false, List, [], ◌∷◌, refl, sym, ap, ◌∙◌, subst, arith, inl, inr}
 use Rattle.std.specs.Prelude.{Option, Some, None, IfSome, unwrap_or}
 use Rattle.std.specs.List.{AllByRecursion as All}
 use Rattle.healpix_nested.specs.Cells.{NestedCell}
 use Rattle.hips_catalog.specs.Rows.{Source, is_better}
-use Rattle.hips_catalog.specs.Tiles.{IsBest, IsOneOf, first_at}
+use Rattle.hips_catalog.specs.Tiles.{IsBest, first_at}
 use Rattle.hips_catalog.specs.declared.tile.Tile.{Tile}
-use Rattle.hips_catalog.proofs.Order.{either, not_both, not_itself, better_trans, better_not_back}
+use Rattle.hips_catalog.proofs.Order.{either, not_both, not_itself, better_trans}
 
 none_is_some : (z : Source) → None ≡ Some z → ⊥
 none_is_some z e = absurd (grind (arith, e))

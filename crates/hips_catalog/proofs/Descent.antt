@@ -1,14 +1,14 @@
 -- How a source more changes the tiles, from the top downward.
-use Rattle.std.proofs.Common.{◌≡◌, ◌≢◌, ℕ, zero, suc, ◌+◌, ◌-◌, ◌*◌, ◌/◌, ◌^◌, ◌≤◌, ◌<◌, ◌&&◌, Bool, true, false, cond, eqb, leb, ltb, List, [], ◌∷◌, ◌++◌, length, take, drop, refl, sym, ap, ◌∙◌, subst, arith, ◌⊎◌, inl, inr}
+use Rattle.std.proofs.Common.{◌≡◌, ◌≢◌, ℕ, zero, suc, ◌+◌, ◌-◌, ◌/◌, ◌^◌, ◌≤◌, ◌<◌, true, false, cond, eqb, leb, ltb, List, take, drop, refl, sym, ap, ◌∙◌, subst, arith, inl, inr}
 use Rattle.std.proofs.Math.Nat.{div-div-eq-div-mul, pow-succ'}
 use Rattle.std.proofs.lemmas.Bool.{and_parts, leb-true, le-leb, eqb-true, eq-eqb, lt-ltb, cases_eq}
-use Rattle.std.specs.List.{AllByRecursion as All, filter, remove}
+use Rattle.std.specs.List.{AllByRecursion as All, filter}
 use Rattle.healpix_nested.specs.Cells.{lies_under}
 use Rattle.healpix_nested.specs.CellLaws.{under_self, under_trans, under_one, under_parent}
-use Rattle.hips_catalog.specs.Rows.{Source, is_better}
+use Rattle.hips_catalog.specs.Rows.{Source}
 use Rattle.hips_catalog.specs.Held.{is_under, rest_of, held}
 use Rattle.hips_catalog.proofs.Order.{either, not_both, IsInOrder}
-use Rattle.hips_catalog.proofs.OneMore.{OneMore, here, later, more_has, more_picked, more_left}
+use Rattle.hips_catalog.proofs.OneMore.{OneMore, more_has, more_picked, more_left}
 use Rattle.hips_catalog.proofs.Steps.{picked_meet, picked_ordered, dropped_ordered, dropped_all}
 
 -- ---- cells

@@ -1,5 +1,5 @@
 -- Where a source is found among the tiles, and what is left as it rises out of them.
-use Rattle.std.proofs.Common.{◌≡◌, ◌≢◌, ℕ, zero, suc, ◌+◌, ◌-◌, ◌*◌, ◌/◌, ◌^◌, ◌≤◌, ◌<◌, Bool, true, false, List, [], ◌∷◌, ◌++◌, length, take, drop, refl, sym, ap, ◌∙◌, subst, arith, ◌⊎◌, inl, inr}
+use Rattle.std.proofs.Common.{◌≡◌, ℕ, zero, suc, ◌+◌, ◌-◌, ◌*◌, ◌/◌, ◌^◌, ◌≤◌, ◌<◌, true, false, List, [], ◌∷◌, ◌++◌, length, take, drop, refl, sym, ap, ◌∙◌, subst, arith, ◌⊎◌, inl, inr}
 use Rattle.std.proofs.lemmas.Bool.{cases_eq}
 use Rattle.std.proofs.lemmas.List.{take_all, drop_all, length-drop}
 use Rattle.std.specs.Prelude.{slice_get, Option, Some, None, IfSome}
@@ -12,8 +12,8 @@ use Rattle.hips_catalog.specs.Parts.{AreTilesOf, Differ}
 use Rattle.hips_catalog.specs.Tiles.{rows_at, AreListed, NoneIsEmpty, IsBest, IsOneOf, child_cell}
 use Rattle.hips_catalog.specs.declared.tile.Tile.{Tile}
 use Rattle.hips_catalog.proofs.Order.{IsInOrder, not_both}
-use Rattle.hips_catalog.proofs.OneMore.{OneMore, here, later, removed_more, more_length, more_has, Cut, beyond, fits, pushes, cut}
-use Rattle.hips_catalog.proofs.Places.{Same, same, same_few, found_there, better_at_first}
+use Rattle.hips_catalog.proofs.OneMore.{OneMore, here, later, removed_more, more_length, more_has, beyond, fits, pushes, cut}
+use Rattle.hips_catalog.proofs.Places.{same, same_few, found_there, better_at_first}
 use Rattle.hips_catalog.proofs.Steps.{dropped_all, taken_ordered}
 use Rattle.hips_catalog.proofs.Descent.{Sinking, sink, SameBut, under_from, held_above, rest_ordered, rest_under, deeper, child_same, under_parts}
 use Rattle.hips_catalog.proofs.Ascent.{Rising, SameButTwo, Begins, best_below, none_below, rise, risen, not_refilled, same_less, child_below, first_in, held_first}

@@ -1,7 +1,7 @@
 -- Tiles that are placed in: how many rows they have, and what a full one gives out.
-use Rattle.std.proofs.Common.{◌≡◌, ◌≢◌, ℕ, zero, suc, ◌+◌, ◌*◌, ◌^◌, ◌≤◌, ◌<◌, Bool, true, false, cond, eqb, ltb, List, [], ◌∷◌, ◌++◌, map, length, take, drop, refl, sym, ap, ap₂, ◌∙◌, subst, arith, ◌⊎◌, inl, inr}
+use Rattle.std.proofs.Common.{◌≡◌, ℕ, zero, suc, ◌+◌, ◌*◌, ◌^◌, ◌≤◌, ◌<◌, true, false, cond, ltb, List, [], ◌∷◌, map, length, take, refl, sym, ap, ap₂, ◌∙◌, subst, arith, ◌⊎◌, inl, inr}
 use Rattle.std.proofs.lemmas.Bool.{cases_eq}
-use Rattle.std.specs.Prelude.{slice_get, Option, Some, None}
+use Rattle.std.specs.Prelude.{slice_get, Some, None}
 use Rattle.std.specs.List.{AllByRecursion as All, insert, remove}
 use Rattle.balanced_list.specs.Search.{leading}
 use Rattle.healpix_nested.specs.Cells.{NestedCell, IsCell, uniq_number}
@@ -9,8 +9,8 @@ use Rattle.healpix_nested.specs.CellLaws.{known_power, four_pow_pos}
 use Rattle.hips_catalog.specs.Rows.{Source, is_better, placed}
 use Rattle.hips_catalog.specs.Tiles.{sources, is_of, rows_at, number, AreListed, HasTile, IsGap, OthersStay, OthersStayButTwo, HasSameCells, NoneIsEmpty}
 use Rattle.hips_catalog.specs.declared.tile.Tile.{Tile}
-use Rattle.hips_catalog.proofs.Order.{all_map, either}
-use Rattle.hips_catalog.proofs.Listed.{TileAt, tile_at, the_tile, got, no_tile, all_get, insert_here, insert_others, insert_listed, remove_here, remove_others, remove_listed, leading_within}
+use Rattle.hips_catalog.proofs.Order.{all_map}
+use Rattle.hips_catalog.proofs.Listed.{tile_at, the_tile, got, no_tile, all_get, insert_here, insert_others, insert_listed, remove_here, remove_others, remove_listed, leading_within}
 
 -- ---- how many tiles there are
 

@@ -10,3 +10,9 @@ pub mod Best
 pub mod Full
 pub mod Sunk
 pub mod Found
+pub mod Ids
+pub mod Changed
+pub mod Existing
+pub mod Splitting
+pub mod RowLemmas
+pub mod OneTile

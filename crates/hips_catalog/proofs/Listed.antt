@@ -1,7 +1,7 @@
 -- Tiles in the order of their numbers: what is found, put in and taken out.
-use Rattle.std.proofs.Common.{◌≡◌, ◌≢◌, ℕ, zero, suc, ◌+◌, ◌*◌, ◌^◌, ◌≤◌, ◌<◌, ◌&&◌, Bool, true, false, cond, eqb, ltb, List, [], ◌∷◌, ◌++◌, map, length, take, drop, refl, sym, ap, ap₂, ◌∙◌, subst, arith, ◌⊎◌, inl, inr}
+use Rattle.std.proofs.Common.{◌≡◌, ◌≢◌, ℕ, zero, suc, ◌+◌, ◌≤◌, ◌<◌, ◌&&◌, Bool, true, false, cond, eqb, ltb, List, [], ◌∷◌, map, length, refl, sym, ap, ap₂, ◌∙◌, subst, arith, inl, inr}
 use Rattle.std.proofs.lemmas.Bool.{and_parts, eqb-true, eq-eqb, ltb-true, ltb-false}
-use Rattle.std.specs.Prelude.{slice_get, slice_set, slice_index_or, Option, Some, None, unwrap_or}
+use Rattle.std.specs.Prelude.{slice_get, slice_set, slice_index_or, Some, None, unwrap_or}
 use Rattle.std.specs.List.{AllByRecursion as All, insert, remove}
 use Rattle.balanced_list.specs.Search.{leading, HoldsAtFirst}
 use Rattle.healpix_nested.specs.Cells.{NestedCell, IsCell, uniq_number}

@@ -1,7 +1,7 @@
 -- Lists of which one has an item more than the other, and the same ones otherwise in the same order.
-use Rattle.std.proofs.Common.{◌≡◌, ◌≢◌, ℕ, zero, suc, ◌+◌, ◌≤◌, ◌<◌, Bool, true, false, cond, List, [], ◌∷◌, ◌++◌, length, take, drop, refl, sym, ap, ◌∙◌, subst, arith, ◌⊎◌, inl, inr}
+use Rattle.std.proofs.Common.{◌≡◌, ℕ, zero, suc, ◌+◌, ◌≤◌, ◌<◌, Bool, true, false, cond, List, [], ◌∷◌, ◌++◌, length, take, drop, refl, sym, ap, subst, arith}
 use Rattle.std.specs.Prelude.{slice_index_or}
-use Rattle.std.specs.List.{AllByRecursion as All, filter, insert, remove}
+use Rattle.std.specs.List.{AllByRecursion as All, filter, remove}
 pub use Rattle.hips_catalog.specs.More.{OneMore, here, later}
 
 pub more_length : {T : Type 0} {x : T} {few many : List T} → OneMore x few many → length many ≡ length few + 1

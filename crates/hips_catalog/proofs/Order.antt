@@ -1,10 +1,10 @@
 -- The order of sources is strict, and there is one list of given sources in order.
-use Rattle.std.proofs.Common.{◌≡◌, ◌≢◌, ℕ, Bool, true, false, cond, List, [], ◌∷◌, ◌++◌, refl, sym, ap, ◌∙◌, subst, arith, ◌⊎◌, inl, inr}
+use Rattle.std.proofs.Common.{◌≡◌, ◌≢◌, ℕ, Bool, true, false, cond, List, [], ◌∷◌, refl, sym, ap, ◌∙◌, subst, arith, ◌⊎◌, inl, inr}
 use Rattle.std.specs.List.{AllByRecursion as All}
 use Rattle.std.specs.Cmp.{IsTotalOrder, then_total, on_total}
 use Rattle.std.specs.Cmp.Lexicographic.{slice_cmp, on_texts}
 use Rattle.std.specs.declared.cmp.Ordering.{Ordering}
-use Rattle.std.specs.Ordering.{nat_cmp, is_lt, on, then_cmp, ordering_reverse, ordering_then}
+use Rattle.std.specs.Ordering.{nat_cmp, is_lt, ordering_reverse, ordering_then}
 use Rattle.std.specs.declared.cmp.Ordering.TheVariants.{Less, Equal, Greater}
 use Rattle.std.proofs.lemmas.Cmp.{nat_cmp_total}
 use Rattle.std.proofs.lemmas.Map.Lookups.{exact_bytes}
@@ -22,17 +22,17 @@ pub not_both : (b : Bool) → b ≡ true → b ≡ false → ⊥
 not_both true h e = absurd (grind (arith, e))
 not_both false h e = absurd (grind (arith, h))
 
-less_from : (o : Ordering) → is_lt o ≡ true → o ≡ Less
+pub less_from : (o : Ordering) → is_lt o ≡ true → o ≡ Less
 less_from Less h = refl
 less_from Equal h = absurd (grind (arith, h))
 less_from Greater h = absurd (grind (arith, h))
 
-equal_from : (o : Ordering) → is_lt o ≡ false → is_lt (ordering_reverse o) ≡ false → o ≡ Equal
+pub equal_from : (o : Ordering) → is_lt o ≡ false → is_lt (ordering_reverse o) ≡ false → o ≡ Equal
 equal_from Less h g = absurd (grind (arith, h))
 equal_from Equal h g = refl
 equal_from Greater h g = absurd (grind (arith, g))
 
-reversed : (o : Ordering) → o ≡ Less → is_lt (ordering_reverse o) ≡ false
+pub reversed : (o : Ordering) → o ≡ Less → is_lt (ordering_reverse o) ≡ false
 reversed Less h = refl
 reversed Equal h = refl
 reversed Greater h = absurd (grind (arith, h))

@@ -1,7 +1,7 @@
 -- A source more, in lists in order.
-use Rattle.std.proofs.Common.{◌≡◌, ◌≢◌, ℕ, zero, suc, ◌+◌, ◌≤◌, ◌<◌, Bool, true, false, cond, List, [], ◌∷◌, ◌++◌, length, take, drop, refl, sym, ap, ◌∙◌, subst, arith, ◌⊎◌, inl, inr}
-use Rattle.std.specs.Prelude.{slice_get, Option, Some, None}
-use Rattle.std.specs.List.{AllByRecursion as All, filter, insert}
+use Rattle.std.proofs.Common.{◌≡◌, ◌≢◌, suc, ◌+◌, true, false, cond, List, [], ◌∷◌, refl, sym, ap, subst, arith, inl, inr}
+use Rattle.std.specs.Prelude.{slice_get, Some}
+use Rattle.std.specs.List.{AllByRecursion as All, insert}
 use Rattle.balanced_list.specs.Search.{leading, HoldsAtFirst}
 use Rattle.hips_catalog.specs.Rows.{Source, is_better, placed, in_order}
 use Rattle.hips_catalog.proofs.Order.{either, not_both, IsInOrder, IsNew, AreDistinct, better_trans, better_not_back, not_itself, one_is_better, better_than_all, all_map, in_order_all, in_order_ordered}

@@ -1,12 +1,11 @@
 -- What a tile holds of two lists of sources of which one has a source more, and what goes on to the tiles below.
-use Rattle.std.proofs.Common.{◌≡◌, ◌≢◌, ℕ, zero, suc, ◌+◌, ◌-◌, ◌/◌, ◌^◌, ◌≤◌, ◌<◌, Bool, true, false, cond, List, [], ◌∷◌, ◌++◌, length, take, drop, refl, sym, ap, ◌∙◌, subst, arith, ◌⊎◌, inl, inr, length-append}
-use Rattle.std.proofs.lemmas.List.{take_all, drop_all, take-append-le}
+use Rattle.std.proofs.Common.{◌≡◌, ℕ, zero, suc, ◌+◌, ◌≤◌, Bool, true, false, cond, List, [], ◌∷◌, ◌++◌, length, take, drop, refl, sym, ap, ◌∙◌, subst, arith, inl, inr}
+use Rattle.std.proofs.lemmas.List.{take_all, drop_all}
 use Rattle.std.specs.Prelude.{slice_get, Option, Some, None}
 use Rattle.std.specs.List.{AllByRecursion as All, filter}
 use Rattle.hips_catalog.specs.Rows.{Source, is_better, placed}
-use Rattle.hips_catalog.specs.Held.{is_under, rest_of, held}
-use Rattle.hips_catalog.proofs.Order.{either, IsInOrder, all_map}
-use Rattle.hips_catalog.proofs.OneMore.{OneMore, here, later, more_has, more_length, more_at_end, more_picked, more_left, Cut, beyond, fits, pushes, cut}
+use Rattle.hips_catalog.proofs.Order.{either, IsInOrder}
+use Rattle.hips_catalog.proofs.OneMore.{OneMore, here, later, more_has, more_length, more_at_end, beyond, fits, pushes, cut}
 use Rattle.hips_catalog.proofs.Places.{placed_first}
 
 -- ---- parts of lists in order

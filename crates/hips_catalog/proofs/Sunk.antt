@@ -1,11 +1,11 @@
 -- What holds as a row sinks, whatever lists it is the difference of.
-use Rattle.std.proofs.Common.{◌≡◌, ◌≢◌, ℕ, zero, suc, ◌+◌, ◌-◌, ◌/◌, ◌^◌, ◌≤◌, ◌<◌, Bool, true, false, cond, ltb, List, [], ◌∷◌, length, take, drop, refl, sym, ap, ◌∙◌, subst, arith, ◌⊎◌, inl, inr}
+use Rattle.std.proofs.Common.{◌≡◌, ℕ, zero, suc, ◌+◌, ◌-◌, ◌/◌, ◌^◌, ◌≤◌, ◌<◌, Bool, true, false, cond, ltb, List, [], ◌∷◌, length, take, drop, refl, sym, ap, ◌∙◌, subst, arith, inl, inr}
 use Rattle.std.proofs.lemmas.Bool.{ltb-true}
 use Rattle.std.proofs.lemmas.List.{take_all}
 use Rattle.healpix_nested.specs.CellLaws.{under_self}
 use Rattle.std.specs.Prelude.{slice_get, Option, Some, None, IsSome, unwrap_or}
 use Rattle.std.specs.List.{AllByRecursion as All, filter}
-use Rattle.balanced_list.specs.Search.{leading, HoldsAtFirst}
+use Rattle.balanced_list.specs.Search.{HoldsAtFirst}
 use Rattle.healpix_nested.specs.Cells.{IsCell, lies_under}
 use Rattle.hips_catalog.specs.Rows.{Source, is_better, placed}
 use Rattle.hips_catalog.specs.Held.{is_under, rest_of, held}
@@ -13,10 +13,10 @@ use Rattle.hips_catalog.specs.Tiles.{rows_at, AreListed, NoneIsEmpty}
 use Rattle.hips_catalog.specs.Parts.{AreTilesOf, Differ}
 use Rattle.hips_catalog.specs.declared.tile.Tile.{Tile}
 use Rattle.hips_catalog.proofs.Order.{IsInOrder, either, not_both}
-use Rattle.hips_catalog.proofs.OneMore.{OneMore, more_has, more_picked, more_left, more_length, more_rest}
+use Rattle.hips_catalog.proofs.OneMore.{OneMore, more_has, more_picked, more_left, more_length}
 use Rattle.hips_catalog.proofs.Places.{better_at_first, ordered_less}
 use Rattle.hips_catalog.proofs.Steps.{step_held, step_out, Out, none, some, placed_is, taken_ordered, picked_all, dropped_all}
-use Rattle.hips_catalog.proofs.Descent.{Sinking, sink, sunk, SameBut, under_from, under_parts, no_other, same_held, held_above, child_same, rest_ordered, rest_under, up}
+use Rattle.hips_catalog.proofs.Descent.{Sinking, sink, sunk, SameBut, under_from, under_parts, no_other, same_held, held_above, child_same, rest_ordered}
 
 -- ---- lengths
 

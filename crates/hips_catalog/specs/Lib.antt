@@ -1,7 +1,12 @@
 pub mod Catalogue
 pub mod Held
+pub mod Kept
+pub mod Laws
 pub mod More
 pub mod Parts
+pub mod Reading
 pub mod Rising
 pub mod Rows
+pub mod Texts
+pub mod TileText
 pub mod Tiles

@@ -1,5 +1,5 @@
 -- The tiles of sources, and what a source more or less makes of them.
-use Rattle.std.specs.Prelude.{◌≡◌, ℕ, ◌+◌, ◌<◌, ◌≤◌, ◌^◌, List, length}
+use Rattle.std.specs.Prelude.{◌≡◌, ℕ, ◌<◌, ◌^◌, List, length}
 use Rattle.std.specs.List.{AllByRecursion}
 use Rattle.healpix_nested.specs.Cells.{IsCell}
 use Rattle.hips_catalog.specs.Rows.{Source}

@@ -1,13 +1,23 @@
 //! The tiles of a catalogue of sources: each holds the best rows of its cell that no tile above it holds.
 //!
-//! What stands is a row (`Row`), the tiles of a set of rows as the definition has them (`tile`), and how a row sinks into
-//! them (`sink`) and rises out of them (`rise`), each in one step an order. The catalogue over these, which reads rows and
-//! writes tiles, is still to come, so no program calls this crate yet.
+//! A row is read of a line (`read`). A `Catalog` keeps rows by id, and its tiles, whatever rows are put in and taken out. A row
+//! sinks into the tiles (`sink`) and rises out of them (`rise`) in one step an order (`tile`). A tile is read row by row, or as
+//! tab-separated values (`text`).
 #![tactic(auto)]
 
+mod catalog;
+mod fault;
+pub mod laws;
+mod read;
+mod refusal;
 mod rise;
 mod row;
 mod sink;
+mod text;
 mod tile;
 
+pub use catalog::{Catalog, MOST_ROWS};
+pub use fault::{RowFault, RowRefusal};
+pub use read::is_id;
+pub use refusal::InsertRefusal;
 pub use row::Row;

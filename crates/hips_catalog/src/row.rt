@@ -22,6 +22,23 @@ impl Model for Row {
 }
 
 impl Row {
+    /// The row of these parts.
+    pub(crate) fn of(rank: u64, npix: u64, id: Vec<u8>, rest: Vec<u8>) -> Row
+        ensures { result ≡ record {
+          rank = rank;
+          npix = npix;
+          id = id.items;
+          rest = rest.items;
+        } }
+    {
+        Row {
+            rank,
+            npix,
+            id,
+            rest,
+        }
+    }
+
     /// The rank.
     pub fn rank(&self) -> u64
         ensures { result ≡ self.now.rank }

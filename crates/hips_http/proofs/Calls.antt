@@ -10,14 +10,14 @@ use Rattle.dirty_plan.specs.Laws.{MoreTouchedIsMoreWork}
 use Rattle.generation.specs.Steps.{touched}
 use Rattle.edit_journal.specs.Edit.{LeafEdit, leaf_of}
 use Rattle.survey_core.specs.History.{SurveyState, edits_at, opening_state, IsHistory, Begins, Precedes}
-use Rattle.survey_core.specs.HistoryLaws.{begins_itself, begins_length, history_precedes, history_some}
+use Rattle.survey_core.specs.HistoryLaws.{begins_itself, begins_trans, begins_length, history_precedes, history_some}
 use Rattle.reader_pin.specs.Board.{BoardContent, Stays, Happens, Publishes, IsPublished, last_of, last_seen, edit_count, publish_work, holding_last, holding_none}
 use Rattle.hips_http.specs.declared.call.Call.TheVariants as call
-use Rattle.hips_http.specs.Replies.{published, already, no_memory, pinned, released}
+use Rattle.hips_http.specs.Replies.{Answer, published, already, no_memory, pinned, released}
 use Rattle.hips_http.specs.declared.call.Call.{Call}
 use Rattle.hips_http.specs.Answers.{Asking, Point, Answers, FindsNoMemory, publication_cost, cost_of}
-use Rattle.hips_http.specs.Progress.{Serves}
-use Rattle.hips_http.proofs.Points.{stays_there, place_rises, kept_keeps, event_steps, wants_found, later_own, last_there, kept_point, wanting_point, holding_point, released_point, event_point, kept_at, wanting_at, event_at, event_later, event_old, event_new, event_begins}
+use Rattle.hips_http.specs.Progress.{IsHeld, Serves}
+use Rattle.hips_http.proofs.Points.{stays_there, held_stays, place_rises, kept_keeps, event_steps, wants_found, later_own, last_there, kept_point, wanting_point, holding_point, released_point, event_point, kept_at, wanting_at, event_at, event_later, event_old, event_new, event_begins}
 
 -- ---- the steps of a publication
 
@@ -144,6 +144,24 @@ already_serves law old new steps steps' k stays is bound request = record {
         }));
         cost = refl;
       };
+}
+
+-- a call that is answered once newer states were seen
+pub serves_later : (old mid new : BoardContent) (steps steps' : ℕ) (request : Asking) (call : Call) (answer : Answer) → Stays old mid → Serves request call mid new steps steps' answer
+    → Serves request call old new steps steps' answer
+serves_later old mid new steps steps' request call answer stays serves = record {
+  conf = serves.conf ∙ stays.conf;
+  opening = serves.opening ∙ stays.opening;
+  legal = serves.legal;
+  begins = begins_trans old.history mid.history new.history stays.earlier serves.begins;
+  at_each = λ first_own first_steps wants before at. serves.at_each first_own first_steps wants before (record {
+    within = (let w = at.within in omega (arith, begins_length old.history mid.history stays.earlier));
+    held = subst (IsHeld mid.history before.held) (sym stays.held) (held_stays old.history mid.history before.held old.held stays.earlier at.held);
+    own_is = stays.own ∙ at.own_is;
+    own_seen = at.own_seen;
+    wants_is = at.wants_is;
+    steps_are = at.steps_are;
+  });
 }
 
 -- a request that finds no memory; `none` is where its call has that case

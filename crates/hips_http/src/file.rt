@@ -11,11 +11,12 @@ ghost use Rattle.hips_http.specs.Progress.{Gives};
 ghost use Rattle.hips_http.specs.Replies.{head_of, sent_body, file_answer, path_answer, not_found};
 
 use crate::reply::TextReply;
-use crate::saying::say_answered;
+use crate::saying::Stopwatch;
 use crate::send::{send_file, send_text};
 use http_frame::Method;
 use log::Log;
 use reader_pin::Board;
+use std::time::Clock;
 use survey_core::State;
 use survey_link::{Failed, Sink};
 use tile_path::Path;
@@ -25,8 +26,9 @@ use tile_path::Path;
 /// # Errors
 ///
 /// `Failed` only where the sink's count of faults rose; some first bytes may have been written.
-pub(crate) fn send_path<R: Log, K: Sink>(
+pub(crate) fn send_path<R: Clock + Log, K: Sink>(
     rt: &R,
+    watch: Stopwatch,
     sink: &mut K,
     method: Method,
     close: bool,
@@ -44,16 +46,17 @@ pub(crate) fn send_path<R: Log, K: Sink>(
 {
     match path {
         Some(text) => match Path::read(text) {
-            Some(path) => send_known(rt, sink, method, close, state, &path, text),
-            None => send_unknown(rt, sink, method, close, state, text),
+            Some(path) => send_known(rt, watch, sink, method, close, state, &path, text),
+            None => send_unknown(rt, watch, sink, method, close, state, text),
         },
-        None => send_not_found(rt, sink, method, close, state, None),
+        None => send_not_found(rt, watch, sink, method, close, state, None),
     }
 }
 
 // The same of a path that a survey can have, which is spelled so.
-fn send_known<R: Log, K: Sink>(
+fn send_known<R: Clock + Log, K: Sink>(
     rt: &R,
+    watch: Stopwatch,
     sink: &mut K,
     method: Method,
     close: bool,
@@ -75,8 +78,9 @@ fn send_known<R: Log, K: Sink>(
     match state.generation().file_parts(path, &mut front) {
         Some(parts) => {
             let front = &front[..parts.front];
-            say_answered(rt, method, Some(text), 200);
             send_file(
+                rt,
+                watch,
                 sink,
                 method,
                 close,
@@ -87,13 +91,14 @@ fn send_known<R: Log, K: Sink>(
                 parts.zeros,
             )
         }
-        None => send_not_found(rt, sink, method, close, state, Some(text)),
+        None => send_not_found(rt, watch, sink, method, close, state, Some(text)),
     }
 }
 
 // The same of a text that no path spells.
-fn send_unknown<R: Log, K: Sink>(
+fn send_unknown<R: Clock + Log, K: Sink>(
     rt: &R,
+    watch: Stopwatch,
     sink: &mut K,
     method: Method,
     close: bool,
@@ -111,12 +116,13 @@ fn send_unknown<R: Log, K: Sink>(
     ensures never_falls { K.faults sink.old ≤ K.faults sink.new }
 {
     let _orders = state.conf().shape();
-    send_not_found(rt, sink, method, close, state, Some(text))
+    send_not_found(rt, watch, sink, method, close, state, Some(text))
 }
 
 // The reply that there is no file at the path.
-fn send_not_found<R: Log, K: Sink>(
+fn send_not_found<R: Clock + Log, K: Sink>(
     rt: &R,
+    watch: Stopwatch,
     sink: &mut K,
     method: Method,
     close: bool,
@@ -130,8 +136,8 @@ fn send_not_found<R: Log, K: Sink>(
     ensures failed { OnErr result (Rises (K.faults sink.old) (K.faults sink.new)) }
     ensures never_falls { K.faults sink.old ≤ K.faults sink.new }
 {
-    say_answered(rt, method, path, 404);
-    send_text(sink, method, close, &TextReply::not_found(state.tip()))
+    let reply = TextReply::not_found(state.tip());
+    send_text(rt, watch, sink, method, path, close, &reply)
 }
 
 /// Answers GET and HEAD of a path: by the state that the board holds, else by the newest that it sees. It takes no memory.
@@ -139,8 +145,9 @@ fn send_not_found<R: Log, K: Sink>(
 /// # Errors
 ///
 /// `Failed` only where the sink's count of faults rose; some first bytes may have been written.
-pub(crate) fn give_file<R: Log, B: Board, K: Sink>(
+pub(crate) fn give_file<R: Clock + Log, B: Board, K: Sink>(
     rt: &R,
+    watch: Stopwatch,
     sink: &mut K,
     board: &mut B,
     method: Method,
@@ -156,14 +163,15 @@ pub(crate) fn give_file<R: Log, B: Board, K: Sink>(
 {
     let _legal = board.last();
     match board.held() {
-        Some(state) => return send_path(rt, sink, method, close, state, path),
-        None => return give_newest(rt, sink, board, method, close, path),
+        Some(state) => return send_path(rt, watch, sink, method, close, state, path),
+        None => return give_newest(rt, watch, sink, board, method, close, path),
     }
 }
 
 // The same by the newest state that the board sees, where it holds none.
-fn give_newest<R: Log, B: Board, K: Sink>(
+fn give_newest<R: Clock + Log, B: Board, K: Sink>(
     rt: &R,
+    watch: Stopwatch,
     sink: &mut K,
     board: &mut B,
     method: Method,
@@ -178,5 +186,5 @@ fn give_newest<R: Log, B: Board, K: Sink>(
     ensures never_falls { K.faults sink.old ≤ K.faults sink.new }
 {
     board.pin();
-    send_path(rt, sink, method, close, board.last(), path)
+    send_path(rt, watch, sink, method, close, board.last(), path)
 }

@@ -6,10 +6,10 @@ ghost use Rattle.hips_http.specs.Replies;
 ghost use Rattle.hips_http.specs.Replies.{text_answer, empty_answer, refused_answer, refused_batch, cause_code, cause_text};
 ghost use Rattle.hips_http.specs.Verdict.{missing, unmet, limit, cause_of};
 
-use crate::text::{Text, push, push_entry_fault, push_number, push_tile_fault};
+use crate::text::{Text, push_entry_fault, push_tile_fault};
 use edit_journal::EditFault;
 use fits_tile::TileFault;
-use http_frame::{Allow, Kind, Number};
+use http_frame::{Allow, Kind, Number, push, push_number};
 use std::marker::Model;
 use survey_core::EntryFault;
 

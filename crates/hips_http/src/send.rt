@@ -6,15 +6,41 @@ ghost use Rattle.http_frame.specs.Reply.{is_reply_code, reply_bytes};
 ghost use Rattle.hips_http.specs.Replies.{head_of, sent_body, refusal_bytes, file_kind, found_answer};
 
 use crate::reply::TextReply;
+use crate::saying::{Stopwatch, say_file, say_refused, say_text};
 use http_frame::{Allow, Kind, Method, Number, Reply, write_reply, write_reply_parts};
+use log::Log;
+use std::time::Clock;
 use survey_link::{Failed, Sink};
 
-/// Writes a reply; to HEAD its head alone. `close` is whether the connection is closed after it.
+/// Writes a reply to the request of a path, and says it; to HEAD its head alone. `close` is whether the connection is closed
+/// after it.
 ///
 /// # Errors
 ///
 /// `Failed` only where the sink's count of faults rose; some first bytes may have been written.
-pub(crate) fn send_text<K: Sink>(
+pub(crate) fn send_text<R: Clock + Log, K: Sink>(
+    rt: &R,
+    watch: Stopwatch,
+    sink: &mut K,
+    method: Method,
+    path: Option<&[u8]>,
+    close: bool,
+    reply: &TextReply,
+) -> Result<(), Failed>
+    ensures whole { OnOk result (Appends (K.held sink.old) (K.held sink.new) (reply_bytes (head_of close reply.now) (sent_body method reply.now.body))) }
+    ensures part { OnErr result (AppendsPrefix (K.held sink.old) (K.held sink.new) (reply_bytes (head_of close reply.now) (sent_body method reply.now.body))) }
+    ensures handed_on { OnOk result (K.handed_on sink.new ≡ K.held sink.new) }
+    ensures stays { OnErr result (K.handed_on sink.new ≡ K.handed_on sink.old) }
+    ensures failed { OnErr result (Rises (K.faults sink.old) (K.faults sink.new)) }
+    ensures never_falls { K.faults sink.old ≤ K.faults sink.new }
+{
+    let sent = write_text(sink, method, close, reply);
+    say_text(rt, watch, method, path, reply);
+    sent
+}
+
+// Writes a reply; to HEAD its head alone.
+fn write_text<K: Sink>(
     sink: &mut K,
     method: Method,
     close: bool,
@@ -42,13 +68,40 @@ pub(crate) fn send_text<K: Sink>(
     }
 }
 
-/// Writes the reply with a file of the generation of that prefix; to HEAD its head alone. The head and the parts of the file
-/// go out by one call where the sink takes all.
+/// Writes the reply with a file of the generation of that prefix, and says it; to HEAD its head alone. The head and the parts
+/// of the file go out by one call where the sink takes all.
 ///
 /// # Errors
 ///
 /// `Failed` only where the sink's count of faults rose; some first bytes may have been written.
-pub(crate) fn send_file<'a, K: Sink>(
+pub(crate) fn send_file<'a, R: Clock + Log, K: Sink>(
+    rt: &R,
+    watch: Stopwatch,
+    sink: &mut K,
+    method: Method,
+    close: bool,
+    tip: u32,
+    path: &[u8],
+    front: &'a [u8],
+    kept: &'a [u8],
+    zeros: &'a [u8],
+) -> Result<(), Failed>
+    requires short { length front.now + length kept.now + length zeros.now < 2 ^ 64 }
+    ensures whole { OnOk result (Appends (K.held sink.old) (K.held sink.new) (reply_bytes (head_of close (found_answer tip path.now (front.now ++ kept.now ++ zeros.now))) (sent_body method (front.now ++ kept.now ++ zeros.now)))) }
+    ensures part { OnErr result (AppendsPrefix (K.held sink.old) (K.held sink.new) (reply_bytes (head_of close (found_answer tip path.now (front.now ++ kept.now ++ zeros.now))) (sent_body method (front.now ++ kept.now ++ zeros.now)))) }
+    ensures handed_on { OnOk result (K.handed_on sink.new ≡ K.held sink.new) }
+    ensures stays { OnErr result (K.handed_on sink.new ≡ K.handed_on sink.old) }
+    ensures failed { OnErr result (Rises (K.faults sink.old) (K.faults sink.new)) }
+    ensures never_falls { K.faults sink.old ≤ K.faults sink.new }
+{
+    let length = front.len() as u64 + kept.len() as u64 + zeros.len() as u64;
+    let sent = write_file(sink, method, close, tip, path, front, kept, zeros);
+    say_file(rt, watch, method, path, length);
+    sent
+}
+
+// Writes the reply with a file.
+fn write_file<'a, K: Sink>(
     sink: &mut K,
     method: Method,
     close: bool,
@@ -92,12 +145,16 @@ fn file_kind(path: &[u8]) -> Kind
     }
 }
 
-/// Writes the reply to a head that is refused by its framing. The code is one of those by which a frame refuses.
+/// Writes the reply to a head that is refused by its framing, and says it. The code is one of those by which a frame refuses.
 ///
 /// # Errors
 ///
 /// `Failed` only where the sink's count of faults rose; some first bytes may have been written.
-pub(crate) fn send_refusal<K: Sink>(sink: &mut K, code: u16) -> Result<(), Failed>
+pub(crate) fn send_refusal<R: Clock + Log, K: Sink>(
+    rt: &R,
+    sink: &mut K,
+    code: u16,
+) -> Result<(), Failed>
     requires known { is_reply_code code ≡ true }
     ensures whole { OnOk result (Appends (K.held sink.old) (K.held sink.new) (refusal_bytes code)) }
     ensures part { OnErr result (AppendsPrefix (K.held sink.old) (K.held sink.new) (refusal_bytes code)) }
@@ -106,6 +163,7 @@ pub(crate) fn send_refusal<K: Sink>(sink: &mut K, code: u16) -> Result<(), Faile
     ensures failed { OnErr result (Rises (K.faults sink.old) (K.faults sink.new)) }
     ensures never_falls { K.faults sink.old ≤ K.faults sink.new }
 {
+    let watch = Stopwatch::start(rt);
     let head = Reply {
         code,
         allow: Allow::Absent,
@@ -114,5 +172,7 @@ pub(crate) fn send_refusal<K: Sink>(sink: &mut K, code: u16) -> Result<(), Faile
         length: 0,
         close: true,
     };
-    write_reply(sink, &head, &[])
+    let sent = write_reply(sink, &head, &[]);
+    say_refused(rt, watch, code);
+    sent
 }

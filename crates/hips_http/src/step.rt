@@ -16,7 +16,7 @@ use crate::answer::{pass_body, reply_to};
 use crate::call::{Call, call_of, path_kind};
 use crate::file::give_file;
 use crate::reply::TextReply;
-use crate::saying::say_answered;
+use crate::saying::Stopwatch;
 use crate::send::{send_refusal, send_text};
 use crate::served::SessionEnd;
 use http_frame::{Frame, Request, Stop, write_continue};
@@ -58,7 +58,7 @@ pub(crate) fn next_call<S: Source>(
 }
 
 /// Ends a connection where no request follows: a head that is refused is answered first.
-pub(crate) fn end_at<K: Sink>(sink: &mut K, stop: Stop) -> SessionEnd
+pub(crate) fn end_at<R: Clock + Log, K: Sink>(rt: &R, sink: &mut K, stop: Stop) -> SessionEnd
     ensures ends { EndsAt stop (K.held sink.old) (K.held sink.new) result }
     ensures read_fault { result ≡ ReadFault → stop ≡ Stopped.ReadFault }
     ensures handed_on { ¬ (result ≡ WriteFault) → HandsOnAll (K.held sink.old) (K.held sink.new) (K.handed_on sink.old) (K.handed_on sink.new) }
@@ -71,7 +71,7 @@ pub(crate) fn end_at<K: Sink>(sink: &mut K, stop: Stop) -> SessionEnd
         Stop::End => return SessionEnd::Closed,
         Stop::Cut => return SessionEnd::Cut,
         Stop::ReadFault => return SessionEnd::ReadFault,
-        Stop::Refuse(code) => match send_refusal(sink, reply_code(code)) {
+        Stop::Refuse(code) => match send_refusal(rt, sink, reply_code(code)) {
             Ok(()) => return SessionEnd::Refused(code),
             Err(_) => return SessionEnd::WriteFault,
         },
@@ -126,7 +126,7 @@ fn body_end(stop: Stop) -> SessionEnd
 /// # Errors
 ///
 /// How the connection ends: `WriteFault` where the reply couldn't be written, else as the body isn't whole.
-pub(crate) fn serve_file<R: Log, B: Board, S: Source, K: Sink>(
+pub(crate) fn serve_file<R: Clock + Log, B: Board, S: Source, K: Sink>(
     rt: &R,
     frame: &mut Frame,
     board: &mut B,
@@ -151,11 +151,12 @@ pub(crate) fn serve_file<R: Log, B: Board, S: Source, K: Sink>(
     ensures sink_never_falls { K.faults sink.old ≤ K.faults sink.new }
     ensures room { frame.new.room ≡ frame.old.room }
 {
+    let watch = Stopwatch::start(rt);
     match pass_body(frame, src, request.length) {
         Ok(()) => {}
         Err(stop) => return Err(body_end(stop)),
     }
-    match give_file(rt, sink, board, request.method, close, frame.path()) {
+    match give_file(rt, watch, sink, board, request.method, close, frame.path()) {
         Ok(()) => return Ok(()),
         Err(_) => return Err(SessionEnd::WriteFault),
     }
@@ -207,13 +208,13 @@ pub(crate) fn serve_text<
     ensures wants { wants.new ≤ wants.old + 1 }
     ensures room { frame.new.room ≡ frame.old.room }
 {
+    let watch = Stopwatch::start(rt);
     let reply = match reply_to(rt, alloc, frame, board, src, gate, steps, request, call) {
         Ok(reply) => reply,
         Err(stop) => return Err(body_end(stop)),
     };
     count_want(wants, &reply);
-    say_answered(rt, request.method, frame.path(), reply.code);
-    match send_text(sink, request.method, close, &reply) {
+    match send_text(rt, watch, sink, request.method, frame.path(), close, &reply) {
         Ok(()) => return Ok(()),
         Err(_) => return Err(SessionEnd::WriteFault),
     }
@@ -319,7 +320,7 @@ pub(crate) fn serve_one<
 {
     let (request, call) = match next_call(frame, src, top) {
         Ok(next) => next,
-        Err(stop) => return Err(end_at(sink, stop)),
+        Err(stop) => return Err(end_at(rt, sink, stop)),
     };
     match grant(sink, &request) {
         Ok(()) => {}

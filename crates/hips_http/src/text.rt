@@ -9,30 +9,12 @@ ghost use Rattle.survey_core.specs.Faults.{entry_fault_text};
 use arrayvec::ArrayVec;
 use fits_header::HeaderFault;
 use fits_tile::TileFault;
+use http_frame::{push, push_number};
 use itoa::Buffer;
 use survey_core::EntryFault;
 
 /// A text of at most 256 bytes.
 pub(crate) type Text = ArrayVec<u8, 256>;
-
-/// Appends bytes for which there is room.
-pub(crate) fn push(text: &mut Text, bytes: &[u8])
-    requires { array_vec_len text.old + length bytes.now ≤ 256 }
-    ensures bytes { text.new.items ≡ text.old.items ++ bytes.now }
-    ensures len { array_vec_len text.new ≡ array_vec_len text.old + length bytes.now }
-{
-    let _fits = text.try_extend_from_slice(bytes);
-}
-
-/// Appends a number in plain decimals.
-pub(crate) fn push_number(text: &mut Text, number: u64)
-    requires { array_vec_len text.old ≤ 200 }
-    ensures number { text.new.items ≡ text.old.items ++ decimal number }
-    ensures short { array_vec_len text.new ≤ array_vec_len text.old + 40 }
-{
-    let mut buffer = Buffer::new();
-    push(text, buffer.format(number).as_bytes());
-}
 
 // Appends a number, with `-` before a negative one.
 fn push_signed(text: &mut Text, number: i64)

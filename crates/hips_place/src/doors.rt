@@ -111,7 +111,7 @@ where
 {
     let mut boards = boards_at(alloc, survey, seats)?;
     let boards = boards.as_mut_slice();
-    let end = serve_places(rt, alloc, most, gate, boards, doors);
+    let end = serve_places(rt, alloc, 1, most, gate, boards, doors);
     meet_first(boards)?;
     Ok(end)
 }

@@ -7,7 +7,7 @@ ghost use Rattle.hips_place.specs.Place.{AllReturned, EndsBy, IsPlace, IsServedO
 
 use hips_http::{SessionEnd, frame_for, session_in};
 use http_frame::Frame;
-use log::{Log, debug, info};
+use log::{Log, debug, debug_span, info};
 use parent_rule::Steps;
 use reader_pin::Board;
 use std::alloc::Global;
@@ -42,13 +42,14 @@ impl PlaceEnd {
 
 /// Takes up to `most` connections from the door, one after another, serves each from the states that the board sees, and gives
 /// it back. It keeps one frame for all; a connection for which there was no memory for one ends for want of it, with nothing
-/// read or written, and the next one is served where there is.
+/// read or written, and the next one is served where there is. `place` is the place's number, from 1 on, which only the log gets.
 ///
 /// `Failed` exactly where an accept fails, also after a session that ended for want of memory. `OutOfMemory` where an accept
 /// answers it, or a session ended so and no accept failed; such a session doesn't end the place.
 pub fn serve_place<R: Threads + Wait + Sync + Clock + Log, B: Board, D: Door, G: Gate + Sync>(
     rt: &R,
     alloc: Global,
+    place: usize,
     board: &mut B,
     door: &mut D,
     most: u32,
@@ -66,13 +67,24 @@ pub fn serve_place<R: Threads + Wait + Sync + Clock + Log, B: Board, D: Door, G:
     let mut frame = frame_for(alloc, board);
     let mut wanted = false;
     for count in 0..most {
-        match serve_next(rt, alloc, &mut frame, board, door, gate, steps) {
+        let name = ConnectionName {
+            place,
+            number: count + 1,
+        };
+        match serve_next(rt, alloc, name, &mut frame, board, door, gate, steps) {
             Ok(Some(end)) => wanted = is_wanted(wanted, end),
             Ok(None) => return say_ended(rt, end_of(wanted), count),
             Err(fault) => return say_ended(rt, end_by(fault), count),
         }
     }
     say_ended(rt, end_of(wanted), most)
+}
+
+// What the log calls a connection: its place among those of the server, and its number there, both from 1 on.
+#[derive(Clone, Copy)]
+struct ConnectionName {
+    place: usize,
+    number: u32,
 }
 
 // Says how a place ended that has served so many connections.
@@ -123,6 +135,7 @@ fn end_by(fault: DoorFault) -> PlaceEnd
 fn serve_next<R: Threads + Wait + Sync + Clock + Log, B: Board, D: Door, G: Gate + Sync>(
     rt: &R,
     alloc: Global,
+    name: ConnectionName,
     frame: &mut Option<Frame>,
     board: &mut B,
     door: &mut D,
@@ -150,16 +163,19 @@ fn serve_next<R: Threads + Wait + Sync + Clock + Log, B: Board, D: Door, G: Gate
     match door.accept()? {
         None => Ok(None),
         Some(connection) => {
-            let end = serve_connection(rt, alloc, frame, board, door, connection, gate, steps);
+            let end = serve_connection(
+                rt, alloc, name, frame, board, door, connection, gate, steps,
+            );
             Ok(Some(end))
         }
     }
 }
 
-// Serves a connection and gives it back; how it ended.
+// Serves a connection and gives it back; how it ended. What is said meanwhile names it, where requests are said.
 fn serve_connection<R: Threads + Wait + Sync + Clock + Log, B: Board, D: Door, G: Gate + Sync>(
     rt: &R,
     alloc: Global,
+    name: ConnectionName,
     frame: &mut Option<Frame>,
     board: &mut B,
     door: &mut D,
@@ -183,9 +199,10 @@ fn serve_connection<R: Threads + Wait + Sync + Clock + Log, B: Board, D: Door, G
     ensures frame_was { result ≢ SessionEnd.OutOfMemory → IsSome frame.new }
     ensures steps_never_fall { steps.old ≤ steps.new }
 {
+    let rt = debug_span!(rt; "connection", place = name.place, number = name.number);
     let (mut input, mut output) = connection;
     let end = serve(
-        rt,
+        &rt,
         alloc,
         frame,
         board,
@@ -195,7 +212,7 @@ fn serve_connection<R: Threads + Wait + Sync + Clock + Log, B: Board, D: Door, G
         steps,
     );
     door.done(input, output);
-    debug!(rt; "a connection ended: {end:?}");
+    debug!(rt; target: "ended", "{end:?}");
     end
 }
 

@@ -15,7 +15,8 @@ use survey_link::{Door, Gate};
 
 /// Serves the doors at once, each by the board at its place: up to `most` connections of each, one after another. Each place
 /// has a thread and a counter of steps of its own; where no thread can be started, the places that it was for are served
-/// before or after others. A place goes on to its end however another one ends.
+/// before or after others. A place goes on to its end however another one ends. `first` is the number of the first place, which
+/// only the log gets.
 ///
 /// It answers `Failed` where a place ended so; else `OutOfMemory` where one did; else `Done`.
 #[cycle(places)]
@@ -24,7 +25,15 @@ pub fn serve_places<
     B: Board + Send,
     D: Door + Send,
     G: Gate + Sync,
->(rt: &R, alloc: Global, most: u32, gate: &G, boards: &mut [B], doors: &mut [D]) -> PlaceEnd
+>(
+    rt: &R,
+    alloc: Global,
+    first: usize,
+    most: u32,
+    gate: &G,
+    boards: &mut [B],
+    doors: &mut [D],
+) -> PlaceEnd
 where
     D::In: Send,
     D::Out: Send,
@@ -33,7 +42,7 @@ where
         (map D.faults doors.old) (map D.faults doors.new) (map D.wants doors.old) (map D.wants doors.new) result }
 {
     if boards.len() < 2 {
-        return serve_first(rt, alloc, most, gate, boards, doors);
+        return serve_first(rt, alloc, first, most, gate, boards, doors);
     }
     let middle = boards.len() / 2;
     let (near_boards, far_boards) = boards.split_at_mut(middle);
@@ -41,6 +50,7 @@ where
     serve_both(
         rt,
         alloc,
+        Halves { first, middle },
         most,
         gate,
         near_boards,
@@ -48,6 +58,25 @@ where
         far_boards,
         far_doors,
     )
+}
+
+// Places from the first of these numbers on, of which so many are the near half: what the log calls them.
+#[derive(Clone, Copy)]
+struct Halves {
+    first: usize,
+    middle: usize,
+}
+
+impl Halves {
+    // The number of the first place of the near half.
+    fn near(&self) -> usize {
+        self.first
+    }
+
+    // That of the far half.
+    fn far(&self) -> usize {
+        self.first.saturating_add(self.middle)
+    }
 }
 
 // Serves the places of two parts of the server at once.
@@ -60,6 +89,7 @@ fn serve_both<
 >(
     rt: &R,
     alloc: Global,
+    halves: Halves,
     most: u32,
     gate: &G,
     near_boards: &mut [B],
@@ -86,14 +116,24 @@ where
                 (map D.connections near_doors.entry.now) (map D.connections near_doors.exit.now)
                 (map D.faults near_doors.entry.now) (map D.faults near_doors.exit.now)
                 (map D.wants near_doors.entry.now) (map D.wants near_doors.exit.now) result }
-        { serve_places(rt, alloc, most, gate, near_boards, near_doors) },
+        {
+            serve_places(
+                rt,
+                alloc,
+                halves.near(),
+                most,
+                gate,
+                near_boards,
+                near_doors,
+            )
+        },
         &mut || -> PlaceEnd
             requires { IsSync R.row × IsSync G.row × IsSend B.row × IsSend D.row × (length far_boards.now ≡ length far_doors.now) }
             ensures { ArePlaces most (map B.content far_boards.entry.now) (map B.content far_boards.exit.now)
                 (map D.connections far_doors.entry.now) (map D.connections far_doors.exit.now)
                 (map D.faults far_doors.entry.now) (map D.faults far_doors.exit.now)
                 (map D.wants far_doors.entry.now) (map D.wants far_doors.exit.now) result }
-        { serve_places(rt, alloc, most, gate, far_boards, far_doors) },
+        { serve_places(rt, alloc, halves.far(), most, gate, far_boards, far_doors) },
     );
     near.worse(far)
 }
@@ -102,6 +142,7 @@ where
 fn serve_first<R: Threads + Wait + Sync + Clock + Log, B: Board, D: Door, G: Gate + Sync>(
     rt: &R,
     alloc: Global,
+    place: usize,
     most: u32,
     gate: &G,
     boards: &mut [B],
@@ -119,6 +160,7 @@ fn serve_first<R: Threads + Wait + Sync + Clock + Log, B: Board, D: Door, G: Gat
     serve_place(
         rt,
         alloc,
+        place,
         &mut boards[0],
         &mut doors[0],
         most,

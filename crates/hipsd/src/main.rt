@@ -1,7 +1,7 @@
 //! `hipsd`: a server for HiPS sky maps.
 //!
 //! `run` of the crate `hipsd_run` is the whole program over the ends that it is given; `main` makes the real ones and calls it.
-//! The commands of today are `probe`, `session`, `serve`, `export`, `verify` and `make`.
+//! The commands of today are `probe`, `session`, `serve`, `export`, `verify`, `make`, `past` and `catalog`.
 #![tactic(auto)]
 
 ghost use Rattle.std.specs.Prelude.{◌≡◌, ◌⊎◌, ◌≤◌, IfOk, MatchResult};

@@ -13,8 +13,9 @@ use Rattle.leaf_probe.specs.Probe.{IsProbe}
 use Rattle.leaf_probe.specs.declared.asked.Probe.{Probe}
 use Rattle.survey_commands.specs.Make.{IsMake}
 use Rattle.survey_commands.specs.Serve.{IsServe}
+use Rattle.survey_commands.specs.Past.{IsPast}
 use Rattle.hipsd_run.specs.declared.command.Command.{Command}
-use Rattle.hipsd_run.specs.declared.command.Command.TheVariants.{Probe as ProbeCommand, Session, Export, Verify, Make, Serve}
+use Rattle.hipsd_run.specs.declared.command.Command.TheVariants.{Probe as ProbeCommand, Session, Export, Verify, Make, Serve, Past, Catalog}
 
 own : IsNumeralModel (AllDigits 10) (digits_value 10)
 own = numerals_by_value (AllDigits 10) tells_digits
@@ -84,6 +85,8 @@ no_command top n order npix none (Export, asks) = let e = asks.spelled in cc
 no_command top n order npix none (Verify, asks) = let e = asks.spelled in cc
 no_command top n order npix none (Make number edits, asks) = let e = asks.spelled in cc
 no_command top n order npix none (Serve connections places, asks) = let e = asks.spelled in cc
+no_command top n order npix none (Past cache, asks) = let e = asks.spelled in cc
+no_command top n order npix none (Catalog top' per_tile, asks) = let e = asks.spelled in cc
 
 -- words that begin with `make` and ask for no made survey ask for nothing
 pub no_make : (number edits : List ℕ)
@@ -95,6 +98,8 @@ no_make number edits none (Export, asks) = let e = asks.spelled in cc
 no_make number edits none (Verify, asks) = let e = asks.spelled in cc
 no_make number edits none (Make n m, asks) = none n m asks
 no_make number edits none (Serve connections places, asks) = let e = asks.spelled in cc
+no_make number edits none (Past cache, asks) = let e = asks.spelled in cc
+no_make number edits none (Catalog top' per_tile, asks) = let e = asks.spelled in cc
 
 pub no_make_command : (found : Option Command) (number edits : List ℕ)
     → IfNone found ((n m : ℕ) → ¬ Asks (codes "make" ∷ number ∷ edits ∷ []) (Make n m))
@@ -112,12 +117,48 @@ no_serve address connections places none (Export, asks) = let e = asks.spelled i
 no_serve address connections places none (Verify, asks) = let e = asks.spelled in cc
 no_serve address connections places none (Make number edits, asks) = let e = asks.spelled in cc
 no_serve address connections places none (Serve n m, asks) = none n m asks
+no_serve address connections places none (Past cache, asks) = let e = asks.spelled in cc
+no_serve address connections places none (Catalog top' per_tile, asks) = let e = asks.spelled in cc
 
 no_serve_command : (found : Option Command) (address connections places : List ℕ)
     → IfNone found ((n m : ℕ) → ¬ Asks (codes "serve" ∷ address ∷ connections ∷ places ∷ []) (Serve n m))
     → IfNone found (¬ IsCommand (codes "serve" ∷ address ∷ connections ∷ places ∷ []))
 no_serve_command None address connections places none = no_serve address connections places none
 no_serve_command (Some command) address connections places none = tt
+
+-- words that begin with `past` and ask for no cache ask for nothing
+no_past : (cache : List ℕ) → ((n : ℕ) → ¬ Asks (codes "past" ∷ cache ∷ []) (Past n)) → ¬ IsCommand (codes "past" ∷ cache ∷ [])
+no_past cache none (ProbeCommand asked, asks) = let e = asks.spelled in cc
+no_past cache none (Session, asks) = let e = asks.spelled in cc
+no_past cache none (Export, asks) = let e = asks.spelled in cc
+no_past cache none (Verify, asks) = let e = asks.spelled in cc
+no_past cache none (Make number edits, asks) = let e = asks.spelled in cc
+no_past cache none (Serve connections places, asks) = let e = asks.spelled in cc
+no_past cache none (Past n, asks) = none n asks
+no_past cache none (Catalog top per_tile, asks) = let e = asks.spelled in cc
+
+pub no_past_command : (found : Option Command) (cache : List ℕ)
+    → IfNone found ((n : ℕ) → ¬ Asks (codes "past" ∷ cache ∷ []) (Past n)) → IfNone found (¬ IsCommand (codes "past" ∷ cache ∷ []))
+no_past_command None cache none = no_past cache none
+no_past_command (Some command) cache none = tt
+
+-- words that begin with `catalog` and ask for no tiles ask for nothing
+no_catalog : (top per_tile : List ℕ)
+    → ((k n : ℕ) → ¬ Asks (codes "catalog" ∷ top ∷ per_tile ∷ []) (Catalog k n)) → ¬ IsCommand (codes "catalog" ∷ top ∷ per_tile ∷ [])
+no_catalog top per_tile none (ProbeCommand asked, asks) = let e = asks.spelled in cc
+no_catalog top per_tile none (Session, asks) = let e = asks.spelled in cc
+no_catalog top per_tile none (Export, asks) = let e = asks.spelled in cc
+no_catalog top per_tile none (Verify, asks) = let e = asks.spelled in cc
+no_catalog top per_tile none (Make number edits, asks) = let e = asks.spelled in cc
+no_catalog top per_tile none (Serve connections places, asks) = let e = asks.spelled in cc
+no_catalog top per_tile none (Past cache, asks) = let e = asks.spelled in cc
+no_catalog top per_tile none (Catalog k n, asks) = none k n asks
+
+pub no_catalog_command : (found : Option Command) (top per_tile : List ℕ)
+    → IfNone found ((k n : ℕ) → ¬ Asks (codes "catalog" ∷ top ∷ per_tile ∷ []) (Catalog k n))
+    → IfNone found (¬ IsCommand (codes "catalog" ∷ top ∷ per_tile ∷ []))
+no_catalog_command None top per_tile none = no_catalog top per_tile none
+no_catalog_command (Some command) top per_tile none = tt
 
 -- words ask for one probe only
 pub same_probe : (words : List (List ℕ)) (a b : Probe) → Asks words (ProbeCommand a) → Asks words (ProbeCommand b) → a ≡ b
@@ -155,6 +196,25 @@ same_serve words n m n' m' asks asks' =
     let range' : IsServe n' m' = asks'.in_range in
     (decimal_injective n n' (omega arith) (omega arith) connections, decimal_injective m m' (omega arith) (omega arith) places)
 
+-- words ask for one cache only
+pub same_past : (words : List (List ℕ)) (n n' : ℕ) → Asks words (Past n) → Asks words (Past n') → n ≡ n'
+same_past words n n' asks asks' =
+    let e : words_of asks.address (Past n) ≡ words_of asks'.address (Past n') = sym asks.spelled ∙ asks'.spelled in
+    let cache : decimal n ≡ decimal n' = cc in
+    let range : IsPast n = asks.in_range in
+    let range' : IsPast n' = asks'.in_range in
+    decimal_injective n n' (omega arith) (omega arith) cache
+
+-- words ask for the tiles of one catalogue only
+pub same_catalog : (words : List (List ℕ)) (k n k' n' : ℕ) → Asks words (Catalog k n) → Asks words (Catalog k' n') → (k ≡ k') × (n ≡ n')
+same_catalog words k n k' n' asks asks' =
+    let e : words_of asks.address (Catalog k n) ≡ words_of asks'.address (Catalog k' n') = sym asks.spelled ∙ asks'.spelled in
+    let top : decimal k ≡ decimal k' = cc in
+    let per_tile : decimal n ≡ decimal n' = cc in
+    let range = asks.in_range in
+    let range' = asks'.in_range in
+    (decimal_injective k k' (omega arith) (omega arith) top, decimal_injective n n' (omega arith) (omega arith) per_tile)
+
 -- how many words there are, and the first letter of the first of them
 abbrev sign_of : List (List ℕ) → ℕ
 sign_of [] = 0
@@ -167,6 +227,8 @@ sign_for Export = 101
 sign_for Verify = 118
 sign_for (Make number edits) = 2109
 sign_for (Serve connections places) = 3115
+sign_for (Past cache) = 1112
+sign_for (Catalog top per_tile) = 2099
 
 sign-words_of : (address : List ℕ) (command : Command) → sign_of (words_of address command) ≡ sign_for command
 sign-words_of address (ProbeCommand asked) = refl
@@ -175,6 +237,8 @@ sign-words_of address Export = refl
 sign-words_of address Verify = refl
 sign-words_of address (Make number edits) = refl
 sign-words_of address (Serve connections places) = refl
+sign-words_of address (Past cache) = refl
+sign-words_of address (Catalog top per_tile) = refl
 
 -- commands of the same words have the same sign
 same_sign : (words : List (List ℕ)) (a b : Command) → Asks words a → Asks words b → sign_for a ≡ sign_for b
@@ -193,6 +257,10 @@ same_command words (Make n m) (Make n' m') asks_a asks_b =
 same_command words (Serve n m) (Serve n' m') asks_a asks_b =
     let same = same_serve words n m n' m' asks_a asks_b in
     λ i. Serve (same.0 i) (same.1 i)
+same_command words (Past n) (Past n') asks_a asks_b = ap (λ p. Past p) (same_past words n n' asks_a asks_b)
+same_command words (Catalog k n) (Catalog k' n') asks_a asks_b =
+    let same = same_catalog words k n k' n' asks_a asks_b in
+    λ i. Catalog (same.0 i) (same.1 i)
 same_command words a b asks_a asks_b = let e : sign_for a ≡ sign_for b = same_sign words a b asks_a asks_b in absurd (omega arith)
 
 -- a command that needs more doors than there are: the words ask for no other

@@ -4,8 +4,9 @@ use Rattle.std.specs.declared.alloc.Global.{Global}
 use Rattle.leaf_probe.specs.Probe.{IsProbe}
 use Rattle.survey_commands.specs.Make.{IsMake}
 use Rattle.survey_commands.specs.Serve.{IsServe}
+use Rattle.survey_commands.specs.Past.{IsPast}
 use Rattle.hipsd_run.specs.declared.command.Command.{Command}
-use Rattle.hipsd_run.specs.declared.command.Command.TheVariants.{Probe as ProbeCommand, Session, Export, Verify, Make, Serve}
+use Rattle.hipsd_run.specs.declared.command.Command.TheVariants.{Probe as ProbeCommand, Session, Export, Verify, Make, Serve, Past, Catalog}
 
 -- the bytes of each word
 abbrev pub texts : List (String Global) → List (List ℕ)
@@ -19,6 +20,8 @@ words_of address Export = codes "export" ∷ []
 words_of address Verify = codes "verify" ∷ []
 words_of address (Make number edits) = codes "make" ∷ decimal number ∷ decimal edits ∷ []
 words_of address (Serve connections places) = codes "serve" ∷ address ∷ decimal connections ∷ decimal places ∷ []
+words_of address (Past cache) = codes "past" ∷ decimal cache ∷ []
+words_of address (Catalog top per_tile) = codes "catalog" ∷ decimal top ∷ decimal per_tile ∷ []
 
 abbrev pub IsInRange : Command → Type 0
 IsInRange (ProbeCommand asked) = IsProbe asked
@@ -27,6 +30,8 @@ IsInRange Export = ⊤
 IsInRange Verify = ⊤
 IsInRange (Make number edits) = IsMake number edits
 IsInRange (Serve connections places) = IsServe connections places
+IsInRange (Past cache) = IsPast cache
+IsInRange (Catalog top per_tile) = (top ≤ 11) × (1 ≤ per_tile) × (per_tile ≤ 4096)
 
 -- the words ask for this command; any word may be the address
 pub record Asks (words : List (List ℕ)) (command : Command) : Type 0 where
@@ -46,6 +51,8 @@ doors_of Export = 0
 doors_of Verify = 0
 doors_of (Make number edits) = 0
 doors_of (Serve connections places) = places
+doors_of (Past cache) = 0
+doors_of (Catalog top per_tile) = 0
 
 -- they are a row of it where there are so many doors
 abbrev pub IsCommandFor : ℕ → List (List ℕ) → Type 0
@@ -60,6 +67,8 @@ reads_source Export = false
 reads_source Verify = false
 reads_source (Make number edits) = false
 reads_source (Serve connections places) = false
+reads_source (Past cache) = true
+reads_source (Catalog top per_tile) = true
 
 abbrev pub opens_shelf : Command → Bool
 opens_shelf (ProbeCommand asked) = false
@@ -68,8 +77,10 @@ opens_shelf Export = true
 opens_shelf Verify = true
 opens_shelf (Make number edits) = false
 opens_shelf (Serve connections places) = true
+opens_shelf (Past cache) = true
+opens_shelf (Catalog top per_tile) = true
 
--- only `export` writes files
+-- only `export` and `catalog` write files
 abbrev pub writes_files : Command → Bool
 writes_files (ProbeCommand asked) = false
 writes_files Session = false
@@ -77,6 +88,8 @@ writes_files Export = true
 writes_files Verify = false
 writes_files (Make number edits) = false
 writes_files (Serve connections places) = false
+writes_files (Past cache) = false
+writes_files (Catalog top per_tile) = true
 
 -- only `serve` takes connections
 abbrev pub opens_doors : Command → Bool
@@ -86,3 +99,5 @@ opens_doors Export = false
 opens_doors Verify = false
 opens_doors (Make number edits) = false
 opens_doors (Serve connections places) = true
+opens_doors (Past cache) = false
+opens_doors (Catalog top per_tile) = false

@@ -2,7 +2,7 @@
 ghost use Rattle.std.specs.Prelude.{◌≡◌, ◌≢◌, ℕ, ◌≤◌, List, [], ◌∷◌, IfSome, IfNone, MatchOption, codes, decimal};
 ghost use Rattle.hipsd_run.specs.Command.{texts, Asks, IsCommand, IsCommandFor, doors_of};
 ghost use Rattle.leaf_probe.specs.declared.asked.Probe.{Probe as AskedProbe};
-ghost use Rattle.hipsd_run.specs.declared.command.Command.TheVariants.{Probe as ProbeCommand, Make, Serve};
+ghost use Rattle.hipsd_run.specs.declared.command.Command.TheVariants.{Probe as ProbeCommand, Make, Serve, Past, Catalog};
 
 use decimal_scale::plain_decimal;
 use leaf_probe::Probe;
@@ -31,6 +31,18 @@ pub enum Command {
         connections: u32,
         /// How many doors.
         places: usize,
+    },
+    /// Files of past states are read.
+    Past {
+        /// How many generations may be held.
+        cache: usize,
+    },
+    /// The tiles of a catalogue are put on the shelf.
+    Catalog {
+        /// The order of its deepest tiles.
+        top: u8,
+        /// How many rows a tile above them holds at most.
+        per_tile: u32,
     },
 }
 
@@ -71,13 +83,12 @@ pub fn read_command(words: &[String]) -> Option<Command>
             let probe = read_probe(top.as_str(), n.as_str(), order.as_str(), npix.as_str())?;
             Some(Command::Probe(probe))
         }
-        [name, number, edits] if name.as_str() == "make" => {
-            read_make(number.as_str(), edits.as_str())
-        }
         [name, _, connections, places] if name.as_str() == "serve" => {
             read_serve(connections.as_str(), places.as_str())
         }
         [name] => read_name(name.as_str()),
+        [name, word] => read_one(name.as_str(), word.as_str()),
+        [name, word, other] => read_two(name.as_str(), word.as_str(), other.as_str()),
         _ => None,
     }
 }
@@ -91,6 +102,29 @@ fn read_name(name: &str) -> Option<Command>
         "session" => Some(Command::Session),
         "export" => Some(Command::Export),
         "verify" => Some(Command::Verify),
+        _ => None,
+    }
+}
+
+// The command that its name and one word ask for.
+fn read_one(name: &str, word: &str) -> Option<Command>
+    ensures asked { IfSome result (Asks (name.now ∷ word.now ∷ [])) }
+    ensures none { IfNone result (¬ IsCommand (name.now ∷ word.now ∷ [])) }
+{
+    match name {
+        "past" => read_past(word),
+        _ => None,
+    }
+}
+
+// The command that its name and two words ask for.
+fn read_two(name: &str, word: &str, other: &str) -> Option<Command>
+    ensures asked { IfSome result (Asks (name.now ∷ word.now ∷ other.now ∷ [])) }
+    ensures none { IfNone result (¬ IsCommand (name.now ∷ word.now ∷ other.now ∷ [])) }
+{
+    match name {
+        "make" => read_make(word, other),
+        "catalog" => read_catalog(word, other),
         _ => None,
     }
 }
@@ -144,6 +178,31 @@ fn read_serve(connections: &str, places: &str) -> Option<Command>
             connections,
             places,
         })
+    } else {
+        None
+    }
+}
+
+// What the word after `past` asks for.
+fn read_past(cache: &str) -> Option<Command>
+    ensures asked { IfSome result (Asks (codes "past" ∷ cache.now ∷ [])) }
+    ensures none { IfNone result ((n : ℕ) → ¬ Asks (codes "past" ∷ cache.now ∷ []) (Past n)) }
+{
+    let cache = small_number(cache, 1, 8)?;
+    let cache = usize::from(cache);
+    Some(Command::Past { cache })
+}
+
+// What the words after `catalog` ask for.
+fn read_catalog(top: &str, per_tile: &str) -> Option<Command>
+    ensures asked { IfSome result (Asks (codes "catalog" ∷ top.now ∷ per_tile.now ∷ [])) }
+    ensures none { IfNone result ((k : ℕ) (n : ℕ) → ¬ Asks (codes "catalog" ∷ top.now ∷ per_tile.now ∷ []) (Catalog k n)) }
+{
+    let top = small_number(top, 0, 11)?;
+    let per_tile = plain_decimal(per_tile.as_bytes())?;
+    if 1 <= per_tile && per_tile <= 4096 {
+        let per_tile = per_tile as u32;
+        Some(Command::Catalog { top, per_tile })
     } else {
         None
     }

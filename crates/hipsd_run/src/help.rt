@@ -4,7 +4,7 @@ use decimal_scale::plain_decimal;
 use log::{Log, error};
 
 // The name of a command, the words after it, and what these may be.
-static COMMANDS: [(&str, &str, &str); 6] = [
+static COMMANDS: [(&str, &str, &str); 8] = [
     (
         "serve",
         "ADDRESS CONNECTIONS PLACES",
@@ -18,6 +18,12 @@ static COMMANDS: [(&str, &str, &str); 6] = [
         "NUMBER EDITS",
         "a number below 2^64, 1 to 4096 edits",
     ),
+    ("past", "CACHE", "1 to 8 generations are held"),
+    (
+        "catalog",
+        "K N",
+        "K 0 to 11, 1 to 4096 rows a tile above order K",
+    ),
     (
         "probe",
         "K N k p",
@@ -26,11 +32,14 @@ static COMMANDS: [(&str, &str, &str); 6] = [
 ];
 
 // The numbers among the words after a command's name: of which command, which word, counted from 0, the least and the greatest.
-static NUMBERS: [(&str, usize, u64, u64); 8] = [
+static NUMBERS: [(&str, usize, u64, u64); 11] = [
     ("serve", 1, 1, 65_536),
     ("serve", 2, 1, 64),
     ("make", 0, 0, u64::MAX),
     ("make", 1, 1, 4096),
+    ("past", 0, 1, 8),
+    ("catalog", 0, 0, 11),
+    ("catalog", 1, 1, 4096),
     ("probe", 0, 3, 11),
     ("probe", 1, 1, 9),
     ("probe", 2, 0, 11),

@@ -5,7 +5,7 @@ ghost use Rattle.survey_link.specs.Link.{Rises, AppendsPrefix};
 ghost use Rattle.healpix_nested.specs.Cells.{cell_count};
 ghost use Rattle.leaf_probe.specs.declared.asked.Probe.{Probe as AskedProbe};
 ghost use Rattle.hipsd_run.specs.declared.command.Command.{Command as AskedCommand};
-ghost use Rattle.hipsd_run.specs.declared.command.Command.TheVariants.{Probe as ProbeCommand, Session, Export, Verify, Make, Serve};
+ghost use Rattle.hipsd_run.specs.declared.command.Command.TheVariants.{Probe as ProbeCommand, Session, Export, Verify, Make, Serve, Past, Catalog};
 ghost use Rattle.hipsd_run.specs.Command.{texts, Asks, IsCommandFor, reads_source, opens_shelf, writes_files, opens_doors};
 ghost use Rattle.leaf_probe.specs.Probe.{IsProbe, probe_answer, probe_steps};
 ghost use Rattle.leaf_probe.specs.Merging.{steps_after};
@@ -16,9 +16,12 @@ ghost use Rattle.survey_commands.specs.Session.{RunsSession, ends_of};
 ghost use Rattle.survey_commands.specs.Make.{RunsMake};
 ghost use Rattle.hips_place.specs.Place.{SomeRises};
 ghost use Rattle.survey_commands.specs.Serve.{RunsServe};
+ghost use Rattle.survey_commands.specs.Past.{RunsPast};
+ghost use Rattle.catalog_command.specs.Run.{RunsCatalog};
 
 use crate::command::{Command, command_for};
 use crate::help::say_commands;
+use catalog_command::run_catalog;
 use leaf_probe::{Probe, probe, write_out};
 use log::Log;
 use parent_rule::Steps;
@@ -26,7 +29,7 @@ use std::alloc::Global;
 use std::sync::Wait;
 use std::thread::Threads;
 use std::time::Clock;
-use survey_commands::{run_export, run_make, run_serve, run_session, run_verify};
+use survey_commands::{run_export, run_make, run_past, run_serve, run_session, run_verify};
 use survey_link::{Door, Gate, Shelf, Sink, Source};
 
 /// Runs the command that the words ask for, over these ends, and answers its status.
@@ -37,15 +40,17 @@ use survey_link::{Door, Gate, Shelf, Sink, Source};
 /// | 1 | the words are no row of the table of commands; `usage: hipsd COMMAND` and LF are written |
 /// | 2 | the shelf has no `survey.conf`, and `conf absent` and LF are written; or this has a fault: `conf LINE KIND` and LF |
 /// | 3 | the file of a leaf is refused: `tile PATH FAULT` and LF are written; or there are too many: `leaves N` and LF |
-/// | 4 | `probe`: the input ends within a record; `session`: within a request |
+/// | 4 | `probe`, `past`: the input ends within a record; `session`: within a request; `catalog`: within a line |
 /// | 5, 6, 7 | the source's, the sink's, the shelf's count of faults rose |
 /// | 8 | `serve`: a door's count of faults rose; the other places went on to their ends |
 /// | 9 | `verify`: the shelf differs from the survey |
 /// | 10 | `probe`: no leaf lies at or under the asked tile |
 /// | 11 | there was no memory |
-/// | 12 | `probe`: the input goes on after 65,536 records; `session`: 65,536 requests were answered, and none asked to close |
+/// | 12 | `probe`, `past`: the input goes on after 65,536 records; `session`: 65,536 requests were answered, and none asked to close |
 /// | 13 | `probe`: the asked tile is no cell of its order, or a record's number is no leaf's |
 /// | 14 | `session`: the framing of a request is refused |
+/// | 16 | `catalog`: a line has a fault, and `row LINE KIND` and LF are written |
+/// | 17 | `past`: a record has no line of its form |
 ///
 /// Of a tile nothing is written with a status but 0 and 6.
 pub fn run<R, S, K, H, D, G>(
@@ -116,6 +121,21 @@ where
         result }
     ensures session_unread { Asks (texts words.now) Session → (result ≡ 2) ⊎ (result ≡ 3) → source.new ≡ source.old }
 
+    // Records about past states over the source and the sink, where the source tells its input.
+    ensures past { (cache : ℕ) (input : List ℕ) → Asks (texts words.now) (Past cache) → S.left source.old ≡ Some input
+        → RunsPast (H.files shelf.old) input
+        (ends_of (S.left source.old) (K.held sink.old) (K.handed_on sink.old) (S.faults source.old) (K.faults sink.old))
+        (ends_of (S.left source.new) (K.held sink.new) (K.handed_on sink.new) (S.faults source.new) (K.faults sink.new))
+        result }
+    ensures past_unread { (cache : ℕ) → Asks (texts words.now) (Past cache) → (result ≡ 2) ⊎ (result ≡ 3) → source.new ≡ source.old }
+
+    // A catalogue, where the source tells its input.
+    ensures catalog { (top : ℕ) (per_tile : ℕ) (input : List ℕ) → Asks (texts words.now) (Catalog top per_tile) → S.left source.old ≡ Some input
+        → RunsCatalog top per_tile input (H.files shelf.old) (H.files shelf.new) result
+        (K.held sink.old) (K.held sink.new) (K.handed_on sink.old) (K.handed_on sink.new) }
+    ensures catalog_end { (top : ℕ) (per_tile : ℕ) → Asks (texts words.now) (Catalog top per_tile)
+        → result ≡ 0 → IsAtEnd (S.left source.new) }
+
     // A made survey.
     ensures make { (number : ℕ) (edits : ℕ) → Asks (texts words.now) (Make number edits) → RunsMake number edits result
         (K.held sink.old) (K.held sink.new) (K.handed_on sink.old) (K.handed_on sink.new) }
@@ -158,6 +178,10 @@ where
                 connections,
                 places,
             } => run_serve(rt, connections, places, sink, shelf, gate, steps, doors),
+            Command::Past { cache } => run_past(rt, cache, source, sink, shelf, gate, steps),
+            Command::Catalog { top, per_tile } => {
+                run_catalog(rt, top, per_tile, source, sink, shelf)
+            }
         },
     }
 }

@@ -1,9 +1,16 @@
-//! Tests of `past_reads`: past states that are read in any order (`prefixes`), of a small survey (`surveys`).
+//! Tests of `past_reads` and `past_session`: past states of a small survey (`surveys`) that are read in any order (`prefixes`,
+//! and `orders` of a longer history); whole sessions, and such as break off (`sessions`), by texts that stand for bytes (`bytes`).
 //!
-//! They stand over the finished crate, in a crate of their own: there each would be proved a second time.
+//! They stand over the finished crates, in a crate of their own: there each would be proved a second time.
 #![tactic(auto)]
 
 #[cfg(test)]
+mod bytes;
+#[cfg(test)]
+mod orders;
+#[cfg(test)]
 mod prefixes;
+#[cfg(test)]
+mod sessions;
 #[cfg(test)]
 mod surveys;

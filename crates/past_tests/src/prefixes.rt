@@ -46,6 +46,11 @@ fn read<R: Threads + Sync + Clock + Log>(
     format!(in alloc; "{answer}|{}|{}", steps.count(), held(alloc, past)?)
 }
 
+// Batches of one, two and one edits.
+static BATCHES: &str = "put 0 2888;%leaf 4 0 1 2 3 5%
+remove 0;put 1 2888;%leaf 4 1 1 2 3 5%
+add 3071 2888;%leaf 4 3071 1 2 3 5%";
+
 // A prefix that is read, after those above it, where two are held: its files and leaves, the steps, and what is held then.
 static READS: &str = "0|2 0|0| 0
 1|5 1|1| 1 0
@@ -78,7 +83,7 @@ fn all_are_read<R: Threads + Sync + Clock + Log + Abort>(
 fn past_states_are_read_in_any_order(rt: HostRuntime) -> Result<(), Fail> {
     let alloc = rt.alloc();
     let conf = survey(alloc)?;
-    let journal = journal(alloc, &conf)?;
+    let journal = journal(alloc, &conf, BATCHES, 3)?;
     let mut past = Past::new(alloc, conf, &journal, 2)?;
     all_are_read(&rt, alloc, &mut past, &journal)
 }

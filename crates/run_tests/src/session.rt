@@ -2,6 +2,7 @@
 use crate::runs::{field, no_files, run_line};
 use crate::survey::{SMALL, describe};
 use log::Log;
+use small_files::{TILE_CARDS, header};
 use std::alloc::Global;
 use std::sync::Wait;
 use std::test::Fail;
@@ -17,18 +18,6 @@ static PROPERTIES: &str =
 hips_release_date = 2024-05-01T00:00Z^hips_status = public master clonable^hips_frame = equatorial^hips_order = 4^\
 hips_order_min = 3^hips_tile_width = 2^hips_tile_format = fits^survey_bitpix = 16^survey_bscale = 1.0E0^survey_bzero = 0.0E0^\
 survey_blank = -32768^survey_leaves = ";
-
-// The cards of a tile file, but for those of its cell.
-static CARDS: &str = "\
-SIMPLE  =                    T
-BITPIX  =                   16
-NAXIS   =                    2
-NAXIS1  =                    2
-NAXIS2  =                    2
-BSCALE  =                1.0E0
-BZERO   =                0.0E0
-BLANK   =               -32768
-";
 
 // The requests of a connection, the status, and all that is written.
 static SESSIONS: &str = "\
@@ -47,26 +36,13 @@ POST /batch HTTP/1.1~Host: a~Content-Length: 5798~~put 0 2888^%tile 4 0 1 2 3 5%
 POST /batch HTTP/1.1~Host: a~Content-Length: 2911~~put 0 2888^%tile 4 0 1 2 3 5%remove 3072^POST /publish HTTP/1.1~Host: a~~GET /Norder4/Dir0/Npix0.fits HTTP/1.1~Host: a~~|0|HTTP/1.1 422 Unprocessable Content~Content-Type: text/plain~Content-Length: 21~~batch refused 1 line^HTTP/1.1 200 OK~Content-Type: text/plain~Content-Length: 10~Survey-Prefix: 0~~already 0^HTTP/1.1 404 Not Found~Content-Type: text/plain~Content-Length: 10~Survey-Prefix: 0~~not found^
 ";
 
-// The cards of a tile in a block: `cell` is its order and its number.
-fn push_cards(alloc: Global, bytes: &mut Vec<u8>, cell: (&str, &str)) -> Result<(), Fail> {
-    let (order, npix) = cell;
-    let start = bytes.len();
-    let cards = format!(in alloc; "{CARDS}ORDER   = {order:>20}\nNPIX    = {npix:>20}\nEND")?;
-    for card in cards.as_str().lines() {
-        bytes.extend_from_slice(card.as_bytes())?;
-        let spaces = (80 - card.len() % 80) % 80;
-        bytes.resize(bytes.len() + spaces, b' ')?;
-    }
-    bytes.resize(start.saturating_add(2_880), b' ')?;
-    Ok(())
-}
-
 // The file of a tile: `words` are its order, its number and its stored numbers; then zero bytes until it has so many bytes.
 fn push_tile(alloc: Global, bytes: &mut Vec<u8>, words: &str, size: usize) -> Result<(), Fail> {
     let start = bytes.len();
     let (order, rest) = words.split_once(' ').ok_or("no order")?;
     let (npix, numbers) = rest.split_once(' ').ok_or("no number")?;
-    push_cards(alloc, bytes, (order, npix))?;
+    let cards = format!(in alloc; "{TILE_CARDS}ORDER   = {order:>20}\nNPIX    = {npix:>20}\nEND")?;
+    bytes.extend_from_slice(&header(alloc, cards.as_str())?)?;
     for number in numbers.split(' ') {
         bytes.extend_from_slice(&number.parse::<i16>()?.to_be_bytes())?;
     }

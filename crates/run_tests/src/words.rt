@@ -51,6 +51,12 @@ fn reads_names_of_commands(rt: HostRuntime) -> Result<(), Fail> {
     assert!(rt; read(alloc, "session")? == Some(Command::Session));
     assert!(rt; read(alloc, "export")? == Some(Command::Export));
     assert!(rt; read(alloc, "verify")? == Some(Command::Verify));
+    assert!(rt; read(alloc, "past 1")? == Some(Command::Past { cache: 1 }));
+    assert!(rt; read(alloc, "past 8")? == Some(Command::Past { cache: 8 }));
+    let (top, per_tile) = (0, 4096);
+    assert!(rt; read(alloc, "catalog 0 4096")? == Some(Command::Catalog { top, per_tile }));
+    let (top, per_tile) = (11, 1);
+    assert!(rt; read(alloc, "catalog 11 1")? == Some(Command::Catalog { top, per_tile }));
     Ok(())
 }
 
@@ -82,6 +88,18 @@ make 0 01
 make +0 1
 make 18446744073709551616 1
 Make 0 1
+past
+past 0
+past 9
+past 08
+past 1 1
+catalog
+catalog 1
+catalog 12 1
+catalog 01 1
+catalog 0 0
+catalog 0 4097
+catalog 1 1 1
 ";
 
 #[test]

@@ -2,3 +2,4 @@ pub mod Survey
 pub mod Session
 pub mod Make
 pub mod Serve
+pub mod Past

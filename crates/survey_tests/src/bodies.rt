@@ -1,29 +1,16 @@
 //! Worked batches.
-use crate::surveys::{SURVEY, tile_file};
 use edit_journal::Edit;
 use parent_rule::Steps;
+use small_files::{SURVEY, TILE_HEADER, tile_file};
 use std::alloc::{AllocError, Global};
 use std::process::Abort;
 use std::test::Fail;
 use survey_conf::Conf;
 use survey_core::{batch_room, read_batch};
 
-// The header of a tile of the survey, one card a line.
-const CARDS: &str = "SIMPLE  =                    T
-BITPIX  =                   16
-NAXIS   =                    2
-NAXIS1  =                    2
-NAXIS2  =                    2
-BSCALE  =                1.0E0
-BZERO   =                0.0E0
-BLANK   =               -32768
-ORDER   =                    4
-NPIX    =                    0
-END";
-
 // A body: the text, where `;` stands for a line feed and `@` for the file of a tile, 2,888 bytes.
 pub(crate) fn body(alloc: Global, text: &str) -> Result<Vec<u8>, Fail> {
-    let file = tile_file(alloc, CARDS, [1, 2, 3, 5])?;
+    let file = tile_file(alloc, TILE_HEADER, [1, 2, 3, 5])?;
     let mut body = Vec::new(alloc);
     for byte in text.as_bytes() {
         match *byte {

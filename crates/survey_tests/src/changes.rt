@@ -1,11 +1,12 @@
 //! Generations that are made by changes, beside those that are made at once.
 ghost use Rattle.std.specs.Prelude.{◌<◌};
 
-use crate::surveys::{SURVEY, first_state, fits};
 use edit_journal::Edit;
 use generation::{Body, Generation, Parts};
 use parent_rule::{Depth, Steps};
 use reader_pin::{Board, BoardRefusal, Solo};
+use small_files::SURVEY;
+use small_survey::{first_state, fits};
 use std::alloc::{AllocError, Global};
 use std::sync::atomic::{AtomicU64, Ordering};
 use std::sync::{Arc, Wait};

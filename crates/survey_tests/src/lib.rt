@@ -11,5 +11,3 @@ mod changes;
 mod shelves;
 #[cfg(test)]
 mod states;
-#[cfg(test)]
-mod surveys;

@@ -1,9 +1,9 @@
 //! Shelves in memory: what is refused, and what is written, compared and read again.
-use crate::surveys::{SURVEY, tile_file};
 use generation::Generation;
 use log::Log;
 use parent_rule::Steps;
 use shelf_io::{LoadRefusal, export, load, verify};
+use small_files::{SURVEY, tile_file};
 use std::alloc::{AllocError, Global};
 use std::process::Abort;
 use std::test::Fail;

@@ -4,9 +4,10 @@ ghost use Rattle.edit_journal.specs.Batches.{ends};
 ghost use Rattle.survey_core.specs.State.{state_edits};
 
 use crate::bodies::body;
-use crate::surveys::{SURVEY, first_state, fits};
 use edit_journal::{BatchRefusal, Edit, EditRefusal};
 use parent_rule::Steps;
+use small_files::SURVEY;
+use small_survey::{first_state, fits};
 use std::alloc::{AllocError, Global};
 use std::process::Abort;
 use std::sync::Arc;

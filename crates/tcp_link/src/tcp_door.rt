@@ -10,7 +10,7 @@ use crate::patience::Patience;
 use crate::refusal::Refusal;
 use crate::tcp_in::TcpIn;
 use crate::tcp_out::TcpOut;
-use log::Log;
+use log::{Log, debug};
 use std::alloc::AllocError;
 use std::io;
 use std::marker::Model;
@@ -24,11 +24,16 @@ use survey_link::{Door, DoorFault};
 /// The doors of one address share a listener, which the first call that needs it binds. What it answers as `Failed` counts as
 /// a fault: that the system refuses to listen, to accept, or to split a stream into its halves. An accept that the system
 /// interrupts, or whose client has gone, is made again and counts as none. A connection that is given back is closed.
+///
+/// The log gets each connection's client, with the place of the door among those of its address and the connection's number
+/// at it, both from 1 on.
 #[derive(Drop)]
 pub struct TcpDoor<R> {
     runtime: R,
     listening: Arc<Listening>,
     patience: Patience,
+    place: usize,
+    taken: u64,
     faults: u64,
     refusal: Option<Refusal>,
 }
@@ -74,11 +79,13 @@ pub fn patient_doors<R: AllocGlobal + Clone + Drop>(
     let alloc = rt.alloc();
     let listening = Arc::new(alloc, Listening::new(String::from_str(alloc, address)?))?;
     let mut doors = Vec::new(alloc);
-    for _ in 0..count {
+    for at in 0..count {
         doors.push(TcpDoor {
             runtime: rt.clone()?,
             listening: Arc::try_clone(&listening)?,
             patience,
+            place: at + 1,
+            taken: 0,
             faults: 0,
             refusal: None,
         })?;
@@ -150,8 +157,17 @@ where
         ensures cause { IfErr result (λ refusal. StopsAccept (Some refusal)) }
     {
         let listener = self.listener()?;
-        let (stream, _) = again(|| listener.accept()).map_err(Refusal::Accept)?;
+        let (stream, client) = again(|| listener.accept()).map_err(Refusal::Accept)?;
+        self.say_client(client);
         self.halves(stream).map_err(Refusal::Split)
+    }
+
+    // Says whose the next connection is.
+    fn say_client(&self, client: SocketAddr) {
+        let number = self.taken.saturating_add(1);
+        let connection = self.runtime.span("connection");
+        let rt = connection.with("place", self.place).with("number", number);
+        debug!(rt; target: "client", "{client}");
     }
 
     // The halves of a stream. Want of memory for what they share is a refusal to split it.
@@ -195,7 +211,10 @@ where
         ensures never_falls { self.old.faults ≤ self.new.faults }
     {
         match self.next() {
-            Ok(halves) => Ok(Some(halves)),
+            Ok(halves) => {
+                self.taken = self.taken.saturating_add(1);
+                Ok(Some(halves))
+            }
             Err(refusal) => Err(self.fail(refusal)),
         }
     }

@@ -1,8 +1,7 @@
-use Rattle.std.proofs.Common.{◌≡◌, Bool, true, false, not, List, refl, ap, subst, sym, ◌∙◌, arith}
+use Rattle.std.proofs.Common.{◌≡◌, Bool, true, false, not, refl, ap, subst, sym, ◌∙◌, arith}
 use Rattle.std.specs.Prelude.{slice_get, Option, Some, None, option_map, unwrap_or}
 use Rattle.std.specs.Arc.{arc_value}
 use Rattle.hips_catalog.specs.Rows.{Source, is_better}
-use Rattle.hips_catalog.specs.Tiles.{sources}
 use Rattle.hips_catalog.proofs.Order.{not_both, not_itself}
 use Rattle.hips_catalog.proofs.Shared.{get_map}
 use Rattle.hips_catalog.proofs.rise.is_there.Goals as goal

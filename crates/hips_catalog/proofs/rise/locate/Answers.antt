@@ -1,10 +1,9 @@
-use Rattle.std.proofs.Common.{◌≡◌, ℕ, suc, ◌+◌, ◌-◌, ◌/◌, ◌^◌, ◌<◌, ◌≤◌, List, length, refl, ap, subst, sym, ◌∙◌, arith}
+use Rattle.std.proofs.Common.{◌≡◌, ℕ, suc, ◌+◌, ◌-◌, ◌/◌, ◌^◌, ◌<◌, ◌≤◌, refl, ap, ◌∙◌, arith}
 use Rattle.std.proofs.lemmas.Option.{slice_get_within}
-use Rattle.hips_catalog.specs.Rows.{Source}
 use Rattle.hips_catalog.specs.Held.{held}
 use Rattle.hips_catalog.specs.Tiles.{rows_at}
 use Rattle.hips_catalog.proofs.Sunk.{begin_with, at_cell, next_order}
-use Rattle.hips_catalog.proofs.Found.{LocateState, starts, located, seek_on, not_there, at_top, located_top}
+use Rattle.hips_catalog.proofs.Found.{starts, located, seek_on, not_there, at_top, located_top}
 use Rattle.hips_catalog.proofs.rise.locate.Goals as goal
 
 top_is : (order top : ℕ) → order ≤ top → top ≤ order → top ≡ order

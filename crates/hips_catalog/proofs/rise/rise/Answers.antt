@@ -1,9 +1,9 @@
-use Rattle.std.proofs.Common.{◌≡◌, ℕ, suc, ◌+◌, ◌≤◌, ◌<◌, List, refl, ap, subst, sym, ◌∙◌, arith}
-use Rattle.healpix_nested.specs.Cells.{IsCell, NestedCell}
+use Rattle.std.proofs.Common.{◌≡◌, ℕ, suc, ◌+◌, ◌≤◌, ◌<◌, subst, sym, arith}
+use Rattle.healpix_nested.specs.Cells.{IsCell}
 use Rattle.hips_catalog.specs.Rows.{Source}
 use Rattle.hips_catalog.specs.Tiles.{rows_at, IsBest}
 use Rattle.hips_catalog.proofs.OneMore.{more_has}
-use Rattle.hips_catalog.proofs.Found.{RiseState, four_of, none_has, best_of, short_child, rests, rests_at_top, goes_up_child, reaches}
+use Rattle.hips_catalog.proofs.Found.{four_of, none_has, best_of, short_child, rests, rests_at_top, goes_up_child, reaches}
 use Rattle.hips_catalog.proofs.rise.rise.Goals as goal
 
 below : (order top k : ℕ) → k ≡ order → order < top → k < top

@@ -1,10 +1,10 @@
-use Rattle.std.proofs.Common.{◌≡◌, ℕ, suc, ◌+◌, ◌-◌, ◌/◌, ◌^◌, ◌<◌, ◌≤◌, List, length, ap, subst, sym, ◌∙◌, arith, rules}
+use Rattle.std.proofs.Common.{◌≡◌, ℕ, suc, ◌+◌, ◌-◌, ◌/◌, ◌^◌, ◌<◌, ◌≤◌, ap, ◌∙◌, arith, rules}
 use Rattle.std.specs.Arc.{arc_value}
 use Rattle.healpix_nested.specs.Cells.{IsCell}
 use Rattle.hips_catalog.specs.Rows.{Source}
 use Rattle.hips_catalog.specs.Tiles.{rows_at}
 use Rattle.hips_catalog.proofs.OneMore.{more_has}
-use Rattle.hips_catalog.proofs.Sunk.{SinkState, begin, at_cell, first_ok, short_ok, goes_on, ends, ends_deepest, next_order}
+use Rattle.hips_catalog.proofs.Sunk.{begin, at_cell, first_ok, short_ok, goes_on, ends, ends_deepest, next_order}
 use Rattle.hips_catalog.proofs.sink.sink.Goals as goal
 
 top_is : (order top : ℕ) → order ≤ top → top ≤ order → top ≡ order

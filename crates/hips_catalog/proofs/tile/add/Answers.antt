@@ -1,5 +1,4 @@
-use Rattle.std.proofs.Common.{◌≡◌, ℕ, ◌<◌, [], ◌∷◌, length, ap, subst, sym, ◌∙◌, arith}
-use Rattle.std.specs.Arc.{arc_value}
+use Rattle.std.proofs.Common.{◌<◌, length, ap, subst, sym, ◌∙◌, arith}
 use Rattle.std.specs.List.{insert}
 use Rattle.hips_catalog.specs.Tiles.{sources}
 use Rattle.hips_catalog.proofs.Full.{added, added_full, gap_within, few_tiles}

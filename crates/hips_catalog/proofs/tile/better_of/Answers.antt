@@ -1,7 +1,6 @@
-use Rattle.std.proofs.Common.{◌≡◌, subst, sym, ◌∙◌}
-use Rattle.healpix_nested.specs.Cells.{NestedCell}
+use Rattle.std.proofs.Common.{subst, sym, ◌∙◌}
 use Rattle.hips_catalog.specs.Tiles.{IsBest}
-use Rattle.hips_catalog.proofs.Best.{none_there, first_there, better_there, worse_there, has_first}
+use Rattle.hips_catalog.proofs.Best.{first_there, better_there}
 use Rattle.hips_catalog.proofs.tile.better_of.Goals as goal
 
 pub returns-in-None-best : goal.returns-in-None-best

@@ -1,4 +1,4 @@
-use Rattle.std.proofs.Common.{◌≡◌, ap, sym, ◌∙◌}
+use Rattle.std.proofs.Common.{ap, sym, ◌∙◌}
 use Rattle.hips_catalog.specs.Tiles.{is_of}
 use Rattle.hips_catalog.proofs.Listed.{gap_from, got, no_tile}
 use Rattle.hips_catalog.proofs.tile.find.Goals as goal

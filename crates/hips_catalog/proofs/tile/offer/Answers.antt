@@ -1,4 +1,4 @@
-use Rattle.std.proofs.Common.{◌≡◌, [], ◌∷◌, take, ap, sym, ◌∙◌}
+use Rattle.std.proofs.Common.{take, ap, sym, ◌∙◌}
 use Rattle.std.specs.Prelude.{slice_get}
 use Rattle.std.specs.Arc.{arc_value}
 use Rattle.hips_catalog.specs.Rows.{placed}

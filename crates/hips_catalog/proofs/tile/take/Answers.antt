@@ -1,4 +1,4 @@
-use Rattle.std.proofs.Common.{◌≡◌, ℕ, ◌≤◌, ◌<◌, ◌+◌, ap, sym, refl, ◌∙◌, length, arith, get_or}
+use Rattle.std.proofs.Common.{◌<◌, ap, sym, refl, ◌∙◌, length, arith}
 use Rattle.std.specs.Arc.{arc_value}
 use Rattle.std.specs.Prelude.{slice_index_or}
 use Rattle.std.specs.List.{remove}

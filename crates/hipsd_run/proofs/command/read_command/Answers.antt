@@ -1,6 +1,6 @@
 use Rattle.std.proofs.Common.{rules, arith, ◌∷◌, [], ◌≡◌, codes, get_or, string_bytes}
 use Rattle.std.proofs.lemmas.List.{get_or_default}
-use Rattle.hipsd_run.proofs.CommandLemmas.{items_from_reads, no_command, no_make_command, serve_words, no_serve_words}
+use Rattle.hipsd_run.proofs.CommandLemmas.{items_from_reads, no_command, serve_words, no_serve_words}
 use Rattle.hipsd_run.proofs.command.read_command.Goals as goal
 
 pub returns-in_err-probe-in-len5-clause-none : goal.returns-in_err-probe-in-len5-clause-none
@@ -39,38 +39,6 @@ returns-in_ok-probe-in-len5-clause-asked c =
       ← c.as_str-in-len5-4.ensures.value,
     )
     c.in_ok-probe-in-len5.ensures.asked
-
-pub returns-in-len3-clause-asked : goal.returns-in-len3-clause-asked
-returns-in-len3-clause-asked c =
-    let words =
-    items_from_reads c.args.words.now
-    (c.name-item-then-words-lt4.result ∷ c.number-item.result ∷ c.edits-item.result ∷ [])
-    (omega arith)
-    (c.name-item-then-words-lt4.is, (c.number-item.is, (c.edits-item.is, tt))) in
-    let name : string_bytes c.name-item-then-words-lt4.result ≡ codes "make" = search rules in
-    rw (
-      words,
-      name,
-      ← c.as_str-in-len3.ensures.value,
-      ← c.as_str-in-len3-2.ensures.value,
-    )
-    c.read_make.ensures.asked
-
-pub returns-in-len3-clause-none : goal.returns-in-len3-clause-none
-returns-in-len3-clause-none c =
-    let words =
-    items_from_reads c.args.words.now
-    (c.name-item-then-words-lt4.result ∷ c.number-item.result ∷ c.edits-item.result ∷ [])
-    (omega arith)
-    (c.name-item-then-words-lt4.is, (c.number-item.is, (c.edits-item.is, tt))) in
-    let name : string_bytes c.name-item-then-words-lt4.result ≡ codes "make" = search rules in
-    rw (
-      words,
-      name,
-      ← c.as_str-in-len3.ensures.value,
-      ← c.as_str-in-len3-2.ensures.value,
-    )
-    (no_make_command c.read_make.result _ _ c.read_make.ensures.none)
 
 pub returns-in-len4-clause-asked : goal.returns-in-len4-clause-asked
 returns-in-len4-clause-asked c =

@@ -1,6 +1,6 @@
 use Rattle.std.proofs.Common.{◌≡◌, ◌++◌, length, map, take, drop, sym, ap, ◌∙◌, subst}
 use Rattle.survey_commands.specs.Serve.{RunsServe}
-use Rattle.hipsd_run.proofs.CommandLemmas.{same_probe, same_make, same_serve}
+use Rattle.hipsd_run.proofs.CommandLemmas.{same_probe, same_make, same_serve, same_past, same_catalog}
 use Rattle.hipsd_run.proofs.DoorsLemmas.{written_back}
 use Rattle.hipsd_run.proofs.program.run.Goals as goal
 
@@ -59,3 +59,14 @@ pub returns-in-Serve-clause-serve_closed : goal.returns-in-Serve-clause-serve_cl
 returns-in-Serve-clause-serve_closed g c = λ stopped.
     written_back c.args.doors.now.len c.run_serve.new.doors c.args.doors.now.items (c.run_serve.auto.doors ∙ c.deref_mut.ensures.len)
     ∙ c.run_serve.ensures.closed stopped ∙ c.deref_mut.ensures.value
+
+pub returns-in-Past-clause-past : goal.returns-in-Past-clause-past
+returns-in-Past-clause-past g c = λ cache input asks told.
+    let same : c.in-Past.cache ≡ cache = same_past _ _ _ (rw c.in-Past.is at c.in-Some.ensures.asked) asks in
+    c.run_past.ensures.run input told
+
+pub returns-in-Catalog-clause-catalog : goal.returns-in-Catalog-clause-catalog
+returns-in-Catalog-clause-catalog g c = λ top per_tile input asks told.
+    let same : (c.in-Catalog.top ≡ top) × (c.in-Catalog.per_tile ≡ per_tile) =
+    same_catalog _ _ _ _ _ (rw c.in-Catalog.is at c.in-Some.ensures.asked) asks in
+    (rw (same.0, same.1) at c.run_catalog.ensures.run) input told

@@ -1,5 +1,5 @@
 use Rattle.std.proofs.Common.{◌≡◌, None, replicate}
 use Rattle.tcp_link.proofs.tcp_door.patient_doors.Given as goal
 
-abbrev pub invariant-loop : goal.invariant-loop
-invariant-loop g l = l.doors.items ≡ replicate l.counter (record { faults = 0; refusal = None })
+abbrev pub invariant-loop-at : goal.invariant-loop-at
+invariant-loop-at g l = l.doors.items ≡ replicate l.at (record { faults = 0; refusal = None })

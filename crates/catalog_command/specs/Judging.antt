@@ -1,0 +1,29 @@
+-- What stands next in the input, judged as the line of its number.
+use Rattle.std.specs.Prelude.{◌≡◌, ℕ, ◌+◌, Bool, true, false, nat_lt, List, [], Option, Some, None, Result, Ok, Err, if◌then◌else◌}
+use Rattle.hips_catalog.specs.Catalogue.{Catalogue}
+use Rattle.catalog_command.specs.declared.stop.LineFault.TheVariants.{Long, Many}
+use Rattle.catalog_command.specs.declared.stop.Stop.{Stop}
+use Rattle.catalog_command.specs.declared.stop.Stop.TheVariants.{Cut, OutOfMemory}
+use Rattle.catalog_command.specs.declared.line.LineRefusal.{LineRefusal}
+use Rattle.catalog_command.specs.declared.line.LineRefusal.TheVariants.{Fault, OutOfMemory as NoRoom}
+use Rattle.catalog_command.specs.declared.found.Found.{Found}
+use Rattle.catalog_command.specs.declared.found.Found.TheVariants.{Line as Whole, Long as Front, Cut as Short, End}
+use Rattle.catalog_command.specs.Lines.{most_lines, bad_line, after_input}
+
+-- how many bytes the line has; none at the end of the input
+abbrev pub judged : ℕ → Found → Result (Option ℕ) Stop
+judged number End = Ok None
+judged number (Whole count) = if nat_lt most_lines number then bad_line number Many else Ok (Some count)
+judged number Front = if nat_lt most_lines number then bad_line number Many else bad_line number Long
+judged number Short = if nat_lt most_lines number then bad_line number Many else Err Cut
+
+-- what use was made of a line, as that of its number
+abbrev pub numbered : ℕ → Result (Unit {0}) LineRefusal → Result (Unit {0}) Stop
+numbered number (Ok done) = Ok done
+numbered number (Err (Fault fault)) = bad_line number fault
+numbered number (Err NoRoom) = Err OutOfMemory
+
+-- of these bytes a line was used, and what follows it is left; or they are none, and the catalogue stays
+abbrev pub TakesLine : ℕ → List ℕ → Catalogue → Catalogue → Option (List ℕ) → Bool → Type 0
+TakesLine number rest old new left true = (more : List ℕ) × (left ≡ Some more) × (after_input old number rest ≡ after_input new (number + 1) more)
+TakesLine number rest old new left false = (rest ≡ []) × (new ≡ old)

@@ -1,0 +1,84 @@
+-- What `catalog` does: it reads lines, and puts the tiles of their catalogue on the shelf.
+use Rattle.std.specs.Prelude.{◌≡◌, ◌⊎◌, ℕ, List, [], ◌∷◌, ◌++◌, length, Option, Result, Ok, Err, IsOkAnd, codes, decimal}
+use Rattle.std.specs.Io.KnownBytes.{Appends}
+use Rattle.survey_link.specs.Link.{AppendsPrefix}
+use Rattle.survey_link.specs.Shelf.{ShelfFiles}
+use Rattle.hips_catalog.specs.Catalogue.{Catalogue, existing_tiles}
+use Rattle.hips_catalog.specs.Texts.{fault_number}
+use Rattle.catalog_command.specs.declared.stop.LineFault.{LineFault}
+use Rattle.catalog_command.specs.declared.stop.LineFault.TheVariants.{Row, Long, Twice, Full, Absent, Many}
+use Rattle.catalog_command.specs.declared.stop.BadLine.{BadLine}
+use Rattle.catalog_command.specs.declared.stop.Stop.{Stop}
+use Rattle.catalog_command.specs.declared.stop.Stop.TheVariants.{Cut, Line, ReadFault, ShelfFault, OutOfMemory}
+use Rattle.catalog_command.specs.declared.counts.Counts.{Counts}
+use Rattle.catalog_command.specs.Lines.{catalogue_of}
+use Rattle.catalog_command.specs.Files.{OnFiles, IsReplaced, IsUnfinished}
+
+-- ---- what is said
+
+-- the number of a fault of a line
+abbrev pub kind_of : LineFault → ℕ
+kind_of (Row fault) = fault_number fault
+kind_of Long = 6
+kind_of Twice = 7
+kind_of Full = 8
+kind_of Absent = 9
+kind_of Many = 10
+
+abbrev pub bad_line_text : BadLine → List ℕ
+bad_line_text bad = codes "row " ++ (decimal bad.line ++ (codes " " ++ decimal (kind_of bad.fault)))
+
+abbrev pub counts_text : Counts → List ℕ
+counts_text counts = codes "rows " ++ (decimal counts.rows ++ (codes " tiles " ++ decimal counts.tiles))
+
+-- a text as a line
+abbrev pub line_of : List ℕ → List ℕ
+line_of text = text ++ 10 ∷ []
+
+-- the line was written and all that the sink holds was handed on
+pub record IsWritten (line : List ℕ) (held held' handed' : Option (List ℕ)) : Type 0 where
+  pub appended : Appends held held' line
+  pub handed_on : handed' ≡ held'
+
+-- nothing was written
+pub record IsSilent (held held' handed handed' : Option (List ℕ)) : Type 0 where
+  pub kept : held' ≡ held
+  pub handed_on : handed' ≡ handed
+
+-- the line was written, and the status is the command's own; or the sink failed at it, or there was no memory for it
+abbrev pub Says : ℕ → List ℕ → ℕ → Option (List ℕ) → Option (List ℕ) → Option (List ℕ) → Option (List ℕ) → Type 0
+Says own line status held held' handed handed' = ((status ≡ own) × IsWritten line held held' handed')
+    ⊎ (((status ≡ 6) × AppendsPrefix held held' line) ⊎ ((status ≡ 11) × IsSilent held held' handed handed'))
+
+-- the status and nothing else
+abbrev pub EndsBy : ℕ → ℕ → Option (List ℕ) → Option (List ℕ) → Option (List ℕ) → Option (List ℕ) → Type 0
+EndsBy own status held held' handed handed' = (status ≡ own) × IsSilent held held' handed handed'
+
+abbrev pub SaysOutcome : Result Counts Stop → ℕ → Option (List ℕ) → Option (List ℕ) → Option (List ℕ) → Option (List ℕ) → Type 0
+SaysOutcome (Ok counts) = Says 0 (line_of (counts_text counts))
+SaysOutcome (Err (Line bad)) = Says 16 (line_of (bad_line_text bad))
+SaysOutcome (Err Cut) = EndsBy 4
+SaysOutcome (Err ReadFault) = EndsBy 5
+SaysOutcome (Err ShelfFault) = EndsBy 7
+SaysOutcome (Err OutOfMemory) = EndsBy 11
+
+-- ---- what is done
+
+abbrev pub counts_of : Catalogue → Counts
+counts_of catalogue = record { rows = length catalogue.rows; tiles = length (existing_tiles catalogue) }
+
+-- the outcome of what the input gives, over the files before and after: the tiles of its catalogue are on the shelf; or it gives
+-- none, and the shelf stays. A shelf that fails, or want of memory, may stop it midway
+abbrev pub IsOutcome : Result Catalogue Stop → Option ShelfFiles → Option ShelfFiles → Result Counts Stop → Type 0
+IsOutcome given old new (Ok counts) = IsOkAnd given (λ catalogue. (counts ≡ counts_of catalogue) × OnFiles (IsReplaced catalogue) old new)
+IsOutcome given old new (Err (Line bad)) = (given ≡ Err (Line bad)) × (new ≡ old)
+IsOutcome given old new (Err Cut) = (given ≡ Err Cut) × (new ≡ old)
+IsOutcome given old new (Err ReadFault) = new ≡ old
+IsOutcome given old new (Err ShelfFault) = IsOkAnd given (λ catalogue. OnFiles (IsUnfinished catalogue) old new)
+IsOutcome given old new (Err OutOfMemory) = (new ≡ old) ⊎ IsOkAnd given (λ catalogue. OnFiles (IsUnfinished catalogue) old new)
+
+-- `catalog`, of this input, over the files before and after, with its status, what the sink holds before and after, and what was
+-- handed on
+abbrev pub RunsCatalog : ℕ → ℕ → List ℕ → Option ShelfFiles → Option ShelfFiles → ℕ → Option (List ℕ) → Option (List ℕ) → Option (List ℕ) → Option (List ℕ) → Type 0
+RunsCatalog top per_tile input old new status held held' handed handed' =
+    (outcome : Result Counts Stop) × (IsOutcome (catalogue_of top per_tile input) old new outcome × SaysOutcome outcome status held held' handed handed')

@@ -1,0 +1,111 @@
+//! The whole command.
+ghost use Rattle.std.specs.Prelude.{◌≡◌, ◌≢◌, ℕ, ◌≤◌, List, Some, IfOk, OnOk, IsErrOf, Err};
+ghost use Rattle.std.specs.Io.KnownBytes.{IsAtEnd};
+ghost use Rattle.survey_link.specs.Link.{Rises};
+ghost use Rattle.catalog_command.specs.Lines.{catalogue_of};
+ghost use Rattle.catalog_command.specs.Run.{RunsCatalog, IsOutcome, SaysOutcome};
+
+use crate::counts::Counts;
+use crate::output::say;
+use crate::reading::read_catalog;
+use crate::stop::Stop;
+use crate::tiles::put_tiles;
+use crate::words::{say_stop, say_written};
+use log::Log;
+use std::alloc::Global;
+use std::time::Clock;
+use survey_link::{Shelf, Sink, Source};
+
+/// Reads lines to the end of the input, each a row or a removal, makes the catalogue tiles on the shelf those of their
+/// catalogue, writes `rows R tiles T` and LF, and answers the status. The catalogue's deepest order is `top`, and a tile above
+/// it holds at most `per_tile` rows.
+///
+/// | Status | Where |
+/// |---|---|
+/// | 0 | the tiles are on the shelf, and the line is written |
+/// | 4 | the input ends within a line; the shelf stays |
+/// | 5, 6, 7 | the source's, the sink's, the shelf's count of faults rose |
+/// | 11 | there was no memory |
+/// | 16 | a line has a fault; `row LINE KIND` and LF are written, and the shelf stays |
+pub fn run_catalog<R, S, K, H>(
+    rt: &R,
+    top: u8,
+    per_tile: u32,
+    source: &mut S,
+    sink: &mut K,
+    shelf: &mut H,
+) -> u8
+where
+    R: AllocGlobal + Clock + Log,
+    S: Source,
+    K: Sink,
+    H: Shelf,
+    requires top { top ≤ 11 }
+    requires least { 1 ≤ per_tile }
+    requires most { per_tile ≤ 4096 }
+    ensures run { (input : List ℕ) → S.left source.old ≡ Some input → RunsCatalog top per_tile input (H.files shelf.old) (H.files shelf.new) result
+        (K.held sink.old) (K.held sink.new) (K.handed_on sink.old) (K.handed_on sink.new) }
+    ensures end { result ≡ 0 → IsAtEnd (S.left source.new) }
+    ensures not_usage { result ≢ 1 }
+    ensures not_opened { (result ≢ 2) × (result ≢ 3) }
+    ensures not_door { result ≢ 8 }
+    ensures read_fault { result ≡ 5 → Rises (S.faults source.old) (S.faults source.new) }
+    ensures write_fault { result ≡ 6 → Rises (K.faults sink.old) (K.faults sink.new) }
+    ensures shelf_fault { result ≡ 7 → Rises (H.faults shelf.old) (H.faults shelf.new) }
+{
+    match put_catalog(rt, top, per_tile, source, shelf) {
+        Ok(counts) => say(rt.alloc(), sink, 0, &counts),
+        Err(stop) => {
+            say_stop(rt, stop);
+            end_by(rt.alloc(), sink, stop)
+        }
+    }
+}
+
+// Puts the catalogue of the input on the shelf.
+fn put_catalog<R, S, H>(
+    rt: &R,
+    top: u8,
+    per_tile: u32,
+    source: &mut S,
+    shelf: &mut H,
+) -> Result<Counts, Stop>
+where
+    R: AllocGlobal + Clock + Log,
+    S: Source,
+    H: Shelf,
+    requires top { top ≤ 11 }
+    requires least { 1 ≤ per_tile }
+    requires most { per_tile ≤ 4096 }
+    ensures outcome { (input : List ℕ) → S.left source.old ≡ Some input
+        → IsOutcome (catalogue_of top per_tile input) (H.files shelf.old) (H.files shelf.new) result }
+    ensures end { OnOk result (IsAtEnd (S.left source.new)) }
+    ensures read_fault { IsErrOf result Stop.ReadFault → Rises (S.faults source.old) (S.faults source.new) }
+    ensures shelf_fault { IsErrOf result Stop.ShelfFault → Rises (H.faults shelf.old) (H.faults shelf.new) }
+{
+    let catalog = read_catalog(rt, top, per_tile, source)?;
+    let tiles = put_tiles(rt, shelf, &catalog)?;
+    let rows = catalog.len();
+    say_written(rt, rows, tiles);
+    Ok(Counts { rows, tiles })
+}
+
+// Says why there is no catalogue, where it is said, and answers the status.
+fn end_by<K: Sink>(alloc: Global, sink: &mut K, stop: Stop) -> u8
+    ensures said { SaysOutcome (Err stop) result (K.held sink.old) (K.held sink.new) (K.handed_on sink.old) (K.handed_on sink.new) }
+    ensures not_usage { result ≢ 1 }
+    ensures not_opened { (result ≢ 2) × (result ≢ 3) }
+    ensures not_door { result ≢ 8 }
+    ensures not_done { result ≢ 0 }
+    ensures read_fault { result ≡ 5 → stop ≡ Stop.ReadFault }
+    ensures write_fault { result ≡ 6 → Rises (K.faults sink.old) (K.faults sink.new) }
+    ensures shelf_fault { result ≡ 7 → stop ≡ Stop.ShelfFault }
+{
+    match stop {
+        Stop::Cut => 4,
+        Stop::Line(bad) => say(alloc, sink, 16, &bad),
+        Stop::ReadFault => 5,
+        Stop::ShelfFault => 7,
+        Stop::OutOfMemory => 11,
+    }
+}

@@ -1,0 +1,23 @@
+//! The command `catalog`.
+//!
+//! `run_catalog` reads rows and removals from a source, a line each, and puts the tiles of their catalogue on a shelf. It is the
+//! whole command over the ends that it is given: it writes what there is to say, and answers the exit status.
+#![tactic(auto)]
+
+mod buffer;
+mod command;
+mod counts;
+mod found;
+mod line;
+mod lines;
+mod output;
+mod progress;
+mod reading;
+mod stop;
+mod tile_name;
+mod tiles;
+mod words;
+
+pub use command::run_catalog;
+pub use counts::Counts;
+pub use stop::{BadLine, LineFault, Stop};

@@ -1,0 +1,91 @@
+//! What one line does to a catalogue.
+ghost use Rattle.std.specs.Prelude.{◌≡◌, ◌≤◌, Ok, OnOk, IfErr};
+ghost use Rattle.healpix_nested.specs.Cells.{IsCell};
+ghost use Rattle.hips_catalog.specs.Reading.{read_row};
+ghost use Rattle.catalog_command.specs.Lines.{is_removal, after_removal, after_row, after_line};
+ghost use Rattle.catalog_command.specs.Stops.{TellsLine};
+
+use crate::stop::LineFault;
+use hips_catalog::laws::row_is_read;
+use hips_catalog::{Catalog, InsertRefusal, Row, RowFault, RowRefusal, is_id};
+use std::alloc::Global;
+
+// How a line begins that takes a row out.
+const REMOVAL: &[u8] = b"-\t";
+
+/// Why a line wasn't used.
+#[derive(Clone, Copy, Debug, PartialEq, Eq)]
+pub(crate) enum LineRefusal {
+    Fault(LineFault),
+    OutOfMemory,
+}
+
+/// Puts the row of a line in, or takes out the one that it names. The line stands without its line feed.
+#[tactic(auto, unfolding(crate::specs::Lines::after_line))]
+pub(crate) fn use_line(
+    alloc: Global,
+    catalog: &mut Catalog,
+    top: u8,
+    line: &[u8],
+) -> Result<(), LineRefusal>
+    requires top { catalog.old.top ≡ top }
+    requires few { top ≤ 11 }
+    ensures used { OnOk result (after_line catalog.old line.now ≡ Ok catalog.new) }
+    ensures refused { IfErr result (TellsLine (after_line catalog.old line.now)) }
+    ensures top { catalog.new.top ≡ catalog.old.top }
+{
+    if line.starts_with(REMOVAL) {
+        return remove(catalog, &line[REMOVAL.len()..]);
+    }
+    insert(alloc, catalog, top, line)
+}
+
+// Takes out the row of an id.
+#[tactic(auto, unfolding(crate::specs::Lines::after_removal))]
+fn remove(catalog: &mut Catalog, id: &[u8]) -> Result<(), LineRefusal>
+    ensures used { OnOk result (after_removal catalog.old id.now ≡ Ok catalog.new) }
+    ensures refused { IfErr result (TellsLine (after_removal catalog.old id.now)) }
+    ensures top { catalog.new.top ≡ catalog.old.top }
+{
+    if !is_id(id) {
+        return Err(LineRefusal::Fault(LineFault::Row(RowFault::Id)));
+    }
+    match catalog.remove(id) {
+        Ok(true) => Ok(()),
+        Ok(false) => Err(LineRefusal::Fault(LineFault::Absent)),
+        Err(_) => Err(LineRefusal::OutOfMemory),
+    }
+}
+
+// Puts the row of a line in.
+fn insert(alloc: Global, catalog: &mut Catalog, top: u8, line: &[u8]) -> Result<(), LineRefusal>
+    requires top { catalog.old.top ≡ top }
+    requires few { top ≤ 11 }
+    ensures used { OnOk result (after_row catalog.old (read_row catalog.old.top line.now) ≡ Ok catalog.new) }
+    ensures refused { IfErr result (TellsLine (after_row catalog.old (read_row catalog.old.top line.now))) }
+    ensures top { catalog.new.top ≡ catalog.old.top }
+{
+    // For the prover: the cell of a row that is read is of the deepest order.
+    row_is_read();
+    match Row::read(alloc, line, top) {
+        Ok(row) => put_in(catalog, row),
+        Err(RowRefusal::Fault(fault)) => Err(LineRefusal::Fault(LineFault::Row(fault))),
+        Err(RowRefusal::OutOfMemory) => Err(LineRefusal::OutOfMemory),
+    }
+}
+
+// Puts a row in.
+#[tactic(auto, unfolding(crate::specs::Lines::after_row))]
+fn put_in(catalog: &mut Catalog, row: Row) -> Result<(), LineRefusal>
+    requires cell { IsCell catalog.old.top row.npix }
+    ensures used { OnOk result (after_row catalog.old (Ok row) ≡ Ok catalog.new) }
+    ensures refused { IfErr result (TellsLine (after_row catalog.old (Ok row))) }
+    ensures top { catalog.new.top ≡ catalog.old.top }
+{
+    match catalog.insert(row) {
+        Ok(()) => Ok(()),
+        Err(InsertRefusal::Twice) => Err(LineRefusal::Fault(LineFault::Twice)),
+        Err(InsertRefusal::Full) => Err(LineRefusal::Fault(LineFault::Full)),
+        Err(InsertRefusal::OutOfMemory) => Err(LineRefusal::OutOfMemory),
+    }
+}

@@ -1,0 +1,93 @@
+//! The input, line by line.
+ghost use Rattle.std.specs.Prelude.{◌≡◌, ◌<◌, ◌≤◌, ◌++◌, ℕ, List, Option, length, None, Ok, IfOk, IfSome, IsNone, OnErr};
+ghost use Rattle.std.specs.Io.KnownBytes.{Consumes, IsAtEnd};
+ghost use Rattle.survey_link.specs.Link.{Rises};
+ghost use Rattle.catalog_command.specs.Lines.{most_bytes};
+ghost use Rattle.catalog_command.specs.Unread.{held, size, place_of_feed, IsFound, KeepsUnread};
+
+use crate::buffer::Buffer;
+use crate::found::Found;
+use survey_link::{Failed, Source};
+
+// How many bytes a line has at most, with its line feed.
+const MOST_BYTES: usize = 512;
+
+/// How many bytes are read at once at most.
+pub(crate) const ROOM: usize = 65_536;
+
+/// What stands next in the input, of which no more is read than tells it.
+///
+/// # Errors
+///
+/// `Failed` only where the source's count of faults rose.
+pub(crate) fn find<S: Source>(buffer: &mut Buffer, source: &mut S) -> Result<Found, Failed>
+    requires size { size buffer.old ≡ 65536 }
+    ensures found { IfOk result (IsFound (held buffer.new) (S.left source.new)) }
+    ensures unread { KeepsUnread (held buffer.old) (held buffer.new) (S.left source.old) (S.left source.new) }
+    ensures failed { OnErr result (Rises (S.faults source.old) (S.faults source.new)) }
+    ensures never_falls { S.faults source.old ≤ S.faults source.new }
+    ensures size { size buffer.new ≡ size buffer.old }
+{
+    'reading: loop {
+        if let Some(found) = told(buffer.held()) {
+            return Ok(found);
+        }
+        if read_more(buffer, source)? == 0 {
+            return Ok(at_end(buffer.held()));
+        }
+    }
+}
+
+// Reads once behind the bytes that are held, which are fewer than those of the longest line, and answers how many came.
+fn read_more<S: Source>(buffer: &mut Buffer, source: &mut S) -> Result<usize, Failed>
+    requires size { size buffer.old ≡ 65536 }
+    requires few { length (held buffer.old) < most_bytes }
+    ensures read { IfOk result (λ count. (more : List ℕ) × (length more ≡ count) × (held buffer.new ≡ held buffer.old ++ more)
+        × Consumes (S.left source.old) (S.left source.new) more) }
+    ensures end { result ≡ Ok 0 → IsAtEnd (S.left source.new) }
+    ensures kept { OnErr result ((held buffer.new ≡ held buffer.old) × (S.left source.new ≡ S.left source.old)) }
+    ensures failed { OnErr result (Rises (S.faults source.old) (S.faults source.new)) }
+    ensures never_falls { S.faults source.old ≤ S.faults source.new }
+    ensures size { size buffer.new ≡ size buffer.old }
+{
+    buffer.move_to_front();
+    buffer.read(source, ROOM)
+}
+
+// What stands next, where the bytes that are held tell it.
+fn told(held: &[u8]) -> Option<Found>
+    ensures found { IfSome result (λ found. (left : Option (List ℕ)) → IsFound held.now left found) }
+    ensures few { IsNone result → length held.now < most_bytes }
+    ensures none { IsNone result → place_of_feed held.now ≡ None }
+{
+    if held.len() < MOST_BYTES {
+        return match place_of_feed(held) {
+            Some(count) => Some(Found::Line(count)),
+            None => None,
+        };
+    }
+    match place_of_feed(&held[..MOST_BYTES]) {
+        Some(count) => Some(Found::Line(count)),
+        None => Some(Found::Long),
+    }
+}
+
+// What stands next, where the bytes that are held don't tell it and nothing follows them.
+fn at_end(held: &[u8]) -> Found
+    requires few { length held.now < most_bytes }
+    requires none { place_of_feed held.now ≡ None }
+    ensures { (left : Option (List ℕ)) → IsAtEnd left → IsFound held.now left result }
+{
+    if held.is_empty() {
+        Found::End
+    } else {
+        Found::Cut
+    }
+}
+
+// Where the first line feed stands.
+fn place_of_feed(bytes: &[u8]) -> Option<usize>
+    ensures { result ≡ place_of_feed bytes.now }
+{
+    bytes.iter().position(|byte| *byte == b'\n')
+}

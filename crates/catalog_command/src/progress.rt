@@ -1,0 +1,47 @@
+//! How far a long work is.
+use log::{Log, info};
+use std::time::{Clock, Instant};
+
+// How many seconds pass at least until it is said again.
+const PAUSE: u64 = 1;
+
+/// Says how far a work of many parts is: at most once a second, so nothing of a work that takes less.
+#[derive(Drop)]
+pub(crate) struct Progress {
+    work: &'static str,
+    done: u64,
+    said: Option<Instant>,
+}
+
+impl Progress {
+    /// A work of which no part is done.
+    pub(crate) fn begin<R: Clock>(rt: &R, work: &'static str) -> Progress {
+        Progress {
+            work,
+            done: 0,
+            said: Instant::now(rt).ok(),
+        }
+    }
+
+    /// One part more is done.
+    pub(crate) fn part_done<R: Clock + Log>(&mut self, rt: &R) {
+        self.done = self.done.saturating_add(1);
+        if self.is_due(rt) {
+            info!(rt; "{}: {}", self.work, self.done);
+        }
+    }
+
+    // Whether a second has passed since it was said, which counts as saying it. Without a clock nothing is said.
+    fn is_due<R: Clock>(&mut self, rt: &R) -> bool {
+        match (Instant::now(rt).ok(), self.said) {
+            (Some(now), Some(said)) => {
+                if now.duration_since(said).as_secs() < PAUSE {
+                    return false;
+                }
+                self.said = Some(now);
+                true
+            }
+            _ => false,
+        }
+    }
+}

@@ -1,0 +1,135 @@
+//! The catalogue of an input of lines.
+ghost use Rattle.std.specs.Prelude.{◌≡◌, ℕ, ◌+◌, ◌<◌, ◌≤◌, List, Some, Option, true, false, Ok, MatchResult, IfOk, OnOk, IfErr, IsErrOf};
+ghost use Rattle.survey_link.specs.Link.{Rises};
+ghost use Rattle.std.specs.Io.KnownBytes.{IsAtEnd};
+ghost use Rattle.hips_catalog.specs.Catalogue.{Catalogue, no_rows};
+ghost use Rattle.catalog_command.specs.Lines.{after_input, after_line, catalogue_of, most_lines, then_lines};
+ghost use Rattle.catalog_command.specs.Unread.{held, size, unread};
+ghost use Rattle.catalog_command.specs.Stops.{TellsStop, IsReading};
+ghost use Rattle.catalog_command.specs.Judging.{judged, numbered, TakesLine};
+
+use crate::buffer::Buffer;
+use crate::found::Found;
+use crate::line::{LineRefusal, use_line};
+use crate::lines::{ROOM, find};
+use crate::progress::Progress;
+use crate::stop::{BadLine, LineFault, Stop};
+use hips_catalog::Catalog;
+use log::Log;
+use std::alloc::Global;
+use std::time::Clock;
+use survey_link::Source;
+
+// How many lines there are at most.
+const MOST_LINES: u64 = 2_000_000;
+
+/// The catalogue that the lines of the input give.
+///
+/// # Errors
+///
+/// The first in the input: `Line` where one has a fault, `Cut` where it ends within one; `ReadFault` only where the source's
+/// count of faults rose; `OutOfMemory`.
+pub(crate) fn read_catalog<R: AllocGlobal + Clock + Log, S: Source>(
+    rt: &R,
+    top: u8,
+    per_tile: u32,
+    source: &mut S,
+) -> Result<Catalog, Stop>
+    requires top { top ≤ 11 }
+    requires least { 1 ≤ per_tile }
+    requires most { per_tile ≤ 4096 }
+    ensures read { (input : List ℕ) → S.left source.old ≡ Some input → IfOk result (λ catalog. catalogue_of top per_tile input ≡ Ok catalog) }
+    ensures stopped { (input : List ℕ) → S.left source.old ≡ Some input → IfErr result (TellsStop (catalogue_of top per_tile input)) }
+    ensures kinds { IfErr result IsReading }
+    ensures end { OnOk result (IsAtEnd (S.left source.new)) }
+    ensures failed { IsErrOf result Stop.ReadFault → Rises (S.faults source.old) (S.faults source.new) }
+    ensures never_falls { S.faults source.old ≤ S.faults source.new }
+{
+    let mut catalog = Catalog::new(rt.alloc(), top, per_tile);
+    let mut buffer = Buffer::new(rt.alloc(), ROOM)?;
+    let mut progress = Progress::begin(rt, "lines read");
+    let mut number = 1;
+    'lines: loop {
+        if !take_line(rt.alloc(), &mut buffer, source, number, top, &mut catalog)? {
+            return Ok(catalog);
+        }
+        progress.part_done(rt);
+        number += 1;
+    }
+}
+
+// Uses the line of this number, which stands next in the input; false at the end of the input.
+fn take_line<S: Source>(
+    alloc: Global,
+    buffer: &mut Buffer,
+    source: &mut S,
+    number: u64,
+    top: u8,
+    catalog: &mut Catalog,
+) -> Result<bool, Stop>
+    requires top { catalog.old.top ≡ top }
+    requires few { top ≤ 11 }
+    requires size { size buffer.old ≡ 65536 }
+    ensures size { size buffer.new ≡ size buffer.old }
+    ensures taken { (rest : List ℕ) → unread (held buffer.old) (S.left source.old) ≡ Some rest
+        → IfOk result (TakesLine number rest catalog.old catalog.new (unread (held buffer.new) (S.left source.new))) }
+    ensures stopped { (rest : List ℕ) → unread (held buffer.old) (S.left source.old) ≡ Some rest
+        → IfErr result (TellsStop (after_input catalog.old number rest)) }
+    ensures kinds { IfErr result IsReading }
+    ensures end { result ≡ Ok false → IsAtEnd (S.left source.new) }
+    ensures more { result ≡ Ok true → number ≤ most_lines }
+    ensures top { catalog.new.top ≡ catalog.old.top }
+    ensures failed { IsErrOf result Stop.ReadFault → Rises (S.faults source.old) (S.faults source.new) }
+    ensures never_falls { S.faults source.old ≤ S.faults source.new }
+{
+    let found = find(buffer, source)?;
+    match judged(number, found)? {
+        None => Ok(false),
+        Some(count) => {
+            used(
+                number,
+                use_line(alloc, catalog, top, &buffer.held()[..count]),
+            )?;
+            buffer.give(count + 1);
+            Ok(true)
+        }
+    }
+}
+
+// How many bytes the line of this number has, by what stands next; `None` at the end of the input.
+fn judged(number: u64, found: Found) -> Result<Option<usize>, Stop>
+    ensures judged { result ≡ judged number found }
+    ensures kinds { IfErr result IsReading }
+{
+    if found == Found::End {
+        return Ok(None);
+    }
+    if number > MOST_LINES {
+        return Err(stop_at(number, LineFault::Many));
+    }
+    match found {
+        Found::Line(count) => Ok(Some(count)),
+        Found::Long => Err(stop_at(number, LineFault::Long)),
+        Found::Cut => Err(Stop::Cut),
+        Found::End => Ok(None),
+    }
+}
+
+// What use was made of a line, as that of this number.
+fn used(number: u64, used: Result<(), LineRefusal>) -> Result<(), Stop>
+    ensures numbered { result ≡ numbered number used }
+    ensures kinds { IfErr result IsReading }
+{
+    match used {
+        Ok(()) => Ok(()),
+        Err(LineRefusal::Fault(fault)) => Err(stop_at(number, fault)),
+        Err(LineRefusal::OutOfMemory) => Err(Stop::OutOfMemory),
+    }
+}
+
+// The fault of the line of this number.
+fn stop_at(line: u64, fault: LineFault) -> Stop
+    ensures { result ≡ Stop.Line (record { line = line; fault = fault }) }
+{
+    Stop::Line(BadLine { line, fault })
+}

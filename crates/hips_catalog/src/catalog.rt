@@ -1,0 +1,218 @@
+//! A catalogue.
+ghost use Rattle.std.specs.Prelude.{◌≡◌, ◌↔◌, ◌≤◌, true, false, Ok, Err, length, option_map, option_copied, slice_get, IfOk, IfErr, OnOk, OnErr};
+ghost use Rattle.std.specs.Arc.{arc_value};
+ghost use Rattle.healpix_nested.specs.Cells.{IsCell};
+ghost use Rattle.hips_catalog.specs.Catalogue.{IsCatalogue, most_rows, has_id, no_rows, with_row, without_row, tile_rows, existing_tiles};
+ghost use Rattle.hips_catalog.specs.Kept.{StandsAt, WouldStandAt};
+ghost use Rattle.hips_catalog.specs.TileText.{tile_text};
+ghost use Rattle.hips_catalog.specs.declared.refusal.InsertRefusal.TheVariants.{Twice, Full};
+
+use crate::refusal::InsertRefusal;
+use crate::rise::rise;
+use crate::row::Row;
+use crate::sink::{cell_of, sink};
+use crate::text::text_of;
+use crate::tile::{Rows, Tile, Tiles, rows};
+use balanced_list::{BalancedList, Item, Probe};
+use healpix_nested::Cell;
+use std::alloc::{AllocError, Global};
+use std::marker::Model;
+use std::sync::Arc;
+
+/// The most rows that a catalogue has.
+pub const MOST_ROWS: usize = 1_000_000;
+
+// Whether the place of an id lies after a row.
+#[derive(Drop)]
+struct After<'a>(&'a [u8]);
+
+impl<'a> Probe<Arc<Row>> for After<'a> {
+    ghost use Rattle.std.specs.Arc.{arc_value};
+    ghost use Rattle.hips_catalog.specs.Rows.{has_id_below};
+
+    ghost past = { λ s row. has_id_below (arc_value row) s.0.now };
+
+    fn is_past(&self, row: &Arc<Row>) -> bool {
+        row.is_before(self.0)
+    }
+}
+
+// A row that can be put in without memory: its place among the ids, that in a tile, and a tile for it.
+#[derive(Drop)]
+struct Ready {
+    listed: Item<Arc<Row>>,
+    placed: Item<Arc<Row>>,
+    spare: Item<Tile>,
+}
+
+/// Sources by rank, in a tree of tiles: each tile holds the best rows of its cell that no tile above it holds, up to a number
+/// of them, and a tile of the deepest order all that are left. Contracts see the deepest order, that number, and the rows by
+/// their ids.
+#[derive(Drop)]
+pub struct Catalog {
+    alloc: Global,
+    top: u8,
+    per_tile: usize,
+    // By ascending ids.
+    ids: Rows,
+    tiles: Tiles,
+}
+
+impl Model for Catalog {
+    ghost use Rattle.hips_catalog.specs.Catalogue.{Catalogue};
+    ghost use Rattle.hips_catalog.specs.Tiles.{sources};
+    ghost use Rattle.hips_catalog.specs.Kept.{kept_content, IsKept};
+
+    ghost Value = { Catalogue };
+
+    ghost view = { λ c. kept_content c.top c.per_tile (sources c.ids) };
+
+    ghost invariant = { λ c. IsKept (kept_content c.top c.per_tile (sources c.ids)) c.tiles };
+}
+
+impl Catalog {
+    /// A catalogue without rows: its deepest order, at most 11, and how many rows a tile above that order holds at most, from
+    /// 1 to 4,096.
+    pub fn new(alloc: Global, top: u8, per_tile: u32) -> Catalog
+        requires top { top ≤ 11 }
+        requires least { 1 ≤ per_tile }
+        requires most { per_tile ≤ 4096 }
+        ensures { result ≡ no_rows top per_tile }
+    {
+        Catalog {
+            alloc,
+            top,
+            per_tile: per_tile as usize,
+            ids: BalancedList::new(),
+            tiles: BalancedList::new(),
+        }
+    }
+
+    /// Puts a row in, whose cell is of the deepest order.
+    ///
+    /// # Errors
+    ///
+    /// `Twice` exactly where a row has its id; then `Full` exactly where there are 1,000,000 rows; `OutOfMemory` where there
+    /// is no memory for it. Then everything is as it was.
+    pub fn insert(&mut self, row: Row) -> Result<(), InsertRefusal>
+        requires cell { IsCell self.old.top row.npix }
+        ensures done { OnOk result (self.new ≡ with_row row self.old) }
+        ensures twice { (result ≡ Err Twice) ↔ (has_id row.id self.old.rows ≡ true) }
+        ensures full { (result ≡ Err Full) ↔ ((has_id row.id self.old.rows ≡ false) × (length self.old.rows ≡ most_rows)) }
+        ensures kept { OnErr result (self.new ≡ self.old) }
+    {
+        let at = match self.find(row.id()) {
+            Ok(_) => return Err(InsertRefusal::Twice),
+            Err(at) => at,
+        };
+        if self.ids.len() == MOST_ROWS {
+            return Err(InsertRefusal::Full);
+        }
+        let ready = self.made_ready(row)?;
+        self.ids.insert(at, ready.listed);
+        sink(
+            &mut self.tiles,
+            self.top,
+            self.per_tile,
+            ready.placed,
+            ready.spare,
+        );
+        Ok(())
+    }
+
+    /// Takes the row of an id out, and answers whether there was one.
+    ///
+    /// # Errors
+    ///
+    /// None, since it takes no memory.
+    pub fn remove(&mut self, id: &[u8]) -> Result<bool, AllocError>
+        ensures there { result ≡ Ok (has_id id.now self.old.rows) }
+        ensures done { self.new ≡ without_row id.now self.old }
+    {
+        match self.find(id) {
+            Ok(at) => {
+                let row = self.ids.remove(at);
+                rise(&mut self.tiles, self.top, self.per_tile, row.item());
+                Ok(true)
+            }
+            Err(_) => Ok(false),
+        }
+    }
+
+    /// How many rows there are.
+    pub fn len(&self) -> u64
+        ensures count { result ≡ length self.now.rows }
+        ensures known { IsCatalogue self.now }
+    {
+        self.ids.len() as u64
+    }
+
+    /// The cell of tile `i` of those that exist, by order and number, from 0; `None` exactly past the last.
+    pub fn tile(&self, i: u64) -> Option<Cell>
+        ensures { result ≡ slice_get (existing_tiles self.now) i }
+    {
+        match self.tiles.get(i as usize) {
+            Some(tile) => Some(tile.cell),
+            None => None,
+        }
+    }
+
+    /// Row `i` of the cell's tile, the best first, from 0; `None` exactly past the last.
+    pub fn row(&self, cell: Cell, i: u64) -> Option<&Row>
+        ensures { option_copied result ≡ slice_get (tile_rows self.now cell.order cell.npix) i }
+    {
+        match rows(&self.tiles, cell) {
+            Some(rows) => match rows.get(i as usize) {
+                Some(row) => Some(&**row),
+                None => None,
+            },
+            None => None,
+        }
+    }
+
+    /// The text of the cell's tile, as tab-separated values: a line of the names of the columns, and a line for each row;
+    /// `None` exactly where the tile doesn't exist.
+    ///
+    /// # Errors
+    ///
+    /// `AllocError` where there is no memory for it.
+    pub fn text(&self, cell: Cell) -> Result<Option<Vec<u8>>, AllocError>
+        ensures { IfOk result (λ text. option_map (λ bytes. bytes.items) text ≡ tile_text self.now cell.order cell.npix) }
+    {
+        match rows(&self.tiles, cell) {
+            Some(rows) => text_of(self.alloc, rows),
+            None => Ok(None),
+        }
+    }
+
+    // The row with all memory that it may need.
+    fn made_ready(&self, row: Row) -> Result<Ready, AllocError>
+        requires { IsCell self.now.top row.npix }
+        ensures listed { IfOk result (λ ready. arc_value ready.listed ≡ row) }
+        ensures placed { IfOk result (λ ready. arc_value ready.placed ≡ row) }
+    {
+        let tile = Tile {
+            cell: cell_of(&row, self.top, self.top),
+            rows: BalancedList::new(),
+        };
+        let spare = Item::new(self.alloc, tile)?;
+        let row = Arc::new(self.alloc, row)?;
+        Ok(Ready {
+            listed: Item::new(self.alloc, row.clone()?)?,
+            placed: Item::new(self.alloc, row)?,
+            spare,
+        })
+    }
+
+    // The place of the row with the id among the ids, or else where it would stand.
+    fn find(&self, id: &[u8]) -> Result<usize, usize>
+        ensures there { IfOk result (λ at. StandsAt id.now self.now.rows at) }
+        ensures absent { IfErr result (λ at. WouldStandAt id.now self.now.rows at) }
+    {
+        let at = self.ids.place(&After(id));
+        match self.ids.get(at) {
+            Some(row) => { if row.id() == id { Ok(at) } else { Err(at) } }
+            None => Err(at),
+        }
+    }
+}

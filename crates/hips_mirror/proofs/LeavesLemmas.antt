@@ -1,0 +1,149 @@
+-- The leaves that were read, one after another.
+use Rattle.std.proofs.Common.{◌≡◌, inl, ℕ, zero, suc, ◌+◌, ◌<◌, List, [], ◌∷◌, ◌++◌, Option, Some, None, Ok, Err, length-append, refl, sym, ap, ◌∙◌, subst, arith, length, map, take, get_or, ℤ}
+use Rattle.std.specs.Prelude.{All, IfSome, slice_get}
+use Rattle.std.specs.List.Sorted.{IsStrictlySortedBy}
+use Rattle.std.specs.Map.{keys_of}
+use Rattle.std.specs.Io.KnownBytes.{Appends}
+use Rattle.std.proofs.KnownBytes.{Appends-trans}
+use Rattle.std.proofs.lemmas.List.{take_more, map-append, append-nil}
+use Rattle.std.proofs.lemmas.Grind.{flat_map-append}
+use Rattle.std.proofs.lemmas.Map.Made.{keys_of-map_values}
+use Rattle.std.proofs.lemmas.Map.Entries.{length-keys_of}
+use Rattle.healpix_nested.specs.Cells.{NestedCell, cell_count}
+use Rattle.std.proofs.lemmas.List.Elements.{All-nil}
+use Rattle.pyramid_model.specs.Shape.{PyramidShape, LeafMap}
+use Rattle.tile_pixels.specs.Tile.{PixelTile}
+use Rattle.survey_conf.specs.Description.{Description}
+use Rattle.fits_tile.specs.Reading.{reads}
+use Rattle.fits_tile.specs.declared.fault.TileFault.{TileFault}
+use Rattle.tile_path.specs.declared.path.Path.TheVariants.{Tile}
+use Rattle.leaf_store.specs.Store.{IsAscending}
+use Rattle.edit_journal.specs.Leaves.{LeafTiles, FitsTile, FitsLeaves}
+use Rattle.generation.specs.Files.{leaf_map}
+use Rattle.mirror_frame.specs.Requests.{request_bytes, leaf_ask}
+use Rattle.mirror_frame.specs.Reply.{IsReply}
+use Rattle.mirror_frame.specs.declared.ask.Ask.TheVariants.{File}
+use Rattle.mirror_frame.specs.declared.due.Due.TheVariants.{Survey}
+use Rattle.shelf_io.proofs.PathLemmas.{same_cell}
+use Rattle.shelf_io.proofs.LeafLemmas.{fits_put, higher_put}
+use Rattle.hips_mirror.specs.declared.refusal.MirrorRefusal.{MirrorRefusal}
+use Rattle.hips_mirror.specs.declared.refusal.MirrorRefusal.TheVariants.{Leaf}
+use Rattle.hips_mirror.specs.Mirror.{AreLeaves, WrongLeaf, RefusesAt, RefusesLeaf}
+use Rattle.hips_mirror.specs.Stages.{Told, TellsLeaf, PutsLeaf, RefusedBy, sent}
+use Rattle.hips_mirror.proofs.ToldLemmas.{told_then, told_so, refused_then}
+
+-- ---- the map of the tiles
+
+pub map_keys : (tiles : LeafTiles) → keys_of (leaf_map tiles) ≡ keys_of tiles
+map_keys tiles = keys_of-map_values (λ (t : PixelTile). t.numbers) tiles
+
+pub map_length : (tiles : LeafTiles) → length (leaf_map tiles) ≡ length tiles
+map_length tiles = sym (length-keys_of (leaf_map tiles)) ∙ ap length (map_keys tiles) ∙ length-keys_of tiles
+
+-- ---- one leaf more
+
+leaves_more : (k : ℕ) (d : Description) (leaves : LeafMap) (leaf : ℕ × List ℤ) (bytes mid rest body : List ℕ) → AreLeaves k d bytes leaves mid
+    → IsReply (Survey k) mid body rest → reads d body ≡ Ok leaf.1 → AreLeaves k d bytes (leaves ++ leaf ∷ []) rest
+leaves_more k d [] leaf bytes mid rest body are reply read = (body, rest, subst (λ u. IsReply (Survey k) u body rest) are reply, read, refl)
+leaves_more k d (first ∷ leaves) leaf bytes mid rest body are reply read =
+    (are.0, are.1, are.2, are.3, leaves_more k d leaves leaf are.1 mid rest body are.4 reply read)
+
+pub leaves_told : (k : ℕ) (d : Description) (leaves leaves' : LeafMap) (a b c : Option (List ℕ)) → Told a b (λ bytes mid. AreLeaves k d bytes leaves mid)
+    → Told b c (TellsLeaf k d leaves leaves') → Told a c (λ bytes rest. AreLeaves k d bytes leaves' rest)
+leaves_told k d leaves leaves' a b c =
+    told_then a b c (λ bytes mid. AreLeaves k d bytes leaves mid) (TellsLeaf k d leaves leaves') (λ bytes rest. AreLeaves k d bytes leaves' rest)
+    (λ x y z are tells. subst (λ ls. AreLeaves k d x ls z) (sym tells.put) (leaves_more k d leaves tells.leaf x y z tells.body are tells.reply tells.reads))
+
+-- none was read
+pub none_told : (k : ℕ) (d : Description) (a : Option (List ℕ)) → Told a a (λ bytes rest. AreLeaves k d bytes [] rest)
+none_told k d None = tt
+none_told k d (Some x) = refl
+
+pub sent_more : (top : ℕ) (numbers : List ℕ) (i : ℕ) → i < length numbers
+    → sent (map (leaf_ask top) (take (i + 1) numbers)) ≡ sent (map (leaf_ask top) (take i numbers)) ++ request_bytes (leaf_ask top (get_or numbers i 0))
+sent_more top numbers i h =
+    ap (λ ns. sent (map (leaf_ask top) ns)) (take_more numbers i 0 h)
+    ∙ ap sent (map-append (leaf_ask top) (take i numbers) (get_or numbers i 0 ∷ []))
+    ∙ flat_map-append request_bytes (map (leaf_ask top) (take i numbers)) (leaf_ask top (get_or numbers i 0) ∷ [])
+    ∙ ap (λ bs. sent (map (leaf_ask top) (take i numbers)) ++ bs) (append-nil (request_bytes (leaf_ask top (get_or numbers i 0))))
+
+pub sent_then : (top : ℕ) (numbers : List ℕ) (i : ℕ) → i < length numbers → (a b c : Option (List ℕ)) → Appends a b (sent (map (leaf_ask top) (take i numbers)))
+    → Appends b c (request_bytes (leaf_ask top (get_or numbers i 0))) → Appends a c (sent (map (leaf_ask top) (take (i + 1) numbers)))
+sent_then top numbers i h a b c first second =
+    subst (Appends a c) (sym (sent_more top numbers i h)) (Appends-trans a b c _ _ first second)
+
+-- ---- the leaf that is refused
+
+pub refused_leaf : (k : ℕ) (d : Description) (numbers : List ℕ) (tiles : LeafTiles) (i number : ℕ) (a b : Option (List ℕ)) (refusal : MirrorRefusal)
+    → keys_of tiles ≡ take i numbers → length tiles ≡ i → slice_get numbers i ≡ Some number
+    → Told a b (λ bytes mid. AreLeaves k d bytes (leaf_map tiles) mid)
+    → IfSome b (λ bytes. RefusesAt (Survey k) (3 + length tiles) (WrongLeaf d number) bytes refusal)
+    → IfSome a (λ bytes. RefusesLeaf k d numbers bytes refusal)
+refused_leaf k d numbers tiles i number a b refusal keys count at =
+    let long : length (leaf_map tiles) ≡ i = map_length tiles ∙ count in
+    refused_then a b (λ bytes mid. AreLeaves k d bytes (leaf_map tiles) mid) (λ bytes. RefusesAt (Survey k) (3 + length tiles) (WrongLeaf d number) bytes refusal)
+    (λ bytes. RefusesLeaf k d numbers bytes refusal)
+    (λ x y are refused. record {
+      leaves = leaf_map tiles;
+      behind = y;
+      first = map_keys tiles ∙ keys ∙ ap (λ n. take n numbers) (sym long);
+      are = are;
+      number = number;
+      next = ap (slice_get numbers) long ∙ at;
+      refused = subst (λ n. RefusesAt (Survey k) (3 + n) (WrongLeaf d number) y refusal) (sym (map_length tiles)) refused;
+    })
+
+-- ---- the leaf that is put
+
+pub puts_leaf : (d : Description) (number : ℕ) (body : List ℕ) (tiles tiles' : LeafTiles) (tile : PixelTile) → reads d body ≡ Ok tile.numbers → tiles' ≡ tiles ++ (number, tile) ∷ []
+    → IsAscending tiles' → number < cell_count d.shape.top → FitsTile d.shape tile → FitsLeaves d.shape tiles → PutsLeaf d number body tiles tiles'
+puts_leaf d number body tiles tiles' tile read put up below fits all =
+    record { tile = tile; reads = read; put = put; fits = fits_put d.shape number tile tiles tiles' put up below fits all }
+
+module _ (d : Description) (number : ℕ) (body : List ℕ) (tiles tiles' : LeafTiles) where
+  pub put_keys : PutsLeaf d number body tiles tiles' → keys_of tiles' ≡ keys_of tiles ++ number ∷ []
+  put_keys puts = ap keys_of puts.put ∙ map-append (λ e. e.0) tiles ((number, puts.tile) ∷ [])
+
+  pub put_count : PutsLeaf d number body tiles tiles' → length tiles' ≡ length tiles + 1
+  put_count puts = ap length puts.put ∙ length-append tiles ((number, puts.tile) ∷ [])
+
+  pub put_fits : PutsLeaf d number body tiles tiles' → FitsLeaves d.shape tiles'
+  put_fits puts = puts.fits
+
+  pub put_higher : All (λ key. key < number) (keys_of tiles) → PutsLeaf d number body tiles tiles' → All (λ key. key < number + 1) (keys_of tiles')
+  put_higher lower puts = higher_put number puts.tile tiles tiles' puts.put lower
+
+  pub put_told : (k : ℕ) (a b : Option (List ℕ)) → Told a b (λ bytes rest. IsReply (Survey k) bytes body rest) → PutsLeaf d number body tiles tiles'
+      → Told a b (TellsLeaf k d (leaf_map tiles) (leaf_map tiles'))
+  put_told k a b told puts =
+      let mapped : leaf_map tiles' ≡ leaf_map tiles ++ (number, puts.tile.numbers) ∷ [] =
+      ap leaf_map puts.put ∙ map-append (λ (leaf : ℕ × PixelTile). (leaf.0, leaf.1.numbers)) tiles ((number, puts.tile) ∷ []) in
+      told_so a b (λ bytes rest. IsReply (Survey k) bytes body rest) (TellsLeaf k d (leaf_map tiles) (leaf_map tiles'))
+      (λ x y reply. record { body = body; leaf = (number, puts.tile.numbers); reply = reply; reads = puts.reads; put = mapped }) told
+
+pub wrong_leaf : (d : Description) (cell : NestedCell) (number : ℕ) (fault : TileFault) (body : List ℕ) → cell.order ≡ d.shape.top → cell.npix ≡ number → reads d body ≡ Err fault
+    → RefusedBy (WrongLeaf d number) body (Leaf cell fault)
+wrong_leaf d cell number fault body order npix wrong = inl (fault, ap (λ c. Leaf c fault) (sym (same_cell d.shape.top number cell (sym order) (sym npix))), wrong)
+
+pub asked_leaf : (top number : ℕ) (cell : NestedCell) → cell.order ≡ top → cell.npix ≡ number → File (Tile cell) ≡ leaf_ask top number
+asked_leaf top number cell order npix = ap (λ c. File (Tile c)) (sym (same_cell top number cell (sym order) (sym npix)))
+
+pub at_place : (numbers : List ℕ) (i : ℕ) → i < length numbers → slice_get numbers i ≡ Some (get_or numbers i 0)
+at_place [] i h = absurd (omega (arith, h))
+at_place (x ∷ xs) zero h = refl
+at_place (x ∷ xs) (suc i) h = at_place xs i (omega (arith, h))
+
+-- ---- before the first leaf
+
+pub empty_fits : (shape : PyramidShape) (tiles : LeafTiles) → tiles ≡ [] → FitsLeaves shape tiles
+unfolding IsStrictlySortedBy
+empty_fits shape [] none = record { ascending = tt; cells = All-nil (λ leaf. leaf < cell_count shape.top); tiles = All-nil (FitsTile shape) }
+empty_fits shape (e ∷ es) none = absurd (omega (arith, ap length none))
+
+pub empty_lower : (n : ℕ) (tiles : LeafTiles) → tiles ≡ [] → All (λ key. key < n) (keys_of tiles)
+empty_lower n [] none = All-nil (λ key. key < n)
+empty_lower n (e ∷ es) none = absurd (omega (arith, ap length none))
+
+pub none_told_of : (k : ℕ) (d : Description) (tiles : LeafTiles) (a : Option (List ℕ)) → tiles ≡ [] → Told a a (λ bytes rest. AreLeaves k d bytes (leaf_map tiles) rest)
+none_told_of k d [] a none = none_told k d a
+none_told_of k d (e ∷ es) a none = absurd (omega (arith, ap length none))

@@ -1,0 +1,50 @@
+-- How many steps a copy takes.
+use Rattle.std.proofs.Common.{◌≡◌, ℕ, ◌+◌, ◌≤◌, List, [], ◌∷◌, Option, Some, None, Result, Ok, Err, refl, sym, ap, ◌∙◌, arith, length, filter}
+use Rattle.std.specs.Prelude.{IfSome, IfOk, sum_by, ◌||◌}
+use Rattle.std.specs.List.{range_with_len}
+use Rattle.std.specs.Map.{keys_of}
+use Rattle.std.proofs.lemmas.Map.Entries.{length-keys_of}
+use Rattle.healpix_nested.specs.Cells.{cell_count, lies_under}
+use Rattle.pyramid_model.specs.Shape.{PyramidShape, LeafMap}
+use Rattle.pyramid_model.specs.Tile.{exists}
+use Rattle.survey_conf.specs.Description.{Description}
+use Rattle.dirty_plan.specs.Dirty.{orders_down}
+use Rattle.edit_journal.specs.Leaves.{LeafTiles}
+use Rattle.generation.specs.Files.{leaf_map}
+use Rattle.generation.specs.Generation.{GenerationContent}
+use Rattle.generation.specs.Steps.{tiles_above}
+use Rattle.hips_mirror.specs.Mirror.{bare, TellsNumbers, StepsFit, IsCopy}
+use Rattle.hips_mirror.proofs.LeavesLemmas.{map_keys, map_length}
+
+-- which tiles exist asks for the numbers of the leaves alone
+exists_by_keys : (shape : PyramidShape) (leaves : LeafMap) (k p : ℕ) → exists shape leaves k p ≡ exists shape (bare (keys_of leaves)) k p
+exists_by_keys shape [] k p = refl
+exists_by_keys shape (leaf ∷ leaves) k p = ap (λ rest. lies_under shape.top leaf.0 k p || rest) (exists_by_keys shape leaves k p)
+
+above_by_keys : (shape : PyramidShape) (leaves : LeafMap) → tiles_above shape leaves ≡ tiles_above shape (bare (keys_of leaves))
+unfolding tiles_above
+above_by_keys shape leaves = λ i. sum_by (λ order. length (filter (λ p. exists_by_keys shape leaves order p i) (range_with_len 0 (cell_count order)))) (orders_down shape.top shape.low)
+
+pub above_tiles : (shape : PyramidShape) (tiles : LeafTiles) (numbers : List ℕ) → keys_of tiles ≡ numbers → tiles_above shape (leaf_map tiles) ≡ tiles_above shape (bare numbers)
+above_tiles shape tiles numbers keys = above_by_keys shape (leaf_map tiles) ∙ ap (λ ns. tiles_above shape (bare ns)) (map_keys tiles ∙ keys)
+
+pub survey_few : {E : Type 0} (shape : PyramidShape) (numbers : List ℕ) (r : Result GenerationContent E) (steps steps' : ℕ) → IfOk r (λ made. keys_of made.leaves ≡ numbers)
+    → steps' ≤ steps + (length numbers + tiles_above shape (bare numbers)) → IfOk r (λ made. steps' ≤ steps + (length made.leaves + tiles_above shape (leaf_map made.leaves)))
+survey_few shape numbers (Ok made) steps steps' keys few =
+    let long : length made.leaves ≡ length numbers = sym (length-keys_of made.leaves) ∙ ap length keys in
+    let same : tiles_above shape (leaf_map made.leaves) ≡ tiles_above shape (bare numbers) = above_tiles shape made.leaves numbers keys in
+    omega (arith, few, long, same)
+survey_few shape numbers (Err e) steps steps' keys few = tt
+
+-- after the whole conversation
+pub copy_fits : (d : Description) (tiles : LeafTiles) (a : Option (List ℕ)) (steps steps' : ℕ) → IfSome a (λ bytes. IsCopy bytes d (leaf_map tiles))
+    → steps' ≤ steps + (length tiles + tiles_above d.shape (leaf_map tiles)) → StepsFit a steps steps'
+copy_fits d tiles a steps steps' copy few =
+    let keys = keys_of (leaf_map tiles) in
+    let same : tiles_above d.shape (leaf_map tiles) ≡ tiles_above d.shape (bare keys) = above_by_keys d.shape (leaf_map tiles) in
+    let long : length keys ≡ length tiles = length-keys_of (leaf_map tiles) ∙ map_length tiles in
+    record { shape = d.shape; numbers = keys; told = by a copy; few = omega (arith, few, long, same) }
+  where
+    by : (o : Option (List ℕ)) → IfSome o (λ bytes. IsCopy bytes d (leaf_map tiles)) → IfSome o (λ bytes. TellsNumbers bytes d.shape (keys_of (leaf_map tiles)))
+    by None c = tt
+    by (Some x) c = record { k = c.k; properties = _; d = d; unread = c.compared.has.behind; covered = c.compared.has.covered; shape_is = refl }

@@ -1,0 +1,23 @@
+use Rattle.hips_mirror.proofs.MirrorLemmas.{mirror_copied, mirror_steps, mirror_last, shelf_refused, shelf_touched}
+use Rattle.hips_mirror.proofs.copying.mirror.Goals as goal
+
+pub returns-in-Ok-clause-copied : goal.returns-in-Ok-clause-copied
+returns-in-Ok-clause-copied g c =
+    mirror_copied c.in-Ok.generation (g.S.Source.left c.args.src.now) (g.K.Sink.held c.args.sink.now) (g.K.Sink.held c.copy.new.sink) c.in-Ok.ensures.copied c.in-Ok.ensures.fits c.in-Ok.ensures.sent
+    c.put_files.result _ _ _ _ c.put_files.ensures.count c.put_files.ensures.replaced c.in-Ok.ensures.few
+
+pub returns-in-Ok-clause-refused : goal.returns-in-Ok-clause-refused
+returns-in-Ok-clause-refused g c = shelf_refused (g.S.Source.left c.args.src.now) c.put_files.result c.put_files.ensures.refused
+
+pub returns-in-Ok-clause-untouched : goal.returns-in-Ok-clause-untouched
+returns-in-Ok-clause-untouched g c = shelf_touched _ _ c.put_files.result c.put_files.ensures.refused
+
+pub returns-in-Ok-clause-last : goal.returns-in-Ok-clause-last
+returns-in-Ok-clause-last g c =
+    mirror_last c.in-Ok.generation (g.S.Source.left c.args.src.now) (g.K.Sink.held c.args.sink.now) (g.K.Sink.held c.copy.new.sink) c.in-Ok.ensures.copied c.in-Ok.ensures.fits c.in-Ok.ensures.sent
+    c.put_files.result _ _ c.put_files.ensures.others
+
+pub returns-in-Ok-clause-steps : goal.returns-in-Ok-clause-steps
+returns-in-Ok-clause-steps g c =
+    mirror_steps c.in-Ok.generation (g.S.Source.left c.args.src.now) (g.K.Sink.held c.args.sink.now) (g.K.Sink.held c.copy.new.sink) c.in-Ok.ensures.copied c.in-Ok.ensures.fits c.in-Ok.ensures.sent
+    c.put_files.result _ _ c.in-Ok.ensures.few

@@ -1,0 +1,4 @@
+pub mod Line
+pub mod Record
+pub mod Reading
+pub mod Laws

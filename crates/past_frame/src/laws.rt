@@ -1,0 +1,8 @@
+//! What follows from the definitions: the law is the whole contract of its function.
+ghost use Rattle.past_frame.specs.Laws.{RecordsStand};
+
+/// The record that stands first in some bytes stands first in them and any more. Where no line of a record comes, none comes
+/// however the input goes on.
+pub fn records_stand()
+    ensures { RecordsStand }
+{}

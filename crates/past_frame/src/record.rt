@@ -1,0 +1,63 @@
+//! Records, and why none is read.
+ghost use Rattle.std.specs.Prelude.{◌≡◌, length};
+
+use std::alloc::{AllocError, Global};
+
+/// A record. Its text, the body of a batch or the path of a read, stands apart from it.
+#[derive(Clone, Copy, Debug, PartialEq, Eq)]
+pub enum Record {
+    /// A batch of edits is to be accepted.
+    Batch,
+    /// A file is asked for.
+    Read {
+        /// Of the survey after so many edits.
+        k: u32,
+    },
+}
+
+/// Why no record was read.
+#[derive(Clone, Copy, Debug, PartialEq, Eq)]
+pub enum Stop {
+    /// The input ended before it.
+    End,
+    /// The input ended within it.
+    Cut,
+    /// No line of a record came.
+    BadLine,
+    /// The source failed.
+    ReadFault,
+    /// There was no memory.
+    OutOfMemory,
+}
+
+impl From<AllocError> for Stop {
+    ghost use Rattle.std.specs.Prelude.{◌≡◌};
+    ghost use Rattle.past_frame.specs.declared.record.Stop.TheVariants as stop;
+
+    ghost from_gives = { λ _ stopped. stopped ≡ stop.OutOfMemory };
+
+    fn from(_error: AllocError) -> Stop {
+        Stop::OutOfMemory
+    }
+}
+
+/// What came from a source: the bytes that were read and belong to no record yet, and the text of the last record.
+#[derive(Drop)]
+pub struct Inbox {
+    /// The bytes that belong to no record yet, at most 128.
+    pub held: Vec<u8>,
+    /// The body of the batch, or the path of the read, that was the last record.
+    pub text: Vec<u8>,
+}
+
+impl Inbox {
+    /// An inbox in which nothing is.
+    pub fn new(alloc: Global) -> Inbox
+        ensures { length result.held.items ≡ 0 }
+    {
+        Inbox {
+            held: Vec::new(alloc),
+            text: Vec::new(alloc),
+        }
+    }
+}

@@ -1,0 +1,6 @@
+pub mod Records
+pub mod Answers
+pub mod Costs
+pub mod Run
+pub mod Session
+pub mod Steps

@@ -1,0 +1,71 @@
+-- What a session about past states does.
+use Rattle.std.specs.Prelude.{◌≡◌, ℕ, ◌+◌, ◌≤◌, List, [], ◌∷◌, ◌++◌, take, Option, Some}
+use Rattle.std.specs.Io.KnownBytes.{Appends, Consumes}
+use Rattle.survey_link.specs.Link.{AppendsPrefix}
+use Rattle.survey_conf.specs.Description.{Description}
+use Rattle.edit_journal.specs.Leaves.{LeafTiles}
+use Rattle.past_frame.specs.Record.{PastRecord}
+use Rattle.past_session.specs.Answers.{first_state, state_behind, record_text, output_of, past_records, past_out}
+use Rattle.past_session.specs.Costs.{cost_of}
+use Rattle.past_session.specs.declared.ending.PastEnd.{PastEnd}
+use Rattle.past_session.specs.declared.ending.PastEnd.TheVariants.{Done, Cut, BadLine, Spent, ReadFault, WriteFault, OutOfMemory}
+
+-- the bytes that a sink holds, and those of them that it has handed on, where it tells them
+pub record SinkBytes : Type 0 where
+  pub held : Option (List ℕ)
+  pub handed_on : Option (List ℕ)
+
+-- all was handed on with the answer to a record; without one nothing was touched
+abbrev pub HandsOn : List PastRecord → SinkBytes → SinkBytes → Type 0
+HandsOn [] sink sink' = sink' ≡ sink
+HandsOn (_ ∷ _) sink sink' = sink'.handed_on ≡ sink'.held
+
+-- the sink has gained the answers to these records, and handed them on
+pub record Answered (d : Description) (opening : LeafTiles) (records : List PastRecord) (sink sink' : SinkBytes) : Type 0 where
+  pub written : Appends sink.held sink'.held (output_of d opening records)
+  pub handed_on : HandsOn records sink sink'
+
+-- nothing failed: the output and the end are those of the input
+pub record RunsWhole (d : Description) (opening : LeafTiles) (input : List ℕ) (sink sink' : SinkBytes) (steps steps' : ℕ) (end : PastEnd) : Type 0 where
+  pub written : Appends sink.held sink'.held (past_out d opening input).output
+  pub end_is : end ≡ (past_out d opening input).end
+  pub handed_on : HandsOn (past_records d input) sink sink'
+  pub cost : steps' ≤ steps + cost_of d opening (past_records d input)
+
+-- reading failed: the records before the first that isn't whole in the bytes that were read were answered
+pub record ReadsPart (d : Description) (opening : LeafTiles) (input : List ℕ) (left' : Option (List ℕ)) (sink sink' : SinkBytes) (steps steps' : ℕ) : Type 0 where
+  pub came : List ℕ
+  pub consumed : Consumes (Some input) left' came
+  pub answered : Answered d opening (past_records d came) sink sink'
+  pub cost : steps' ≤ steps + cost_of d opening (past_records d came)
+
+-- writing failed: some first records were answered whole, and some first bytes of the answer to the next one were written
+pub record BreaksOff (d : Description) (opening : LeafTiles) (input : List ℕ) (sink sink' : SinkBytes) (steps steps' : ℕ) : Type 0 where
+  pub before : List PastRecord
+  pub next : PastRecord
+  pub later : List PastRecord
+  pub are_records : past_records d input ≡ before ++ next ∷ later
+  pub whole : SinkBytes
+  pub answered : Answered d opening before sink whole
+  pub part : AppendsPrefix whole.held sink'.held (record_text d opening (state_behind d opening first_state before) next)
+  pub handed_on : sink'.handed_on ≡ whole.handed_on
+  pub cost : steps' ≤ steps + cost_of d opening (before ++ next ∷ [])
+
+-- memory was wanting: some first records were answered, and nothing of the next one was written
+pub record StopsEarly (d : Description) (opening : LeafTiles) (input : List ℕ) (sink sink' : SinkBytes) (steps steps' : ℕ) : Type 0 where
+  pub before : List PastRecord
+  pub later : List PastRecord
+  pub are_records : past_records d input ≡ before ++ later
+  pub answered : Answered d opening before sink sink'
+  pub cost : steps' ≤ steps + cost_of d opening (before ++ take 1 later)
+
+-- a session of a survey with these opening leaves, whose source had that input: what is left of it, the bytes of the sink and
+-- the count of steps before and after it, by its end
+abbrev pub PastRun : Description → LeafTiles → List ℕ → Option (List ℕ) → SinkBytes → SinkBytes → ℕ → ℕ → PastEnd → Type 0
+PastRun d opening input left' sink sink' steps steps' ReadFault = ReadsPart d opening input left' sink sink' steps steps'
+PastRun d opening input left' sink sink' steps steps' WriteFault = BreaksOff d opening input sink sink' steps steps'
+PastRun d opening input left' sink sink' steps steps' OutOfMemory = StopsEarly d opening input sink sink' steps steps'
+PastRun d opening input left' sink sink' steps steps' Done = RunsWhole d opening input sink sink' steps steps' Done
+PastRun d opening input left' sink sink' steps steps' Cut = RunsWhole d opening input sink sink' steps steps' Cut
+PastRun d opening input left' sink sink' steps steps' (BadLine at) = RunsWhole d opening input sink sink' steps steps' (BadLine at)
+PastRun d opening input left' sink sink' steps steps' Spent = RunsWhole d opening input sink sink' steps steps' Spent

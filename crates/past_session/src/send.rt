@@ -1,0 +1,44 @@
+//! Answers are written.
+ghost use Rattle.std.specs.Prelude.{◌≡◌, ◌≤◌, ◌++◌, OnOk, OnErr};
+ghost use Rattle.survey_link.specs.Link.{Rises, AppendsPrefix};
+ghost use Rattle.past_session.specs.Steps.{Sends};
+
+use survey_link::{Failed, Sink, write_all_parts, write_whole};
+
+/// Writes a line and a file in three parts, and hands them on.
+///
+/// # Errors
+///
+/// `Failed` only where the sink's count of faults rose; some first bytes may have been written.
+pub(crate) fn send_parts<'a, K: Sink>(
+    sink: &mut K,
+    line: &'a [u8],
+    front: &'a [u8],
+    kept: &'a [u8],
+    zeros: &'a [u8],
+) -> Result<(), Failed>
+    ensures sends { OnOk result (Sends (line.now ++ front.now ++ kept.now ++ zeros.now) (record { held = K.held sink.old; handed_on = K.handed_on sink.old }) (record { held = K.held sink.new; handed_on = K.handed_on sink.new })) }
+    ensures part { OnErr result (AppendsPrefix (K.held sink.old) (K.held sink.new) (line.now ++ front.now ++ kept.now ++ zeros.now)) }
+    ensures stays { OnErr result (K.handed_on sink.new ≡ K.handed_on sink.old) }
+    ensures failed { OnErr result (Rises (K.faults sink.old) (K.faults sink.new)) }
+    ensures never_falls { K.faults sink.old ≤ K.faults sink.new }
+{
+    write_all_parts(sink, [line, front, kept, zeros])?;
+    sink.flush()
+}
+
+/// Writes a text, and hands it on.
+///
+/// # Errors
+///
+/// As for `send_parts`.
+pub(crate) fn send_text<K: Sink>(sink: &mut K, text: &[u8]) -> Result<(), Failed>
+    ensures sends { OnOk result (Sends text.now (record { held = K.held sink.old; handed_on = K.handed_on sink.old }) (record { held = K.held sink.new; handed_on = K.handed_on sink.new })) }
+    ensures part { OnErr result (AppendsPrefix (K.held sink.old) (K.held sink.new) text.now) }
+    ensures stays { OnErr result (K.handed_on sink.new ≡ K.handed_on sink.old) }
+    ensures failed { OnErr result (Rises (K.faults sink.old) (K.faults sink.new)) }
+    ensures never_falls { K.faults sink.old ≤ K.faults sink.new }
+{
+    write_whole(sink, text)?;
+    sink.flush()
+}

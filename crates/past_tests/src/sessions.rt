@@ -1,0 +1,275 @@
+//! Whole sessions about past states, byte for byte: what is read as rows of text, what is answered, and how the session ends.
+//! Then sessions that break off: the input is cut, or a call of the source or the sink fails.
+ghost use Rattle.std.specs.Prelude.{◌≡◌, ◌<◌, ◌≤◌, [], IfOk};
+ghost use Rattle.std.specs.Arc.{arc_value};
+ghost use Rattle.edit_journal.specs.Leaves.{charge_of};
+ghost use Rattle.edit_journal.specs.Faults.{most_charge};
+
+use crate::bytes::{bytes_of, push_bytes};
+use crate::surveys::survey;
+use edit_journal::Journal;
+use generation::Generation;
+use leaf_store::Store;
+use log::Log;
+use parent_rule::Steps;
+use past_session::{PastEnd, past_session};
+use std::alloc::Global;
+use std::process::Abort;
+use std::sync::Arc;
+use std::test::Fail;
+use std::thread::Threads;
+use std::time::Clock;
+use survey_link::{MemSink, MemSource, OpenGate};
+
+// What is read, what is written, and how the session ends, where a number is that of a record without a line.
+static SESSIONS: &str = "||Done
+batch 2899;put 0 2888;%leaf 4 0 1 2 3 5%read 0 Norder3/Dir0/Npix0.fits;read 1 Norder3/Dir0/Npix0.fits;read 1 Norder3/Dir0/Npix0.fits;read 2 properties;|edits 1;absent;file 5760;%whole 3 0 -32768 -32768 3 -32768%file 5760;%whole 3 0 -32768 -32768 3 -32768%future 1;|Done
+batch 2908;put 0 2888;%leaf 4 0 1 2 3 5%remove 0;read 1 properties;read 2 properties;|edits 2;split 1;file 380;%properties%0;|Done
+look;||0
+batch 8715;put 0 2888;%leaf 4 0 1 1 1 1%put 1 2888;%leaf 4 1 1 1 1 1%put 2 2888;%leaf 4 2 1 1 1 1%remove 1;remove 2;read 0 x;read 1 x;read 2 x;read 3 x;read 4 x;read 5 x;batch 5811;remove 0;add 0 2888;%leaf 4 0 1 1 1 1%replace 0 2888;%leaf 4 0 2 2 2 2%read 4 x;read 5 x;read 6 x;read 7 x;read 8 Norder4/Dir0/Npix0.fits;read 5 Norder4/Dir0/Npix0.fits;read 9 x;|edits 5;absent;split 1;split 2;split 3;split 4;absent;edits 8;split 4;absent;split 6;split 7;file 5760;%whole 4 0 2 2 2 2%file 5760;%whole 4 0 1 1 1 1%future 8;|Done
+batch 0;batch 10;remove 07;batch 12;remove 3072;batch 17;put 0 2888;SIMPLEbatch 14;put 0 6;SIMPLEbatch 9225;%times 1025 remove 0;%batch 9;remove 5;batch 2903;replace 1 2888;%leaf 4 1 1 2 3 5%batch 5798;put 0 2888;%leaf 4 0 1 2 3 5%add 0 2888;%leaf 4 0 1 2 3 5%read 1 x;read 0 properties;batch 2902;put 3071 2888;%leaf 4 3071 1 2 3 5%read 1 Norder3/Dir0/Npix767.fits;|refused 0 line;refused 0 line;refused 0 line;refused 0 short;refused 0 1 header 1;refused 1024 many;refused 0 edit 2;refused 0 edit 2;refused 1 edit 1;future 0;file 380;%properties%0;edits 1;file 5760;%whole 3 767 -32768 3 -32768 -32768%|Done
+read 0 x;look;|absent;|1
+read 0 x;look|absent;|Cut
+;||0
+read 1;||0
+read 01 x;||0
+read +1 x;||0
+read 4294967295 x;|future 0;|Done
+read 4294967296 x;||0
+read 0 ;|absent;|Done
+read 0  properties;|absent;|Done
+batch 437760;remove||Cut
+batch 437761;remove||0
+batch 9 ;remove 0;||0
+batch 9;remove 0||Cut
+read 0 %times 120 x%;|absent;|Done
+read 0 %times 120 x%||Cut
+read 0 %times 121 x%;||0
+read 0 %times 121 x%||0";
+
+// The same of as many records as are taken, and of more.
+static MOST: &str = "%times 65536 read 0 x;%|%times 65536 absent;%|Done
+%times 65536 read 0 x;%look|%times 65536 absent;%|Spent";
+
+// How a row says that a session ends.
+fn end_of(text: &str) -> Result<PastEnd, Fail> {
+    match text {
+        "Done" => Ok(PastEnd::Done),
+        "Cut" => Ok(PastEnd::Cut),
+        "Spent" => Ok(PastEnd::Spent),
+        _ => Ok(PastEnd::BadLine {
+            at: text.parse::<u64>()?,
+        }),
+    }
+}
+
+// The first generation of the survey, without leaves.
+fn opening<R: Threads + Sync>(rt: &R, alloc: Global) -> Result<Arc<Generation>, Fail>
+    ensures first { IfOk result (λ made. (arc_value made).prefix ≡ 0) }
+    ensures charge { IfOk result (λ made. charge_of (arc_value made).leaves [] ≤ most_charge) }
+{
+    let conf = survey(alloc)?;
+    let leaves = Store::new(alloc);
+    // For the prover: a journal takes these leaves.
+    let _journal = Journal::start(alloc, conf.shape(), leaves.share()?)?;
+    let made = Generation::start(rt, alloc, conf, leaves, &OpenGate::new(), &mut Steps::new())?;
+    Ok(Arc::new(alloc, made)?)
+}
+
+// Runs a session that holds two states, with the bytes in pieces of some size, where the reads with these numbers fail, and answers
+// how it ends.
+fn runs<R: Threads + Sync + Clock + Log>(
+    rt: &R,
+    alloc: Global,
+    opening: &Arc<Generation>,
+    input: &[u8],
+    piece: usize,
+    reads: &[u64],
+    sink: &mut MemSink,
+) -> Result<PastEnd, Fail>
+    requires piece { 0 < piece }
+    requires first { (arc_value opening.now).prefix ≡ 0 }
+    requires charge { charge_of (arc_value opening.now).leaves [] ≤ most_charge }
+{
+    let reads = Vec::from_slice(alloc, reads)?;
+    let mut source = MemSource::new(Vec::from_slice(alloc, input)?, piece, reads);
+    let opening = opening.clone()?;
+    let gate = OpenGate::new();
+    let mut steps = Steps::new();
+    Ok(past_session(rt, alloc, opening, 2, &mut source, sink, &gate, &mut steps))
+}
+
+// Whether the session of these bytes ends so with this output.
+fn ends<R: Threads + Sync + Clock + Log>(
+    rt: &R,
+    alloc: Global,
+    opening: &Arc<Generation>,
+    input: &[u8],
+    piece: usize,
+    reads: &[u64],
+    wanted: PastEnd,
+    output: &[u8],
+) -> Result<bool, Fail>
+    requires piece { 0 < piece }
+    requires first { (arc_value opening.now).prefix ≡ 0 }
+    requires charge { charge_of (arc_value opening.now).leaves [] ≤ most_charge }
+{
+    let mut sink = MemSink::new(alloc, 1_048_576, Vec::new(alloc))?;
+    let end = runs(rt, alloc, opening, input, piece, reads, &mut sink)?;
+    Ok(end == wanted && sink.bytes() == output)
+}
+
+// Whether the session of a row does what it says, with the input in pieces of some size.
+fn answers<R: Threads + Sync + Clock + Log>(
+    rt: &R,
+    alloc: Global,
+    row: &str,
+    piece: usize,
+) -> Result<bool, Fail>
+    requires { 0 < piece }
+{
+    let input = bytes_of(alloc, row.split('|').nth(0).unwrap_or(""))?;
+    let output = bytes_of(alloc, row.split('|').nth(1).unwrap_or(""))?;
+    let end = end_of(row.split('|').nth(2).unwrap_or(""))?;
+    let opening = opening(rt, alloc)?;
+    ends(rt, alloc, &opening, &input, piece, &[], end, &output)
+}
+
+#[test]
+fn records_are_answered(rt: HostRuntime) -> Result<(), Fail> {
+    for row in SESSIONS.lines() {
+        assert!(rt; answers(&rt, rt.alloc(), row, 65_536)?, "{row}");
+        assert!(rt; answers(&rt, rt.alloc(), row, 7)?, "in pieces: {row}");
+    }
+    Ok(())
+}
+
+#[test]
+fn a_session_takes_so_many_records(rt: HostRuntime) -> Result<(), Fail> {
+    for row in MOST.lines() {
+        assert!(rt; answers(&rt, rt.alloc(), row, 65_536)?, "{row}");
+    }
+    Ok(())
+}
+
+// Records, a line each, and their answers.
+static ASKED: &str = "batch 2899;put 0 2888;%leaf 4 0 1 2 3 5%
+read 1 Norder3/Dir0/Npix0.fits;
+batch 9;remove 0;
+read 2 properties;";
+
+static ANSWERED: &str = "edits 1;
+file 5760;%whole 3 0 -32768 -32768 3 -32768%
+edits 2;
+file 380;%properties%0;";
+
+// Whether the output is all that is written where only the first bytes of the input come, and where all come but the read
+// behind these fails. `begun` bytes are whole records.
+fn is_cut<R: Threads + Sync + Clock + Log>(
+    rt: &R,
+    alloc: Global,
+    opening: &Arc<Generation>,
+    input: &[u8],
+    at: usize,
+    begun: usize,
+    output: &[u8],
+) -> Result<bool, Fail>
+    requires first { (arc_value opening.now).prefix ≡ 0 }
+    requires charge { charge_of (arc_value opening.now).leaves [] ≤ most_charge }
+{
+    let end = if at == begun {
+        PastEnd::Done
+    } else {
+        PastEnd::Cut
+    };
+    let first = input.get(..at).unwrap_or(input);
+    if !ends(rt, alloc, opening, first, 65_536, &[], end, output)? {
+        return Ok(false);
+    }
+    ends(
+        rt,
+        alloc,
+        opening,
+        input,
+        1,
+        &[at as u64],
+        PastEnd::ReadFault,
+        output,
+    )
+}
+
+// Each cut within the last record, which begins there.
+fn all_are_cut<R: Threads + Sync + Clock + Log + Abort>(
+    rt: &R,
+    alloc: Global,
+    asked: &str,
+    input: &[u8],
+    begun: usize,
+    output: &[u8],
+) -> Result<(), Fail> {
+    let opening = opening(rt, alloc)?;
+    for at in begun..input.len() {
+        assert!(rt;
+            is_cut(rt, alloc, &opening, input, at, begun, output)?,
+            "{asked}, cut at {at}"
+        );
+    }
+    Ok(())
+}
+
+#[test]
+fn a_cut_input_is_answered_up_to_its_last_whole_record(rt: HostRuntime) -> Result<(), Fail> {
+    let alloc = rt.alloc();
+    let mut input = Vec::new(alloc);
+    let mut output = Vec::new(alloc);
+    for (asked, answered) in ASKED.lines().zip(ANSWERED.lines()) {
+        let begun = input.len();
+        push_bytes(alloc, &mut input, asked)?;
+        all_are_cut(&rt, alloc, asked, &input, begun, &output)?;
+        push_bytes(alloc, &mut output, answered)?;
+    }
+    Ok(())
+}
+
+// The bytes of a table's lines, one after another.
+fn all_of(alloc: Global, table: &str) -> Result<Vec<u8>, Fail> {
+    let mut bytes = Vec::new(alloc);
+    for line in table.lines() {
+        push_bytes(alloc, &mut bytes, line)?;
+    }
+    Ok(bytes)
+}
+
+// Whether the session of those records ends so where the write or flush with that number fails, with a first part of its output,
+// or all of it.
+fn fails<R: Threads + Sync + Clock + Log>(
+    rt: &R,
+    alloc: Global,
+    call: u64,
+    wanted: PastEnd,
+) -> Result<bool, Fail> {
+    let output = all_of(alloc, ANSWERED)?;
+    let input = all_of(alloc, ASKED)?;
+    let mut sink = MemSink::new(alloc, 65_536, Vec::from_slice(alloc, &[call])?)?;
+    let opening = opening(rt, alloc)?;
+    let end = runs(rt, alloc, &opening, &input, 65_536, &[], &mut sink)?;
+    Ok(end == wanted && is_begun(sink.bytes(), &output, end))
+}
+
+// Whether these bytes begin the output, and are all of it where no write failed.
+fn is_begun(bytes: &[u8], output: &[u8], end: PastEnd) -> bool {
+    output.starts_with(bytes) && (bytes.len() == output.len() || end == PastEnd::WriteFault)
+}
+
+// Each answer is written by one call, with the file in it, and handed on by another.
+#[test]
+fn a_failing_write_ends_a_session(rt: HostRuntime) -> Result<(), Fail> {
+    for call in 0..8 {
+        assert!(rt;
+            fails(&rt, rt.alloc(), call, PastEnd::WriteFault)?,
+            "{call}"
+        );
+    }
+    assert!(rt; fails(&rt, rt.alloc(), 8, PastEnd::Done)?);
+    Ok(())
+}

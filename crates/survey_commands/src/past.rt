@@ -1,0 +1,159 @@
+//! The command `past`: records about past states over the source and the sink.
+ghost use Rattle.std.specs.Prelude.{◌≡◌, ◌≢◌, ◌⊎◌, ℕ, ◌≤◌, List, Some, [], IfOk, IfErr, IsErrOf};
+ghost use Rattle.std.specs.Arc.{arc_value};
+ghost use Rattle.survey_link.specs.Link.{Rises};
+ghost use Rattle.edit_journal.specs.Leaves.{charge_of};
+ghost use Rattle.edit_journal.specs.Faults.{most_charge};
+ghost use Rattle.shelf_io.specs.Opening.{OpenedSurvey};
+ghost use Rattle.survey_commands.specs.Session.{OpensAs, OpensNot, ends_of};
+ghost use Rattle.survey_commands.specs.Past.{IsPast, RunsPast, AnswersPast, past_status};
+
+use crate::refusing::say_why;
+use generation::Generation;
+use log::{Log, error};
+use parent_rule::Steps;
+use past_session::{PastEnd, past_session};
+use shelf_io::{LoadRefusal, load};
+use std::alloc::{AllocError, Global};
+use std::sync::Arc;
+use std::thread::Threads;
+use std::time::Clock;
+use survey_link::{Gate, Shelf, Sink, Source};
+
+/// Opens the shelf, answers the records of the source about past states of its survey, of which up to `cache` are held, and
+/// answers the status. The log gets what is wrong with the input.
+///
+/// | Status | Where |
+/// |---|---|
+/// | 0 | the input was read to its end, between two records |
+/// | 2, 3 | the shelf isn't opened, for its description or for its leaves; a line says why, and nothing is read |
+/// | 4 | the input ends within a record |
+/// | 5, 6, 7 | the source's, the sink's, the shelf's count of faults rose |
+/// | 11 | there was no memory |
+/// | 12 | the input goes on after 65,536 records |
+/// | 17 | a record has no line of its form |
+pub fn run_past<R, S, K, H, G>(
+    rt: &R,
+    cache: usize,
+    source: &mut S,
+    sink: &mut K,
+    shelf: &mut H,
+    gate: &G,
+    steps: &mut Steps,
+) -> u8
+where
+    R: AllocGlobal + Threads + Sync + Clock + Log,
+    S: Source,
+    K: Sink,
+    H: Shelf,
+    G: Gate + Sync,
+    requires cache { IsPast cache }
+    ensures run { (input : List ℕ) → S.left source.old ≡ Some input → RunsPast (H.files shelf.old) input
+        (ends_of (S.left source.old) (K.held sink.old) (K.handed_on sink.old) (S.faults source.old) (K.faults sink.old))
+        (ends_of (S.left source.new) (K.held sink.new) (K.handed_on sink.new) (S.faults source.new) (K.faults sink.new))
+        result }
+    ensures kept { H.files shelf.new ≡ H.files shelf.old }
+    ensures unread { (result ≡ 2) ⊎ (result ≡ 3) → source.new ≡ source.old }
+    ensures not_usage { result ≢ 1 }
+    ensures not_door { result ≢ 8 }
+    ensures read_fault { result ≡ 5 → Rises (S.faults source.old) (S.faults source.new) }
+    ensures write_fault { result ≡ 6 → Rises (K.faults sink.old) (K.faults sink.new) }
+    ensures shelf_fault { result ≡ 7 → Rises (H.faults shelf.old) (H.faults shelf.new) }
+    ensures steps_never_fall { steps.old ≤ steps.new }
+{
+    match open_survey(rt, shelf, gate, steps) {
+        Ok(opening) => answer_source(rt, opening, cache, source, sink, gate, steps),
+        Err(refusal) => say_why(rt.alloc(), sink, &refusal),
+    }
+}
+
+// The first generation of the survey that the shelf describes.
+fn open_survey<R, H, G>(
+    rt: &R,
+    shelf: &mut H,
+    gate: &G,
+    steps: &mut Steps,
+) -> Result<Arc<Generation>, LoadRefusal>
+where
+    R: AllocGlobal + Threads + Sync + Clock + Log,
+    H: Shelf,
+    G: Gate + Sync,
+    ensures opened { IfOk result (λ made. OpensAs (H.files shelf.old) (record { conf = (arc_value made).conf; leaves = (arc_value made).leaves })) }
+    ensures first { IfOk result (λ made. (arc_value made).prefix ≡ 0) }
+    ensures charge { IfOk result (λ made. charge_of (arc_value made).leaves [] ≤ most_charge) }
+    ensures refused { IfErr result (OpensNot (H.files shelf.old)) }
+    ensures kept { H.files shelf.new ≡ H.files shelf.old }
+    ensures failed { IsErrOf result LoadRefusal.ShelfFault → Rises (H.faults shelf.old) (H.faults shelf.new) }
+    ensures steps_never_fall { steps.old ≤ steps.new }
+{
+    let generation = load(rt, rt.alloc(), shelf, gate, steps)?;
+    Ok(shared(rt.alloc(), generation)?)
+}
+
+// The generation, so that several own it.
+fn shared(alloc: Global, generation: Generation) -> Result<Arc<Generation>, AllocError>
+    ensures { IfOk result (λ made. arc_value made ≡ generation) }
+{
+    Ok(Arc::new(alloc, generation)?)
+}
+
+// Answers the records about past states of the survey of which this is the first generation, and answers the status.
+fn answer_source<R, S, K, G>(
+    rt: &R,
+    opening: Arc<Generation>,
+    cache: usize,
+    source: &mut S,
+    sink: &mut K,
+    gate: &G,
+    steps: &mut Steps,
+) -> u8
+where
+    R: AllocGlobal + Threads + Sync + Clock + Log,
+    S: Source,
+    K: Sink,
+    G: Gate + Sync,
+    requires cache { IsPast cache }
+    requires first { (arc_value opening).prefix ≡ 0 }
+    requires charge { charge_of (arc_value opening).leaves [] ≤ most_charge }
+    ensures answered { (input : List ℕ) → S.left source.old ≡ Some input
+        → AnswersPast (record { conf = (arc_value opening).conf; leaves = (arc_value opening).leaves }) input
+        (ends_of (S.left source.old) (K.held sink.old) (K.handed_on sink.old) (S.faults source.old) (K.faults sink.old))
+        (ends_of (S.left source.new) (K.held sink.new) (K.handed_on sink.new) (S.faults source.new) (K.faults sink.new))
+        result }
+    ensures no_refusal { (result ≢ 1) × (result ≢ 2) × (result ≢ 3) × (result ≢ 7) × (result ≢ 8) }
+    ensures read_fault { result ≡ 5 → Rises (S.faults source.old) (S.faults source.new) }
+    ensures write_fault { result ≡ 6 → Rises (K.faults sink.old) (K.faults sink.new) }
+    ensures steps_never_fall { steps.old ≤ steps.new }
+{
+    let end = past_session(rt, rt.alloc(), opening, cache, source, sink, gate, steps);
+    say_end(rt, end);
+    past_status(end)
+}
+
+// The status of records that ended so.
+fn past_status(end: PastEnd) -> u8
+    ensures { result ≡ past_status end }
+{
+    match end {
+        PastEnd::Done => 0,
+        PastEnd::Cut => 4,
+        PastEnd::ReadFault => 5,
+        PastEnd::WriteFault => 6,
+        PastEnd::OutOfMemory => 11,
+        PastEnd::Spent => 12,
+        PastEnd::BadLine { .. } => 17,
+    }
+}
+
+// Says what is wrong with an input that ended so.
+fn say_end<R: Log>(rt: &R, end: PastEnd) {
+    match end {
+        PastEnd::BadLine { at } => {
+            error!(rt; "record {at}, counted from 0, has no line of a record: \"batch LENGTH\" or \"read K PATH\", up to 128 bytes with its line feed, numbers in plain decimals, K below 2^32, LENGTH up to that of the longest batch of this survey");
+        }
+        PastEnd::Cut => error!(rt; "the input ends within a record"),
+        PastEnd::Spent =>
+            error!(rt; "the input goes on after 65536 records, of which one run takes no more"),
+        _ => {}
+    }
+}
