@@ -7,7 +7,7 @@ ghost use Rattle.coverage_moc.specs.CoverFile.{IsCoverFile, moc_file};
 
 use crate::edit::{rows_with, rows_without};
 use crate::file::{encode_cover, is_cover_file, read_rows};
-use crate::leaves::{leaf_count, leaves_of};
+use crate::leaves::{covered_leaves, leaf_count};
 use crate::merge::push_cover;
 use crate::refusal::CoverRefusal;
 use leaf_store::Store;
@@ -147,7 +147,7 @@ impl Cover {
         requires few { length (leaves_under top self.now.rows) ≤ 65000 }
         ensures { IfOk result (λ leaves. leaves.items ≡ leaves_under top self.now.rows) }
     {
-        leaves_of(alloc, top, &self.rows)
+        covered_leaves(alloc, top, &self.rows)
     }
 
     // The cover that has these rows.

@@ -56,7 +56,7 @@ fn rows_between(low: u64, high: u64, rows: &[u64]) -> u64
 }
 
 /// The numbers of the leaves under the rows of a cover, ascending.
-pub(crate) fn leaves_of(alloc: Global, top: u8, rows: &[u64]) -> Result<Vec<u64>, AllocError>
+pub(crate) fn covered_leaves(alloc: Global, top: u8, rows: &[u64]) -> Result<Vec<u64>, AllocError>
     requires top { top ≤ 11 }
     requires rows { rows.now ≡ cover top (leaves_under top rows.now) }
     ensures { IfOk result (λ leaves. leaves.items ≡ leaves_under top rows.now) }

@@ -22,8 +22,8 @@ use Rattle.pyramid_model.specs.Shape.{PyramidShape, LeafMap, IsShape}
 use Rattle.pyramid_model.specs.Tile.{exists}
 use Rattle.survey_conf.specs.Description.{Description}
 use Rattle.generation.specs.Files.{leaf_map, tile_paths, mosaic_paths, paths, file_of, files}
-use Rattle.generation.specs.Kept.{HasTile, tile_of, PyramidContent, IsKeptGeneration, KeepsMosaic, IsMosaicFile}
-use Rattle.tile_pixels.specs.Tile.{PixelTile}
+use Rattle.generation.specs.Kept.{HasTile, PyramidContent, IsKeptGeneration, KeepsMosaic, IsMosaicFile}
+use Rattle.tile_pixels.specs.Tile.{tile_of, PixelTile}
 use Rattle.coverage_moc.specs.Cover.{MocCover, cover}
 use Rattle.coverage_moc.specs.CoverFile.{moc_file}
 use Rattle.fits_tile.specs.TileFile.{tile_file}

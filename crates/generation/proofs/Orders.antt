@@ -13,13 +13,13 @@ use Rattle.healpix_nested.specs.CellLaws.{ancestor_is_cell}
 use Rattle.pyramid_model.specs.Shape.{PyramidShape, LeafMap, FitsShape, IsShape, leaf_numbers}
 use Rattle.pyramid_model.specs.Tile.{exists}
 use Rattle.pyramid_model.specs.TileLaws.{exists_leaf, pixels_leaf}
-use Rattle.tile_pixels.specs.Tile.{PixelTile, HasShape}
+use Rattle.tile_pixels.specs.Tile.{tile_of, PixelTile, HasShape}
 use Rattle.tile_pixels.specs.Merge.{Shows}
 use Rattle.leaf_store.specs.Store.{IsAscending, value_at}
 use Rattle.rebuild_worker.specs.Level.{HaveShape, numbers_of}
 use Rattle.edit_journal.specs.Leaves.{LeafTiles, FitsLeaves}
 use Rattle.generation.specs.Files.{leaf_map, existing}
-use Rattle.generation.specs.Kept.{tile_of, tiles_of, HasTile}
+use Rattle.generation.specs.Kept.{tiles_of, HasTile}
 use Rattle.generation.proofs.Lists.{same_pairs, selected_some, selected_none, selected_ascends, keys_of-selected}
 
 -- the leaves are cells of their order

@@ -10,11 +10,11 @@ use Rattle.healpix_nested.specs.Cells.{cell_count, NestedCell, IsCell}
 use Rattle.healpix_nested.specs.CellLaws.{four_pow_mono}
 use Rattle.pyramid_model.specs.Shape.{PyramidShape, LeafMap}
 use Rattle.pyramid_model.specs.Tile.{exists}
-use Rattle.tile_pixels.specs.Tile.{PixelTile}
+use Rattle.tile_pixels.specs.Tile.{tile_of, PixelTile}
 use Rattle.tile_path.specs.declared.path.Path.{Path}
 use Rattle.tile_path.specs.declared.path.Path.TheVariants.{Tile}
 use Rattle.generation.specs.Files.{existing, tile_paths}
-use Rattle.generation.specs.Kept.{tile_of, tiles_of}
+use Rattle.generation.specs.Kept.{tiles_of}
 use Rattle.generation.proofs.Lists.{selection_ascends}
 use Rattle.generation.proofs.Mosaics.{existing_in}
 

@@ -2,7 +2,7 @@
 use Rattle.std.specs.Prelude.{◌≡◌, ◌≢◌, ℕ, ◌-◌, ◌*◌, ◌/◌, ◌<◌, ◌≤◌, false, true, List, [], map, take, drop, length, slice_index_or, Option, Some, None, Contains}
 use Rattle.pyramid_model.specs.Shape.{PyramidShape, LeafMap, FitsShape, IsShape}
 use Rattle.pyramid_model.specs.Tile.{exists, pixels}
-use Rattle.tile_pixels.specs.Tile.{PixelTile}
+use Rattle.tile_pixels.specs.Tile.{tile_of, PixelTile}
 use Rattle.leaf_store.specs.Store.{value_at}
 use Rattle.std.specs.Map.{keys_of}
 use Rattle.survey_conf.specs.Description.{Description, IsDescription}
@@ -16,10 +16,6 @@ use Rattle.dirty_plan.specs.Dirty.{is_dirty, orders_down}
 use Rattle.edit_journal.specs.Leaves.{LeafTiles, FitsLeaves}
 use Rattle.generation.specs.Files.{leaf_map, existing}
 use Rattle.generation.specs.Changes.{AreTiles}
-
--- the tile of a cell
-abbrev pub tile_of : PyramidShape → LeafMap → ℕ → ℕ → PixelTile
-tile_of shape leaves order npix = record { depth = shape.depth; n = shape.n; numbers = pixels shape leaves order npix }
 
 -- the tiles of an order, by ascending number
 unfoldable pub tiles_of : PyramidShape → LeafMap → ℕ → List (ℕ × PixelTile)

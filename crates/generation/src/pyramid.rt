@@ -12,8 +12,9 @@ ghost use Rattle.dirty_plan.specs.Dirty.{work, steps_after};
 ghost use Rattle.edit_journal.specs.Leaves.{FitsLeaves};
 ghost use Rattle.generation.specs.Changes.{AreTiles};
 ghost use Rattle.generation.specs.Files.{leaf_map, tile_paths};
-ghost use Rattle.generation.specs.Kept.{tiles_of, tile_of, HasTile, SameBut};
+ghost use Rattle.generation.specs.Kept.{tiles_of, HasTile, SameBut};
 ghost use Rattle.generation.specs.Steps.{tiles_above};
+ghost use Rattle.tile_pixels.specs.Tile.{tile_of};
 
 use crate::changes::Changes;
 use crate::levels::levels_above;

@@ -19,8 +19,8 @@ use Rattle.healpix_nested.specs.CellLaws.{range_under, under_from_range}
 use Rattle.parent_rule.specs.Permit.{one_more}
 use Rattle.pyramid_model.specs.Shape.{PyramidShape, LeafMap}
 use Rattle.pyramid_model.specs.Tile.{exists}
-use Rattle.tile_pixels.specs.Tile.{PixelTile}
-use Rattle.leaf_probe.specs.Merging.{tile_of, IsLevel, tiles_under, steps_after}
+use Rattle.tile_pixels.specs.Tile.{tile_of, PixelTile}
+use Rattle.leaf_probe.specs.Merging.{IsLevel, tiles_under, steps_after}
 
 -- some steps and then others are all of them
 pub steps_sum : (m n count : ℕ) → steps_after (m + n) count ≡ steps_after m (steps_after n count)

@@ -16,9 +16,9 @@ use Rattle.parent_rule.specs.Depth.{PixelDepth}
 use Rattle.pyramid_model.specs.Shape.{PyramidShape, LeafMap, leaf_numbers}
 use Rattle.pyramid_model.specs.Tile.{exists, pixels}
 use Rattle.pyramid_model.specs.TileLaws.{exists_leaf, exists_over, found, has_child, pixels_leaf}
-use Rattle.tile_pixels.specs.Tile.{PixelTile, HasShape}
+use Rattle.tile_pixels.specs.Tile.{tile_of, PixelTile, HasShape}
 use Rattle.tile_pixels.specs.Merge.{Shows, ShowsChildren}
-use Rattle.leaf_probe.specs.Merging.{tile_of, IsLevel}
+use Rattle.leaf_probe.specs.Merging.{IsLevel}
 
 -- ---- tests
 

@@ -8,11 +8,7 @@ use Rattle.healpix_nested.specs.Cells.{lies_under}
 use Rattle.parent_rule.specs.Permit.{one_more}
 use Rattle.pyramid_model.specs.Shape.{PyramidShape, LeafMap}
 use Rattle.pyramid_model.specs.Tile.{exists, pixels}
-use Rattle.tile_pixels.specs.Tile.{PixelTile}
-
--- the tile of a cell
-abbrev pub tile_of : PyramidShape → LeafMap → ℕ → ℕ → PixelTile
-tile_of shape leaves k q = record { depth = shape.depth; n = shape.n; numbers = pixels shape leaves k q }
+use Rattle.tile_pixels.specs.Tile.{tile_of, PixelTile}
 
 -- the tiles are those of order k that exist under cell npix of order
 abbrev pub IsLevel : PyramidShape → LeafMap → ℕ → ℕ → ℕ → List (ℕ × PixelTile) → Type 0

@@ -7,8 +7,8 @@ ghost use Rattle.healpix_nested.specs.Cells.{lies_under};
 ghost use Rattle.parent_rule.specs.Permit.{one_more};
 ghost use Rattle.pyramid_model.specs.Shape.{LeafMap};
 ghost use Rattle.pyramid_model.specs.Tile.{exists};
-ghost use Rattle.tile_pixels.specs.Tile.{HasShape};
-ghost use Rattle.leaf_probe.specs.Merging.{tile_of, tiles_made, steps_after, IsLevel};
+ghost use Rattle.tile_pixels.specs.Tile.{tile_of, HasShape};
+ghost use Rattle.leaf_probe.specs.Merging.{tiles_made, steps_after, IsLevel};
 
 use parent_rule::{Permit, Steps};
 use pyramid_model::Shape;

@@ -7,8 +7,8 @@ ghost use Rattle.leaf_probe.specs.declared.fault.ProbeFault.TheVariants.{Write};
 ghost use Rattle.leaf_probe.specs.Probe.{IsProbe};
 ghost use Rattle.healpix_nested.specs.Cells.{cell_count};
 ghost use Rattle.pyramid_model.specs.Shape.{LeafMap};
-ghost use Rattle.tile_pixels.specs.Tile.{HasShape};
-ghost use Rattle.leaf_probe.specs.Merging.{tile_of, tiles_made, steps_after, IsLevel};
+ghost use Rattle.tile_pixels.specs.Tile.{tile_of, HasShape};
+ghost use Rattle.leaf_probe.specs.Merging.{tiles_made, steps_after, IsLevel};
 ghost use Rattle.leaf_probe.specs.Probe.{probe_answer, probe_depth, probe_steps, tile_answer, shape_of};
 ghost use Rattle.leaf_probe.specs.Reading.{StandsFor, HasStatusIn, tile_statuses, ReadsToTheEnd};
 

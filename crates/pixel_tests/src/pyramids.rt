@@ -15,7 +15,7 @@ const B: i64 = -32768;
 // A leaf and its numbers.
 type Leaf = (u64, [i64; 4]);
 
-fn leaves_of(alloc: Global, table: &[Leaf]) -> Result<Leaves, Fail> {
+fn leaves_in(alloc: Global, table: &[Leaf]) -> Result<Leaves, Fail> {
     let mut leaves = BTreeMap::new(alloc);
     for (leaf, numbers) in table {
         leaves.insert(*leaf, Vec::from_array(alloc, *numbers)?)?;
@@ -43,7 +43,7 @@ fn tiles_exist_above_leaves(rt: HostRuntime) -> Result<(), Fail> {
         n: 1,
         depth,
     };
-    let leaves = leaves_of(rt.alloc(), &FIRST)?;
+    let leaves = leaves_in(rt.alloc(), &FIRST)?;
     for (order, npix, there) in &TILES {
         assert!(rt; *order <= 4 && *npix < cells(*order));
         assert!(rt;
@@ -66,7 +66,7 @@ fn cells_have_values(rt: HostRuntime) -> Result<(), Fail> {
         n: 1,
         depth,
     };
-    let leaves = leaves_of(rt.alloc(), &FIRST)?;
+    let leaves = leaves_in(rt.alloc(), &FIRST)?;
     assert!(rt; fits(&leaves, &shape));
     for (order, cell, wanted) in &VALUES {
         assert!(rt; *order <= 5 && *cell < cells(*order));
@@ -131,7 +131,7 @@ fn tiles_have_pixels(rt: HostRuntime) -> Result<(), Fail> {
             n: 1,
             depth: depth.with(*combine),
         };
-        let leaves = leaves_of(alloc, table)?;
+        let leaves = leaves_in(alloc, table)?;
         let same = are_pixels(alloc, &leaves, &shape, *order, *npix, wanted)?;
         assert!(rt; same, "tile {npix} of order {order} over {table:?}");
     }

@@ -30,8 +30,8 @@ use Rattle.shelf_io.specs.declared.refusal.LoadRefusal.TheVariants.{NoConf, Conf
 -- ---- one leaf
 
 module _ (d : Description) (leaf : ℕ) (text : List ℕ) (spelled : text ≡ leaf_path d.shape.top leaf) where
-  tile_of : Option (List ℕ) → Option (ℕ × PixelTile)
-  tile_of o = option_map (leaf_with d leaf) (option_and_then result_ok (option_map (reads d) o))
+  leaf_in : Option (List ℕ) → Option (ℕ × PixelTile)
+  leaf_in o = option_map (leaf_with d leaf) (option_and_then result_ok (option_map (reads d) o))
 
   refusal_of : Option (List ℕ) → Option LoadRefusal
   refusal_of o = option_map (Tile (leaf_cell d.shape.top leaf)) (option_and_then result_err (option_map (reads d) o))
@@ -44,11 +44,11 @@ module _ (d : Description) (leaf : ℕ) (text : List ℕ) (spelled : text ≡ le
 
   pub tile_read : (files : Option ShelfFiles) (bytes : Vec ℕ Global) (tile : PixelTile) → Finds files text (Some bytes) → reads d bytes.items ≡ Ok tile.numbers → tile.depth ≡ d.shape.depth → tile.n ≡ d.shape.n
       → IfSome files (λ fs. ◌≡◌ {A = Option (ℕ × PixelTile)} (Some (leaf, tile)) (leaf_tile fs d leaf))
-  unfolding tile_of
+  unfolding leaf_in
   tile_read None bytes tile found read depth n = tt
   tile_read (Some fs) bytes tile found read depth n =
       ap (λ pair. Some pair) (tile_is tile.numbers tile refl depth n)
-      ∙ sym (ap tile_of (there fs (Some bytes.items) found) ∙ ap (λ r. option_map (leaf_with d leaf) (result_ok r)) read)
+      ∙ sym (ap leaf_in (there fs (Some bytes.items) found) ∙ ap (λ r. option_map (leaf_with d leaf) (result_ok r)) read)
 
   pub tile_sound : (files : Option ShelfFiles) (bytes : Vec ℕ Global) (numbers : List ℤ) → Finds files text (Some bytes) → reads d bytes.items ≡ Ok numbers → IfSome files (λ fs. leaf_refusal fs d leaf ≡ None)
   unfolding refusal_of
@@ -65,9 +65,9 @@ module _ (d : Description) (leaf : ℕ) (text : List ℕ) (spelled : text ≡ le
       ∙ ap (λ c. Some (Tile c fault)) (sym same)
 
   pub tile_absent : (files : Option ShelfFiles) → Finds files text None → IfSome files (λ fs. ◌≡◌ {A = Option (ℕ × PixelTile)} None (leaf_tile fs d leaf))
-  unfolding tile_of
+  unfolding leaf_in
   tile_absent None found = tt
-  tile_absent (Some fs) found = sym (ap tile_of (there fs None found))
+  tile_absent (Some fs) found = sym (ap leaf_in (there fs None found))
 
   pub absent_sound : (files : Option ShelfFiles) → Finds files text None → IfSome files (λ fs. leaf_refusal fs d leaf ≡ None)
   unfolding refusal_of

@@ -3,9 +3,10 @@ use Rattle.std.specs.Prelude.{MatchOption}
 use Rattle.std.specs.Arc.{arc_value}
 use Rattle.leaf_store.specs.Store.{value_at}
 use Rattle.generation.specs.Files.{leaf_map}
-use Rattle.generation.specs.Kept.{HasTile, tile_of}
+use Rattle.generation.specs.Kept.{HasTile}
 use Rattle.generation.proofs.Orders.{found_tile, exists_in_order}
 use Rattle.generation.proofs.pyramid.Pyramid.tile.Goals as goal
+use Rattle.tile_pixels.specs.Tile.{tile_of}
 
 pub returns-in-Some : goal.returns-in-Some
 returns-in-Some c =
