@@ -1,6 +1,6 @@
 -- A list that is one list, an item and another list: what is found in it, put in and taken out.
-use Rattle.std.proofs.Common.{◌≡◌, ℕ, zero, suc, ◌+◌, ◌-◌, ◌<◌, ◌≤◌, Bool, true, false, cond, List, [], ◌∷◌, ◌++◌, length, refl, sym, ap, ◌∙◌, subst, arith, ◌⊎◌, inl, inr}
-use Rattle.std.specs.Prelude.{slice_set, slice_index_or}
+use Rattle.std.proofs.Common.{◌≡◌, ℕ, zero, suc, ◌+◌, ◌-◌, ◌<◌, ◌≤◌, Bool, true, false, cond, List, [], ◌∷◌, ◌++◌, length, refl, sym, ap, ◌∙◌, subst, arith, length-append, ◌⊎◌, inl, inr}
+use Rattle.std.specs.Prelude.{slice_set, slice_index_or, slice_get, Option, Some, None}
 use Rattle.std.specs.List.{AllByRecursion as All, insert, remove}
 use Rattle.balanced_list.specs.Search.{leading, HoldsAtFirst}
 
@@ -128,11 +128,19 @@ pub leading_off : {T : Type 0} (test : T → Bool) (l r : List T) (x : T) → te
 leading_off test [] r x f = rw f refl
 leading_off test (a ∷ l) r x f = ap (λ n. cond (test a) (n + 1) 0) (leading_off test l r x f)
 
+-- how many items there are up to the item, where all and those after it are counted
+pub counted_to : {T : Type 0} (items l r later : List T) (x : T) (count after : ℕ) → items ≡ l ++ x ∷ r → later ≡ r → count ≡ length items → after ≡ length later →
+    count - after ≡ length l + 1
+counted_to items l r later x count after e er c a =
+    let n : length items ≡ length l + suc (length r) = ap length e ∙ length-append l (x ∷ r) in
+    let m : length later ≡ length r = ap length er in
+    omega (arith, n, m, c, a)
+
 -- the search goes on past the item
-pub place_on : {T : Type 0} (test : T → Bool) (items l r later : List T) (x item : T) (middle p : ℕ) → items ≡ l ++ x ∷ r → later ≡ r →
-    item ≡ x → middle ≡ length l → test item ≡ true → (HoldsAtFirst test later → p ≡ leading test later) → HoldsAtFirst test items →
-    middle + 1 + p ≡ leading test items
-place_on test items l r later x item middle p e er ex em t ih h =
+pub place_on : {T : Type 0} (test : T → Bool) (items l r later : List T) (x item : T) (before p : ℕ) → items ≡ l ++ x ∷ r → later ≡ r →
+    item ≡ x → before ≡ length l + 1 → test item ≡ true → (HoldsAtFirst test later → p ≡ leading test later) → HoldsAtFirst test items →
+    before + p ≡ leading test items
+place_on test items l r later x item before p e er ex em t ih h =
     let whole : HoldsAtFirst test (l ++ x ∷ r) = subst (λ ys. HoldsAtFirst test ys) e h in
     let a : p ≡ leading test r = subst (λ ys. HoldsAtFirst test ys → p ≡ leading test ys) er ih (first_after test l r x whole) in
     let b : leading test (l ++ x ∷ r) ≡ length l + 1 + leading test r = leading_on test l r x whole (ap test (sym ex) ∙ t) in
@@ -146,5 +154,19 @@ place_off test items l r sooner x item p e el ex f ih h =
     let whole : HoldsAtFirst test (l ++ x ∷ r) = subst (λ ys. HoldsAtFirst test ys) e h in
     let a : p ≡ leading test l = subst (λ ys. HoldsAtFirst test ys → p ≡ leading test ys) el ih (first_before test l r x whole) in
     a ∙ sym (leading_off test l r x (ap test (sym ex) ∙ f)) ∙ ap (leading test) (sym e)
+
+-- ---- what stands where a search ends
+
+get_later : {T : Type 0} (l r : List T) (x : T) (j : ℕ) → slice_get (l ++ x ∷ r) (length l + suc j) ≡ slice_get r j
+get_later [] r x j = let e : 0 + suc j ≡ suc j = omega arith in rw e refl
+get_later (a ∷ l) r x j =
+    let e : length (a ∷ l) + suc j ≡ suc (length l + suc j) = omega arith in
+    rw e (get_later l r x j)
+
+pub found_on : {T : Type 0} (items l r later : List T) (x : T) (o : Option T) (before p : ℕ) → items ≡ l ++ x ∷ r → later ≡ r → before ≡ length l + 1 →
+    o ≡ slice_get later p → o ≡ slice_get items (before + p)
+found_on items l r later x o before p e er em h =
+    let m : before + p ≡ length l + suc p = omega (arith, em) in
+    h ∙ ap (λ ys. slice_get ys p) er ∙ sym (get_later l r x p) ∙ ap (slice_get (l ++ x ∷ r)) (sym m) ∙ ap (λ ys. slice_get ys (before + p)) (sym e)
 
 pub ruleset parts = (insert_before, insert_after, remove_before, remove_between, remove_after, set_before, set_between, set_after, item_before, item_between, item_after)

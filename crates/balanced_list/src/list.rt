@@ -92,10 +92,32 @@ impl<T: Drop> BalancedList<T> {
             Tree::Empty => 0,
             Tree::Fork(node) => {
                 if probe.is_past(&node.item) {
-                    node.left.len() + 1 + node.right.place(probe)
+                    node.len - node.right.len() + node.right.place(probe)
                 } else {
                     node.left.place(probe)
                 }
+            }
+        }
+    }
+
+    /// What `place` answers, and the item that stands there, if one does.
+    pub fn search<P: Probe<T>>(&self, probe: &P) -> (usize, Option<&T>)
+        ensures leading { HoldsAtFirst (P.past probe.now) self.now → result.0 ≡ leading (P.past probe.now) self.now }
+        ensures within { result.0 ≤ length self.now }
+        ensures item { option_copied result.1 ≡ slice_get self.now result.0 }
+    {
+        match &self.tree {
+            Tree::Empty => (0, None),
+            Tree::Fork(node) => {
+                if probe.is_past(&node.item) {
+                    let (place, item) = node.right.search(probe);
+                    return (node.len - node.right.len() + place, item);
+                }
+                let (place, item) = node.left.search(probe);
+                if place < node.left.len() {
+                    return (place, item);
+                }
+                (place, Some(&node.item))
             }
         }
     }
@@ -148,6 +170,17 @@ impl<T: Drop> BalancedList<T> {
                 node.right.swap(i - middle - 1, item);
             }
         }
+    }
+
+    /// Puts the item in the place of item `i`, which comes out.
+    pub fn exchange(&mut self, i: usize, item: Item<T>) -> Item<T>
+        requires { i < length self.old }
+        ensures items { self.new ≡ slice_set self.old i item }
+        ensures item { result ≡ slice_index_or self.old i result }
+    {
+        let mut node = item.into_node();
+        self.swap(i, &mut node.item);
+        Item::alone(node)
     }
 
     /// Puts the item in at place `i`; those from there on stand one place later.

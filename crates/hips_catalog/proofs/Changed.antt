@@ -8,7 +8,7 @@ use Rattle.std.specs.List.{filter, insert, remove}
 use Rattle.healpix_nested.specs.Cells.{IsCell}
 use Rattle.hips_catalog.specs.Rows.{Source, in_order}
 use Rattle.hips_catalog.specs.Catalogue.{IsCatalogue, has_id, with_source, without_id}
-use Rattle.hips_catalog.specs.Kept.{kept_content, IsKept, StandsAt, WouldStandAt}
+use Rattle.hips_catalog.specs.Kept.{kept_content, IsKeptCatalogue, StandsAt, WouldStandAt}
 use Rattle.hips_catalog.specs.Tiles.{sources, AreListed, NoneIsEmpty}
 use Rattle.hips_catalog.specs.Parts.{AreTilesOf, Differ}
 use Rattle.hips_catalog.specs.Held.{is_under, rest_of, held}
@@ -58,10 +58,10 @@ differ_with top n ss x c i a r =
     let w = catalogue_with top n ss x c i a r in
     differ top x ss (with_source x ss) (with_more x ss) w.by_id w.of_cells w.few
 
-pub kept_with : (top n : ℕ) (ss now : List Source) (old new : List Tile) (x y : Source) → now ≡ with_source x ss → y ≡ x → IsKept (kept_content top n ss) old → IsCell top x.npix → has_id x.id ss ≡ false → length ss ≢ 1000000 →
-    AreListed new → (NoneIsEmpty old → NoneIsEmpty new) → ((few many : List Source) → AreTilesOf top n few old → Differ top y few many → AreTilesOf top n many new) → IsKept (kept_content top n now) new
+pub kept_with : (top n : ℕ) (ss now : List Source) (old new : List Tile) (x y : Source) → now ≡ with_source x ss → y ≡ x → IsKeptCatalogue (kept_content top n ss) old → IsCell top x.npix → has_id x.id ss ≡ false → length ss ≢ 1000000 →
+    AreListed new → (NoneIsEmpty old → NoneIsEmpty new) → ((few many : List Source) → AreTilesOf top n few old → Differ top y few many → AreTilesOf top n many new) → IsKeptCatalogue (kept_content top n now) new
 kept_with top n ss now old new x y e ey k i a r l f t =
-    subst (λ rows. IsKept (kept_content top n rows) new) (sym e) (record {
+    subst (λ rows. IsKeptCatalogue (kept_content top n rows) new) (sym e) (record {
       is = catalogue_with top n ss x k.is i a r;
       listed = l;
       full = f k.full;
@@ -73,8 +73,8 @@ kept_with top n ss now old new x y e ey k i a r l f t =
 pub differ_less : (top n : ℕ) (ss now : List Source) (x : Source) → IsCatalogue (kept_content top n ss) → OneMore x now ss → Differ top x (in_order now) (in_order ss)
 differ_less top n ss now x c m = differ top x now ss m c.by_id c.of_cells c.few
 
-pub kept_less : (top n : ℕ) (ss now : List Source) (old new : List Tile) (x : Source) → OneMore x now ss → IsKept (kept_content top n ss) old →
-    AreListed new → (NoneIsEmpty old → NoneIsEmpty new) → ((few many : List Source) → AreTilesOf top n many old → Differ top x few many → AreTilesOf top n few new) → IsKept (kept_content top n now) new
+pub kept_less : (top n : ℕ) (ss now : List Source) (old new : List Tile) (x : Source) → OneMore x now ss → IsKeptCatalogue (kept_content top n ss) old →
+    AreListed new → (NoneIsEmpty old → NoneIsEmpty new) → ((few many : List Source) → AreTilesOf top n many old → Differ top x few many → AreTilesOf top n few new) → IsKeptCatalogue (kept_content top n now) new
 kept_less top n ss now old new x m k l f t =
     let e : length ss ≡ length now + 1 = more_length m in
     let few : length ss ≤ 1000000 = k.is.few in
@@ -114,7 +114,7 @@ none_held top n k p =
     ap (λ ss. cond (ltb k top) (take n ss) ss) (no_rest top n k p) ∙ ap (λ ss. cond (ltb k top) ss []) (none_taken n)
     ∙ (elim (ltb k top) as (λ b. cond b no_sources no_sources ≡ no_sources) [ true ↦ refl | false ↦ refl ])
 
-kept_empty : (top n : ℕ) → top ≤ 11 → 1 ≤ n → n ≤ 4096 → IsKept (kept_content top n []) []
+kept_empty : (top n : ℕ) → top ≤ 11 → 1 ≤ n → n ≤ 4096 → IsKeptCatalogue (kept_content top n []) []
 kept_empty top n h l m = record {
   is = record { top = h; least = l; most = m; by_id = tt; of_cells = tt; few = omega arith };
   listed = tt;
@@ -122,6 +122,6 @@ kept_empty top n h l m = record {
   tiles_are = λ k p. sym (none_held top n k p);
 }
 
-pub kept_new : (top n : ℕ) (ids : List (Arc Source Global)) (tiles : List Tile) → ids ≡ [] → tiles ≡ [] → top ≤ 11 → 1 ≤ n → n ≤ 4096 → IsKept (kept_content top n (sources ids)) tiles
+pub kept_new : (top n : ℕ) (ids : List (Arc Source Global)) (tiles : List Tile) → ids ≡ [] → tiles ≡ [] → top ≤ 11 → 1 ≤ n → n ≤ 4096 → IsKeptCatalogue (kept_content top n (sources ids)) tiles
 kept_new top n ids tiles ei et h l m =
-    subst (λ rows. IsKept (kept_content top n rows) tiles) (sym (ap sources ei)) (subst (λ ts. IsKept (kept_content top n []) ts) (sym et) (kept_empty top n h l m))
+    subst (λ rows. IsKeptCatalogue (kept_content top n rows) tiles) (sym (ap sources ei)) (subst (λ ts. IsKeptCatalogue (kept_content top n []) ts) (sym et) (kept_empty top n h l m))

@@ -8,7 +8,7 @@ use Rattle.healpix_nested.specs.Cells.{NestedCell, IsCell, uniq_number, cell_cou
 use Rattle.hips_catalog.specs.Rows.{Source, in_order}
 use Rattle.hips_catalog.specs.Held.{is_under, rest_of, held}
 use Rattle.hips_catalog.specs.Catalogue.{Catalogue, tile_rows, has_some, existing_tiles}
-use Rattle.hips_catalog.specs.Kept.{IsKept}
+use Rattle.hips_catalog.specs.Kept.{IsKeptCatalogue}
 use Rattle.hips_catalog.specs.Tiles.{sources, is_of, rows_at, number, AreListed, IsOneOf}
 use Rattle.hips_catalog.specs.declared.tile.Tile.{Tile}
 use Rattle.hips_catalog.proofs.Order.{either}
@@ -254,20 +254,20 @@ order_known : (top k p : ℕ) (ss : List Source) → All (λ r. is_under top k p
 order_known top k p [] a h = absurd (grind (arith, h))
 order_known top k p (s ∷ ss) a h = (under_parts top s.npix k p a.0).0
 
-kept_exists : (c : Catalogue) (ts : List Tile) → IsKept c ts → (d : NestedCell) → IsOneOf d (map (λ t. t.cell) ts) → IsOneOf d (existing_tiles c)
+kept_exists : (c : Catalogue) (ts : List Tile) → IsKeptCatalogue c ts → (d : NestedCell) → IsOneOf d (map (λ t. t.cell) ts) → IsOneOf d (existing_tiles c)
 kept_exists c ts k d m =
     let some : 0 < length (rows_at ts d.order d.npix) = one_all (λ e. 0 < length (rows_at ts e.order e.npix)) (map (λ t. t.cell) ts) d m k.full in
     let holds : has_some (tile_rows c d.order d.npix) ≡ true = subst (λ ss. has_some ss ≡ true) (k.tiles_are d.order d.npix) (length_some (rows_at ts d.order d.npix) some) in
     let cell : IsCell d.order d.npix = one_all (λ e. IsCell e.order e.npix) (map (λ t. t.cell) ts) d m (tiles_are_cells ts k.listed) in
     existing_has c d.order d.npix (order_known c.top d.order d.npix (tile_rows c d.order d.npix) (held_under c.top c.per_tile (in_order c.rows) d.order d.npix) holds) cell.in_order holds
 
-exists_kept : (c : Catalogue) (ts : List Tile) → IsKept c ts → (d : NestedCell) → IsOneOf d (existing_tiles c) → IsOneOf d (map (λ t. t.cell) ts)
+exists_kept : (c : Catalogue) (ts : List Tile) → IsKeptCatalogue c ts → (d : NestedCell) → IsOneOf d (existing_tiles c) → IsOneOf d (map (λ t. t.cell) ts)
 exists_kept c ts k d m =
     let holds : has_some (tile_rows c d.order d.npix) ≡ true = one_all (λ e. has_some (tile_rows c e.order e.npix) ≡ true) (existing_tiles c) d m (existing_hold c) in
     rows_somewhere ts d (some_length (rows_at ts d.order d.npix) (subst (λ ss. has_some ss ≡ true) (sym (k.tiles_are d.order d.npix)) holds))
 
-kept_are : (c : Catalogue) (ts : List Tile) → IsKept c ts → map (λ t. t.cell) ts ≡ existing_tiles c
+kept_are : (c : Catalogue) (ts : List Tile) → IsKeptCatalogue c ts → map (λ t. t.cell) ts ≡ existing_tiles c
 kept_are c ts k = same_cells (map (λ t. t.cell) ts) (existing_tiles c) (tiles_ascend ts k.listed) (existing_ascend c) (kept_exists c ts k) (exists_kept c ts k)
 
-pub tile_at : (c : Catalogue) (ts : List Tile) (i : ℕ) → IsKept c ts → option_map (λ (t : Tile). t.cell) (slice_get ts i) ≡ slice_get (existing_tiles c) i
+pub tile_at : (c : Catalogue) (ts : List Tile) (i : ℕ) → IsKeptCatalogue c ts → option_map (λ (t : Tile). t.cell) (slice_get ts i) ≡ slice_get (existing_tiles c) i
 tile_at c ts i k = sym (get_map (λ (t : Tile). t.cell) ts i) ∙ ap (λ cs. slice_get cs i) (kept_are c ts k)

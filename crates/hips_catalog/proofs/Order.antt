@@ -1,14 +1,15 @@
 -- The order of sources is strict, and there is one list of given sources in order.
-use Rattle.std.proofs.Common.{◌≡◌, ◌≢◌, ℕ, Bool, true, false, cond, List, [], ◌∷◌, refl, sym, ap, ◌∙◌, subst, arith, ◌⊎◌, inl, inr}
+use Rattle.std.proofs.Common.{◌≡◌, ◌≢◌, ℕ, ◌≤◌, ltb, Bool, true, false, cond, List, [], ◌∷◌, refl, sym, ap, ◌∙◌, subst, arith, ◌⊎◌, inl, inr}
 use Rattle.std.specs.List.{AllByRecursion as All}
-use Rattle.std.specs.Cmp.{IsTotalOrder, then_total, on_total}
+use Rattle.std.specs.Cmp.{IsTotalOrder, then_total, on_total, nat_cmp_is}
+use Rattle.std.proofs.lemmas.Bool.{ltb-true, ltb-false}
 use Rattle.std.specs.Cmp.Lexicographic.{slice_cmp, on_texts}
 use Rattle.std.specs.declared.cmp.Ordering.{Ordering}
 use Rattle.std.specs.Ordering.{nat_cmp, is_lt, ordering_reverse, ordering_then}
 use Rattle.std.specs.declared.cmp.Ordering.TheVariants.{Less, Equal, Greater}
 use Rattle.std.proofs.lemmas.Cmp.{nat_cmp_total}
 use Rattle.std.proofs.lemmas.Map.Lookups.{exact_bytes}
-use Rattle.hips_catalog.specs.Rows.{Source, source_cmp, is_better, placed, in_order}
+use Rattle.hips_catalog.specs.Rows.{Source, source_cmp, is_better, has_id_below, placed, in_order}
 pub use Rattle.hips_catalog.specs.More.{IsInOrder}
 
 pub source_order : IsTotalOrder source_cmp
@@ -54,6 +55,19 @@ pub one_is_better : (a b : Source) → a.id ≢ b.id → is_better a b ≡ false
 one_is_better a b ne h = elim (either (is_better b a)) [
   | inl t ↦ t
   | inr f ↦ absurd (ne (exact_bytes a.id b.id (same_id (nat_cmp a.rank b.rank) a.id b.id (equal_from (source_cmp a b) h (ap is_lt (sym (source_order.antisymm b a)) ∙ f)))))
+]
+
+-- where two ranks are one, the ids decide
+pub better_tied : (a b : Source) → a.rank ≡ b.rank → is_better a b ≡ has_id_below a b.id
+better_tied a b e = ap (λ o. is_lt (ordering_then o (slice_cmp nat_cmp a.id b.id))) (sym (nat_cmp_is a.rank b.rank Equal e))
+
+-- and else the ranks do
+pub better_by_rank : (a b : Source) → ¬ (a.rank ≡ b.rank) → is_better a b ≡ ltb a.rank b.rank
+better_by_rank a b n = elim (either (ltb a.rank b.rank)) [
+  | inl t ↦ ap (λ o. is_lt (ordering_then o (slice_cmp nat_cmp a.id b.id))) (sym (nat_cmp_is a.rank b.rank Less (ltb-true a.rank b.rank t))) ∙ sym t
+  | inr f ↦
+      let least : b.rank ≤ a.rank = ltb-false a.rank b.rank f in
+      ap (λ o. is_lt (ordering_then o (slice_cmp nat_cmp a.id b.id))) (sym (nat_cmp_is a.rank b.rank Greater (omega (arith, least, n)))) ∙ sym f
 ]
 
 -- ---- lists in order

@@ -12,7 +12,7 @@ abbrev pub kept_content : ℕ → ℕ → List Source → Catalogue
 kept_content top per_tile rows = record { top = top; per_tile = per_tile; rows = rows }
 
 -- the tiles are those of the rows, and each has some
-pub record IsKept (catalogue : Catalogue) (tiles : List Tile) : Type 0 where
+pub record IsKeptCatalogue (catalogue : Catalogue) (tiles : List Tile) : Type 0 where
   pub is : IsCatalogue catalogue
   pub listed : AreListed tiles
   pub full : NoneIsEmpty tiles

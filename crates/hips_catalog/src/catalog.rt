@@ -7,12 +7,13 @@ ghost use Rattle.hips_catalog.specs.Kept.{StandsAt, WouldStandAt};
 ghost use Rattle.hips_catalog.specs.TileText.{tile_text};
 ghost use Rattle.hips_catalog.specs.declared.refusal.InsertRefusal.TheVariants.{Twice, Full};
 
+use crate::ranked::Ranked;
 use crate::refusal::InsertRefusal;
 use crate::rise::rise;
 use crate::row::Row;
 use crate::sink::{cell_of, sink};
 use crate::text::text_of;
-use crate::tile::{Rows, Tile, Tiles, rows};
+use crate::tile::{Tile, Tiles, rows};
 use balanced_list::{BalancedList, Item, Probe};
 use healpix_nested::Cell;
 use std::alloc::{AllocError, Global};
@@ -41,7 +42,7 @@ impl<'a> Probe<Arc<Row>> for After<'a> {
 #[derive(Drop)]
 struct Ready {
     listed: Item<Arc<Row>>,
-    placed: Item<Arc<Row>>,
+    placed: Item<Ranked>,
     spare: Item<Tile>,
 }
 
@@ -54,20 +55,20 @@ pub struct Catalog {
     top: u8,
     per_tile: usize,
     // By ascending ids.
-    ids: Rows,
+    ids: BalancedList<Arc<Row>>,
     tiles: Tiles,
 }
 
 impl Model for Catalog {
     ghost use Rattle.hips_catalog.specs.Catalogue.{Catalogue};
     ghost use Rattle.hips_catalog.specs.Tiles.{sources};
-    ghost use Rattle.hips_catalog.specs.Kept.{kept_content, IsKept};
+    ghost use Rattle.hips_catalog.specs.Kept.{kept_content, IsKeptCatalogue};
 
     ghost Value = { Catalogue };
 
     ghost view = { λ c. kept_content c.top c.per_tile (sources c.ids) };
 
-    ghost invariant = { λ c. IsKept (kept_content c.top c.per_tile (sources c.ids)) c.tiles };
+    ghost invariant = { λ c. IsKeptCatalogue (kept_content c.top c.per_tile (sources c.ids)) c.tiles };
 }
 
 impl Catalog {
@@ -163,7 +164,7 @@ impl Catalog {
     {
         match rows(&self.tiles, cell) {
             Some(rows) => match rows.get(i as usize) {
-                Some(row) => Some(&**row),
+                Some(row) => Some(row.row()),
                 None => None,
             },
             None => None,
@@ -199,7 +200,7 @@ impl Catalog {
         let row = Arc::new(self.alloc, row)?;
         Ok(Ready {
             listed: Item::new(self.alloc, row.clone()?)?,
-            placed: Item::new(self.alloc, row)?,
+            placed: Item::new(self.alloc, Ranked::new(row))?,
             spare,
         })
     }
@@ -209,8 +210,8 @@ impl Catalog {
         ensures there { IfOk result (λ at. StandsAt id.now self.now.rows at) }
         ensures absent { IfErr result (λ at. WouldStandAt id.now self.now.rows at) }
     {
-        let at = self.ids.place(&After(id));
-        match self.ids.get(at) {
+        let (at, there) = self.ids.search(&After(id));
+        match there {
             Some(row) => { if row.id() == id { Ok(at) } else { Err(at) } }
             None => Err(at),
         }

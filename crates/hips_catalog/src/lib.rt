@@ -8,6 +8,7 @@
 mod catalog;
 mod fault;
 pub mod laws;
+mod ranked;
 mod read;
 mod refusal;
 mod rise;

@@ -8,23 +8,8 @@ ghost use Rattle.hips_catalog.specs.Rising.{Rising};
 
 use crate::row::Row;
 use crate::sink::cell_of;
-use crate::tile::{Tiles, best_child, place_in, pull, rows, take_out};
+use crate::tile::{Tiles, best_child, pull, seek, take_out};
 use healpix_nested::Cell;
-
-// Whether the tile of the cell has the row at this place.
-fn is_there(tiles: &Tiles, cell: Cell, i: usize, row: &Row) -> bool
-    requires { AreListed tiles.now }
-    ensures yes { result ≡ true → (s : Source) × (slice_get (rows_at tiles.now cell.order cell.npix) i ≡ Some s) × (is_better s row.now ≡ false) × (is_better row.now s ≡ false) }
-    ensures no { result ≡ false → ¬ (slice_get (rows_at tiles.now cell.order cell.npix) i ≡ Some row.now) }
-{
-    match rows(tiles, cell) {
-        Some(rows) => match rows.get(i) {
-            Some(found) => !found.is_better(row) && !row.is_better(found),
-            None => false,
-        },
-        None => false,
-    }
-}
 
 // The tile that has the row, and the row's place there.
 fn locate(tiles: &Tiles, top: u8, row: &Row) -> (Cell, usize)
@@ -35,13 +20,14 @@ fn locate(tiles: &Tiles, top: u8, row: &Row) -> (Cell, usize)
 {
     for order in 0..top {
         let cell = cell_of(row, top, order);
-        let i = place_in(tiles, cell, row);
-        if is_there(tiles, cell, i, row) {
+        let (i, is_there) = seek(tiles, cell, row);
+        if is_there {
             return (cell, i);
         }
     }
     let cell = cell_of(row, top, top);
-    (cell, place_in(tiles, cell, row))
+    let (i, _is_there) = seek(tiles, cell, row);
+    (cell, i)
 }
 
 /// Takes the row, which one of the tiles has, out of the tiles.

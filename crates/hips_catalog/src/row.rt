@@ -68,13 +68,15 @@ impl Row {
     }
 
     /// Whether this row is shown before the other.
+    #[tactic(auto, using(crate::proofs::Order::better_tied, crate::proofs::Order::better_by_rank))]
     pub(crate) fn is_better(&self, other: &Row) -> bool
         ensures { result ≡ is_better self.now other.now }
     {
-        self.rank
-            .cmp(&other.rank)
-            .then(self.id().cmp(other.id()))
-            .is_lt()
+        if self.rank == other.rank {
+            self.is_before(other.id())
+        } else {
+            self.rank < other.rank
+        }
     }
 
     /// Whether this row's id is below the id.

@@ -6,11 +6,11 @@ ghost use Rattle.hips_catalog.specs.Rows.{Source};
 ghost use Rattle.hips_catalog.specs.Tiles.{AreListed, NoneIsEmpty};
 ghost use Rattle.hips_catalog.specs.Parts.{AreTilesOf, Differ};
 
+use crate::ranked::Ranked;
 use crate::row::Row;
 use crate::tile::{Tile, Tiles, offer};
 use balanced_list::Item;
 use healpix_nested::Cell;
-use std::sync::Arc;
 
 /// The cell of that order that the row lies under.
 pub(crate) fn cell_of(row: &Row, top: u8, order: u8) -> Cell
@@ -26,7 +26,7 @@ pub(crate) fn cell_of(row: &Row, top: u8, order: u8) -> Cell
 }
 
 /// Puts the row into the tiles of the others.
-pub(crate) fn sink(tiles: &mut Tiles, top: u8, room: usize, row: Item<Arc<Row>>, spare: Item<Tile>)
+pub(crate) fn sink(tiles: &mut Tiles, top: u8, room: usize, row: Item<Ranked>, spare: Item<Tile>)
     requires listed { AreListed tiles.old }
     requires room { 0 < room }
     requires tiles { (few : List Source) × (many : List Source) × AreTilesOf top room few tiles.old × Differ top (arc_value row) few many }
@@ -37,12 +37,12 @@ pub(crate) fn sink(tiles: &mut Tiles, top: u8, room: usize, row: Item<Arc<Row>>,
     let mut row = row;
     let mut spare = Some(spare);
     for order in 0..top {
-        let cell = cell_of(row.item(), top, order);
+        let cell = cell_of(row.item().row(), top, order);
         match offer(tiles, cell, row, room, &mut spare) {
             Some(last) => row = last,
             None => return,
         }
     }
-    let cell = cell_of(row.item(), top, top);
+    let cell = cell_of(row.item().row(), top, top);
     let _none = offer(tiles, cell, row, usize::MAX, &mut spare);
 }

@@ -5,11 +5,11 @@ ghost use Rattle.std.specs.List.{flat_map};
 ghost use Rattle.hips_catalog.specs.Tiles.{sources};
 ghost use Rattle.hips_catalog.specs.TileText.{source_line, text_of};
 
+use crate::ranked::Ranked;
 use crate::row::Row;
 use crate::tile::Rows;
 use itoa::Buffer;
 use std::alloc::{AllocError, Global};
-use std::sync::Arc;
 
 // Appends a number in plain decimals.
 fn push_number(text: &mut Vec<u8>, number: u64) -> Result<(), AllocError>
@@ -36,11 +36,11 @@ fn push_line(text: &mut Vec<u8>, row: &Row) -> Result<(), AllocError>
 }
 
 // Appends the lines of rows.
-fn push_lines(text: &mut Vec<u8>, rows: &[&Arc<Row>]) -> Result<(), AllocError>
+fn push_lines(text: &mut Vec<u8>, rows: &[&Ranked]) -> Result<(), AllocError>
     ensures { OnOk result (text.new.items ≡ text.old.items ++ flat_map (λ row. source_line (arc_value row.now)) rows.now) }
 {
     for row in rows {
-        push_line(text, row)?;
+        push_line(text, row.row())?;
     }
     Ok(())
 }

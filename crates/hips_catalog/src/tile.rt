@@ -1,5 +1,5 @@
 //! The tiles, by the numbers of their cells.
-ghost use Rattle.std.specs.Prelude.{◌≡◌, ℕ, List, ◌+◌, ◌<◌, ◌≤◌, ◌^◌, [], ◌∷◌, length, IfOk, MatchOption, drop, take as first_of, ◌++◌, None, IfErr, OnSome, IsSome, slice_get, slice_index_or, option_map, option_copied};
+ghost use Rattle.std.specs.Prelude.{◌≡◌, true, false, ℕ, List, ◌+◌, ◌<◌, ◌≤◌, ◌^◌, [], ◌∷◌, length, IfOk, MatchOption, drop, take as first_of, ◌++◌, None, IfErr, OnSome, IsSome, slice_get, slice_index_or, option_map, option_copied};
 ghost use Rattle.std.specs.Arc.{arc_value};
 ghost use Rattle.std.specs.List.{insert, remove};
 ghost use Rattle.balanced_list.specs.Search.{leading, HoldsAtFirst};
@@ -7,13 +7,13 @@ ghost use Rattle.hips_catalog.specs.Rows.{Source, is_better, placed};
 ghost use Rattle.healpix_nested.specs.Cells.{NestedCell};
 ghost use Rattle.hips_catalog.specs.Tiles.{sources, child_cell, rows_at, is_of, AreListed, HasTile, IsGap, OthersStay, OthersStayButTwo, HasSameCells, IsBest, first_at, NoneIsEmpty, number};
 
+use crate::ranked::Ranked;
 use crate::row::Row;
 use balanced_list::{BalancedList, Item, Probe};
 use healpix_nested::Cell;
-use std::sync::Arc;
 
 /// Rows that several lists share, in some order.
-pub(crate) type Rows = BalancedList<Arc<Row>>;
+pub(crate) type Rows = BalancedList<Ranked>;
 
 /// Tiles, by ascending number of their cells.
 pub(crate) type Tiles = BalancedList<Tile>;
@@ -29,13 +29,13 @@ pub(crate) struct Tile {
 #[derive(Drop)]
 struct Worse<'a>(&'a Row);
 
-impl<'a> Probe<Arc<Row>> for Worse<'a> {
+impl<'a> Probe<Ranked> for Worse<'a> {
     ghost use Rattle.std.specs.Arc.{arc_value};
     ghost use Rattle.hips_catalog.specs.Rows.{is_better};
 
     ghost past = { λ s row. is_better (arc_value row) s.0.now };
 
-    fn is_past(&self, row: &Arc<Row>) -> bool {
+    fn is_past(&self, row: &Ranked) -> bool {
         row.is_better(self.0)
     }
 }
@@ -72,21 +72,28 @@ pub(crate) fn place_of(rows: &Rows, row: &Row) -> usize
     rows.place(&Worse(row))
 }
 
-/// The place of the cell's tile, or else where it would stand.
-pub(crate) fn find(tiles: &Tiles, cell: Cell) -> Result<usize, usize>
+/// The cell's tile and its place, or else the place where it would stand.
+pub(crate) fn find(tiles: &Tiles, cell: Cell) -> Result<(usize, &Tile), usize>
     requires { AreListed tiles.now }
-    ensures there { IfOk result (λ at. HasTile tiles.now at cell) }
+    ensures there { IfOk result (λ found. HasTile tiles.now found.0 cell) }
+    ensures rows { IfOk result (λ found. rows_at tiles.now cell.order cell.npix ≡ sources found.1.now.rows) }
     ensures gap { IfErr result (λ at. IsGap tiles.now at cell) }
 {
-    let at = tiles.place(&Later(cell.uniq()));
-    match tiles.get(at) {
-        Some(tile) => { if tile.is_of(cell) { Ok(at) } else { Err(at) } }
+    let (at, there) = tiles.search(&Later(cell.uniq()));
+    match there {
+        Some(tile) => {
+            if tile.is_of(cell) {
+                Ok((at, tile))
+            } else {
+                Err(at)
+            }
+        }
         None => Err(at),
     }
 }
 
 /// Puts a row into the cell's tile, which is there.
-pub(crate) fn put(tiles: &mut Tiles, cell: Cell, at: usize, i: usize, row: Item<Arc<Row>>)
+pub(crate) fn put(tiles: &mut Tiles, cell: Cell, at: usize, i: usize, row: Item<Ranked>)
     requires listed { AreListed tiles.old }
     requires there { HasTile tiles.old at cell }
     requires place { i ≤ length (rows_at tiles.old cell.order cell.npix) }
@@ -106,7 +113,7 @@ pub(crate) fn put(tiles: &mut Tiles, cell: Cell, at: usize, i: usize, row: Item<
 }
 
 /// Takes a row out of the cell's tile, which stays there even if it has no other.
-pub(crate) fn take(tiles: &mut Tiles, cell: Cell, at: usize, i: usize) -> Item<Arc<Row>>
+pub(crate) fn take(tiles: &mut Tiles, cell: Cell, at: usize, i: usize) -> Item<Ranked>
     requires listed { AreListed tiles.old }
     requires there { HasTile tiles.old at cell }
     requires place { i < length (rows_at tiles.old cell.order cell.npix) }
@@ -126,28 +133,35 @@ pub(crate) fn take(tiles: &mut Tiles, cell: Cell, at: usize, i: usize) -> Item<A
     row
 }
 
+// Puts a row in the place of the first one of the cell's tile, which comes out.
+fn exchange(tiles: &mut Tiles, cell: Cell, at: usize, row: Item<Ranked>) -> Item<Ranked>
+    requires listed { AreListed tiles.old }
+    requires there { HasTile tiles.old at cell }
+    requires some { 0 < length (rows_at tiles.old cell.order cell.npix) }
+    ensures rows { rows_at tiles.new cell.order cell.npix ≡ arc_value row ∷ drop 1 (rows_at tiles.old cell.order cell.npix) }
+    ensures first { Some (arc_value result) ≡ slice_get (rows_at tiles.old cell.order cell.npix) 0 }
+    ensures others { OthersStay cell.order cell.npix tiles.old tiles.new }
+    ensures listed { AreListed tiles.new }
+    ensures cells { HasSameCells tiles.old tiles.new }
+{
+    let mut tile = Tile {
+        cell,
+        rows: BalancedList::new(),
+    };
+    tiles.swap(at, &mut tile);
+    let first = tile.rows.exchange(0, row);
+    tiles.swap(at, &mut tile);
+    first
+}
+
 /// The rows of the cell's tile; `None` where there is no tile.
 pub(crate) fn rows(tiles: &Tiles, cell: Cell) -> Option<&Rows>
     requires { AreListed tiles.now }
     ensures { MatchOption result (rows_at tiles.now cell.order cell.npix ≡ []) (λ rows. rows_at tiles.now cell.order cell.npix ≡ sources rows.now) }
 {
     match find(tiles, cell) {
-        Ok(at) => match tiles.get(at) {
-            Some(tile) => Some(&tile.rows),
-            None => None,
-        },
+        Ok((_at, tile)) => Some(&tile.rows),
         Err(_) => None,
-    }
-}
-
-/// How many rows the cell's tile has; 0 where there is no tile.
-pub(crate) fn count(tiles: &Tiles, cell: Cell) -> usize
-    requires { AreListed tiles.now }
-    ensures { result ≡ length (rows_at tiles.now cell.order cell.npix) }
-{
-    match rows(tiles, cell) {
-        Some(rows) => rows.len(),
-        None => 0,
     }
 }
 
@@ -158,7 +172,7 @@ pub(crate) fn first(tiles: &Tiles, cell: Cell) -> Option<&Row>
 {
     match rows(tiles, cell) {
         Some(rows) => match rows.get(0) {
-            Some(row) => Some(&**row),
+            Some(row) => Some(row.row()),
             None => None,
         },
         None => None,
@@ -201,7 +215,7 @@ pub(crate) fn best_child(tiles: &Tiles, cell: Cell) -> Option<Cell>
 }
 
 // Makes the tile of a cell that has none, with one row.
-fn add(tiles: &mut Tiles, at: usize, cell: Cell, row: Item<Arc<Row>>, mut spare: Item<Tile>)
+fn add(tiles: &mut Tiles, at: usize, cell: Cell, row: Item<Ranked>, mut spare: Item<Tile>)
     requires listed { AreListed tiles.old }
     requires gap { IsGap tiles.old at cell }
     ensures rows { rows_at tiles.new cell.order cell.npix ≡ arc_value row ∷ [] }
@@ -216,29 +230,34 @@ fn add(tiles: &mut Tiles, at: usize, cell: Cell, row: Item<Arc<Row>>, mut spare:
     tiles.insert(at, spare);
 }
 
-/// The place of a row in the cell's tile.
-pub(crate) fn place_in(tiles: &Tiles, cell: Cell, row: &Row) -> usize
-    requires { AreListed tiles.now }
-    ensures place { HoldsAtFirst (λ s. is_better s row.now) (rows_at tiles.now cell.order cell.npix) → result ≡ leading (λ s. is_better s row.now) (rows_at tiles.now cell.order cell.npix) }
-    ensures within { result ≤ length (rows_at tiles.now cell.order cell.npix) }
+// Puts a row among others at its place there; the last row, if there are then more than there is room for.
+fn put_among(rows: &mut Rows, i: usize, row: Item<Ranked>, room: usize) -> Option<Item<Ranked>>
+    requires place { i ≡ leading (λ s. is_better s (arc_value row)) (sources rows.old) }
+    requires room { length (sources rows.old) ≤ room }
+    requires fits { length rows.old + 1 < 2 ^ 64 }
+    ensures rows { sources rows.new ≡ first_of room (placed (arc_value row) (sources rows.old)) }
+    ensures out { option_map arc_value result ≡ slice_get (placed (arc_value row) (sources rows.old)) room }
 {
-    match rows(tiles, cell) {
-        Some(rows) => place_of(rows, row),
-        None => 0,
+    rows.insert(i, row);
+    if rows.len() > room {
+        Some(rows.remove(room))
+    } else {
+        None
     }
 }
 
-// Places a row in the cell's tile, which is there; the last row, if the tile has more than there is room for.
+// Puts a row into the cell's tile at its place there; the last row, if the tile has then more than there is room for.
 fn offer_to(
     tiles: &mut Tiles,
     cell: Cell,
     at: usize,
-    row: Item<Arc<Row>>,
+    i: usize,
+    row: Item<Ranked>,
     room: usize,
-) -> Option<Item<Arc<Row>>>
+) -> Option<Item<Ranked>>
     requires listed { AreListed tiles.old }
     requires there { HasTile tiles.old at cell }
-    requires in_order { HoldsAtFirst (λ s. is_better s (arc_value row)) (rows_at tiles.old cell.order cell.npix) }
+    requires place { i ≡ leading (λ s. is_better s (arc_value row)) (rows_at tiles.old cell.order cell.npix) }
     requires room { length (rows_at tiles.old cell.order cell.npix) ≤ room }
     requires fits { length (rows_at tiles.old cell.order cell.npix) + 1 < 2 ^ 64 }
     requires some { 0 < room }
@@ -248,16 +267,17 @@ fn offer_to(
     ensures listed { AreListed tiles.new }
     ensures full { NoneIsEmpty tiles.old → NoneIsEmpty tiles.new }
 {
-    let i = place_in(tiles, cell, row.item());
     if i == room {
         return Some(row);
     }
-    put(tiles, cell, at, i, row);
-    if count(tiles, cell) > room {
-        Some(take(tiles, cell, at, room))
-    } else {
-        None
-    }
+    let mut tile = Tile {
+        cell,
+        rows: BalancedList::new(),
+    };
+    tiles.swap(at, &mut tile);
+    let last = put_among(&mut tile.rows, i, row, room);
+    tiles.swap(at, &mut tile);
+    last
 }
 
 /// Places a row in the cell's tile, which is made of the spare one where there is none; the last row, if the tile has more
@@ -265,10 +285,10 @@ fn offer_to(
 pub(crate) fn offer(
     tiles: &mut Tiles,
     cell: Cell,
-    row: Item<Arc<Row>>,
+    row: Item<Ranked>,
     room: usize,
     spare: &mut Option<Item<Tile>>,
-) -> Option<Item<Arc<Row>>>
+) -> Option<Item<Ranked>>
     requires listed { AreListed tiles.old }
     requires in_order { HoldsAtFirst (λ s. is_better s (arc_value row)) (rows_at tiles.old cell.order cell.npix) }
     requires room { length (rows_at tiles.old cell.order cell.npix) ≤ room }
@@ -283,7 +303,10 @@ pub(crate) fn offer(
     ensures spare { OnSome result (IsSome spare.new) }
 {
     match find(tiles, cell) {
-        Ok(at) => offer_to(tiles, cell, at, row, room),
+        Ok((at, tile)) => {
+            let i = place_of(&tile.rows, row.item().row());
+            offer_to(tiles, cell, at, i, row, room)
+        }
         Err(at) => match spare.take() {
             Some(tile) => {
                 add(tiles, at, cell, row, tile);
@@ -294,6 +317,32 @@ pub(crate) fn offer(
     }
 }
 
+/// The place of a row in the cell's tile, and whether a row stands there than which neither is better.
+pub(crate) fn seek(tiles: &Tiles, cell: Cell, row: &Row) -> (usize, bool)
+    requires { AreListed tiles.now }
+    ensures place { HoldsAtFirst (λ s. is_better s row.now) (rows_at tiles.now cell.order cell.npix) → result.0 ≡ leading (λ s. is_better s row.now) (rows_at tiles.now cell.order cell.npix) }
+    ensures yes { result.1 ≡ true → (s : Source) × (slice_get (rows_at tiles.now cell.order cell.npix) result.0 ≡ Some s) × (is_better s row.now ≡ false) × (is_better row.now s ≡ false) }
+    ensures no { result.1 ≡ false → ¬ (slice_get (rows_at tiles.now cell.order cell.npix) result.0 ≡ Some row.now) }
+{
+    match rows(tiles, cell) {
+        Some(rows) => seek_among(rows, row),
+        None => (0, false),
+    }
+}
+
+// The place of a row among rows in order, and whether one stands there than which neither is better.
+fn seek_among(rows: &Rows, row: &Row) -> (usize, bool)
+    ensures place { HoldsAtFirst (λ s. is_better s row.now) (sources rows.now) → result.0 ≡ leading (λ s. is_better s row.now) (sources rows.now) }
+    ensures yes { result.1 ≡ true → (s : Source) × (slice_get (sources rows.now) result.0 ≡ Some s) × (is_better s row.now ≡ false) × (is_better row.now s ≡ false) }
+    ensures no { result.1 ≡ false → ¬ (slice_get (sources rows.now) result.0 ≡ Some row.now) }
+{
+    let (i, there) = rows.search(&Worse(row));
+    match there {
+        Some(found) => (i, found.is_level(row)),
+        None => (i, false),
+    }
+}
+
 /// Takes row `i` out of the cell's tile, puts the child's first row at its end, and the row that was taken out in that one's
 /// place.
 pub(crate) fn pull(tiles: &mut Tiles, cell: Cell, i: usize, child: Cell)
@@ -301,25 +350,25 @@ pub(crate) fn pull(tiles: &mut Tiles, cell: Cell, i: usize, child: Cell)
     requires place { i < length (rows_at tiles.old cell.order cell.npix) }
     requires first { IsSome (first_at tiles.old child) }
     requires orders { child.order ≡ cell.order + 1 }
-    requires fits { length (rows_at tiles.old child.order child.npix) < 2 ^ 64 }
     ensures cell { (z : Source) → first_at tiles.old child ≡ Some z → rows_at tiles.new cell.order cell.npix ≡ remove (rows_at tiles.old cell.order cell.npix) i ++ z ∷ [] }
     ensures child { (dead : Source) × (rows_at tiles.new child.order child.npix ≡ dead ∷ drop 1 (rows_at tiles.old child.order child.npix)) }
     ensures others { OthersStayButTwo cell child tiles.old tiles.new }
     ensures listed { AreListed tiles.new }
     ensures full { NoneIsEmpty tiles.old → NoneIsEmpty tiles.new }
 {
-    let last = count(tiles, cell) - 1;
     match find(tiles, cell) {
         Err(_) => {}
-        Ok(upper) => match find(tiles, child) {
-            Err(_) => {}
-            Ok(lower) => {
-                let dead = take(tiles, cell, upper, i);
-                let best = take(tiles, child, lower, 0);
-                put(tiles, child, lower, 0, dead);
-                put(tiles, cell, upper, last, best);
+        Ok((upper, tile)) => {
+            let last = tile.rows.len() - 1;
+            match find(tiles, child) {
+                Err(_) => {}
+                Ok((lower, _tile)) => {
+                    let dead = take(tiles, cell, upper, i);
+                    let best = exchange(tiles, child, lower, dead);
+                    put(tiles, cell, upper, last, best);
+                }
             }
-        },
+        }
     }
 }
 
@@ -334,8 +383,8 @@ pub(crate) fn take_out(tiles: &mut Tiles, cell: Cell, i: usize)
 {
     match find(tiles, cell) {
         Err(_) => {}
-        Ok(at) => {
-            if count(tiles, cell) == 1 {
+        Ok((at, tile)) => {
+            if tile.rows.len() == 1 {
                 let _tile = tiles.remove(at);
                 return;
             }

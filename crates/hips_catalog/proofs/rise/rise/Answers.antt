@@ -26,12 +26,6 @@ loop-order-init c = record {
   rising = λ few many t d. (c.args.row.now, c.locate-first.ensures c.args.room few many t d);
 }
 
-pub pull-requires-clause-fits : goal.pull-requires-clause-fits
-pull-requires-clause-fits c =
-    let s = c.loop-order.invariant.rising c.requires.tiles.0 c.requires.tiles.1 c.requires.tiles.2 c.requires.tiles.3 in
-    let b = (best_of c.loop-order.tiles c.loop-order.cell c.in-Some.child (subst (λ b. IsBest c.loop-order.tiles b (four_of c.loop-order.cell)) c.in-Some.is c.best_child.ensures)) in
-    short_child c.args.top c.args.room c.requires.tiles.0 c.requires.tiles.1 (λ k p. rows_at c.loop-order.tiles k p) c.loop-order.cell.order c.loop-order.cell.npix c.loop-order.i c.in-Some.child.npix c.in-Some.child.order s.0 c.args.row.now s.1 b.1.above b.1.order_is c.requires.tiles.3
-
 pub returns-in-None-clause-tiles : goal.returns-in-None-clause-tiles
 returns-in-None-clause-tiles c few many t d =
     let s = c.loop-order.invariant.rising few many t d in

@@ -14,12 +14,6 @@ not_within ss i e h = let z : length ss ≡ 0 = ap length e in absurd (omega (ar
 no_first : (ss : List Source) → ss ≡ [] → IsSome (slice_get ss 0) → ⊥
 no_first ss e h = let g : IsSome {T = Source} (slice_get {X = Source} [] 0) = subst (λ ys. IsSome (slice_get ys 0)) e h in absurd (grind (arith, g))
 
-fewer : (now once after : List Source) → once ≡ now → after ≡ remove once 0 → 0 < length once → length now < 18446744073709551616 → length after + 1 < 18446744073709551616
-fewer now once after e r h l =
-    let a : length once ≡ length now = ap length e in
-    let b : length (remove once 0) + 1 ≡ length once = remove_length once 0 h in
-    let d : length after ≡ length (remove once 0) = ap length r in omega (arith, a, b, d, l)
-
 has_some : (ss : List Source) → IsSome (slice_get ss 0) → 0 < length ss
 has_some [] h = absurd (no_first [] refl h)
 has_some (s ∷ ss) h = omega arith
@@ -30,11 +24,10 @@ deeper j k P e h = let f : j ≡ k = h.0 in absurd (omega (arith, e, f))
 higher : (j k : ℕ) (P : Type 0) → j ≡ k + 1 → ¬ ((k ≡ j) × P)
 higher j k P e h = let f : k ≡ j = h.0 in absurd (omega (arith, e, f))
 
-pub put-requires-clause-fits : goal.put-requires-clause-fits
-put-requires-clause-fits c =
+pub exchange-best-requires-clause-some : goal.exchange-best-requires-clause-some
+exchange-best-requires-clause-some c =
     let e = c.take-dead.ensures.others c.args.child.order c.args.child.npix (deeper c.args.child.order c.args.cell.order (c.args.child.npix ≡ c.args.cell.npix) c.requires.orders) in
-    fewer (rows_at c.args.tiles.now c.args.child.order c.args.child.npix) (rows_at c.take-dead.new.tiles c.args.child.order c.args.child.npix) (rows_at c.take-best.new.tiles c.args.child.order c.args.child.npix)
-    e c.take-best.ensures.rows (subst (λ ys. 0 < length ys) (sym e) (has_some (rows_at c.args.tiles.now c.args.child.order c.args.child.npix) c.requires.first)) c.requires.fits
+    subst (λ ys. 0 < length ys) (sym e) (has_some (rows_at c.args.tiles.now c.args.child.order c.args.child.npix) c.requires.first)
 
 pub returns-in-Err-clause-cell : goal.returns-in-Err-clause-cell
 returns-in-Err-clause-cell c z e = absurd (not_within _ c.args.i (gap_rows c.args.tiles.now c.in-Err.field-0 c.args.cell c.requires.listed c.in-Err.ensures.gap) c.requires.place)
@@ -51,8 +44,8 @@ returns-in-Err-find-clause-child c = absurd (no_first _ (gap_rows c.args.tiles.n
 pub returns-in-Ok-find-clause-full : goal.returns-in-Ok-find-clause-full
 returns-in-Ok-find-clause-full c =
     let apart = deeper c.args.child.order c.args.cell.order (c.args.child.npix ≡ c.args.cell.npix) c.requires.orders in
-    still_full_two c.args.tiles.now c.put-in-Ok-find.new.tiles c.args.cell c.args.child
-    (c.put-in-Ok-find.ensures.cells ∙ c.put.ensures.cells ∙ c.take-best.ensures.cells ∙ c.take-dead.ensures.cells)
-    (λ j q n m. c.put-in-Ok-find.ensures.others j q n ∙ c.put.ensures.others j q m ∙ c.take-best.ensures.others j q m ∙ c.take-dead.ensures.others j q n)
-    (subst (λ ys. 0 < length ys) (sym c.put-in-Ok-find.ensures.rows) (insert_some _ _ (arc_value c.take-best.result)))
-    (subst (λ ys. 0 < length ys) (sym (c.put-in-Ok-find.ensures.others c.args.child.order c.args.child.npix apart ∙ c.put.ensures.rows)) (insert_some _ 0 (arc_value c.take-dead.result)))
+    still_full_two c.args.tiles.now c.put.new.tiles c.args.cell c.args.child
+    (c.put.ensures.cells ∙ c.exchange-best.ensures.cells ∙ c.take-dead.ensures.cells)
+    (λ j q n m. c.put.ensures.others j q n ∙ c.exchange-best.ensures.others j q m ∙ c.take-dead.ensures.others j q n)
+    (subst (λ ys. 0 < length ys) (sym c.put.ensures.rows) (insert_some _ _ (arc_value c.exchange-best.result)))
+    (subst (λ ys. 0 < length ys) (sym (c.put.ensures.others c.args.child.order c.args.child.npix apart ∙ c.exchange-best.ensures.rows)) (omega arith))
