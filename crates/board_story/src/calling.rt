@@ -1,10 +1,10 @@
 //! Calls of boards as values, and what they are answered.
 use edit_journal::Edit;
 use parent_rule::Steps;
-use reader_pin::{Board, BoardBatch, BoardRefusal, Published};
+use reader_pin::{Board, BoardBatch, BoardRefusal, ChangedWith, Published};
 use small_survey::{all_fit, fits};
 use std::alloc::Global;
-use std::sync::{Arc, Wait};
+use std::sync::Arc;
 use std::thread::Threads;
 use survey_core::State;
 use survey_link::OpenGate;
@@ -106,7 +106,7 @@ pub struct Told {
 }
 
 // What the board answers to an edit.
-fn edited<B: Board, R: Wait>(rt: &R, board: &mut B, edit: Edit) -> Option<Answer> {
+fn edited<B: ChangedWith<R>, R>(rt: &R, board: &mut B, edit: Edit) -> Option<Answer> {
     if !fits(board.last(), &edit) {
         return None;
     }
@@ -118,7 +118,7 @@ fn edited<B: Board, R: Wait>(rt: &R, board: &mut B, edit: Edit) -> Option<Answer
 }
 
 // What it answers to a batch.
-fn batched<B: Board, R: Wait>(rt: &R, board: &mut B, edits: Vec<Edit>) -> Option<Answer> {
+fn batched<B: ChangedWith<R>, R>(rt: &R, board: &mut B, edits: Vec<Edit>) -> Option<Answer> {
     if edits.is_empty() || edits.len() > 1024 || !all_fit(board.last(), &edits) {
         return None;
     }
@@ -132,7 +132,7 @@ fn batched<B: Board, R: Wait>(rt: &R, board: &mut B, edits: Vec<Edit>) -> Option
 }
 
 // What it answers to a publication.
-fn published<B: Board, R: Threads + Wait + Sync>(rt: &R, board: &mut B) -> Option<Answer> {
+fn published<B: ChangedWith<R>, R: Threads + Sync>(rt: &R, board: &mut B) -> Option<Answer> {
     match board.publish(rt, &OpenGate::new(), &mut Steps::new()) {
         Ok(published) => Some(Answer::Published(published)),
         Err(_) => None,
@@ -156,7 +156,7 @@ fn batch_of(alloc: Global, first: Asked, count: u32, tile: &Arc<Tile>) -> Option
 }
 
 /// What the board answers to a call; `None` where there is no memory.
-pub fn made<B: Board, R: Threads + Wait + Sync>(
+pub fn made<B: ChangedWith<R>, R: Threads + Sync>(
     rt: &R,
     alloc: Global,
     board: &mut B,

@@ -11,5 +11,5 @@ mod tiles;
 
 pub use calling::{Answer, Asked, Call, Seen, Told};
 pub use story::{Ending, play};
-pub use teller::{Teller, explained, meet, tellers, tile_of};
+pub use teller::{Teller, explained, meet, tellers, tile_that_fits};
 pub use tiles::tile;

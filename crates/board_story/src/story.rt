@@ -2,7 +2,7 @@
 ghost use Rattle.std.specs.Prelude.{◌≡◌, []};
 
 use crate::calling::{Answer, Asked, Call, Seen};
-use crate::teller::{Teller, explained, meet, tellers, tile_of};
+use crate::teller::{Teller, explained, meet, tellers, tile_that_fits};
 use reader_pin::{Survey, SurveyBook, SurveySeat, open_shared};
 use shared_history::Naming;
 use small_files::SURVEY;
@@ -104,7 +104,7 @@ fn begin<'a, J: Naming, R: Threads + Wait + Print + Sync>(
     tellers: &mut [Teller<'a, J>],
 ) -> Result<Ending, Fail> {
     make_room(tellers)?;
-    let tile = tile_of(alloc, tellers)?;
+    let tile = tile_that_fits(alloc, tellers)?;
     tell_all(rt, alloc, &tile, tellers)
 }
 

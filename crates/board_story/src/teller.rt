@@ -80,7 +80,10 @@ pub fn tellers<'a, J: Naming>(
 /// # Errors
 ///
 /// Where there is no board, its survey has other tiles, or there is no memory.
-pub fn tile_of<'a, J: Naming>(alloc: Global, tellers: &[Teller<'a, J>]) -> Result<Arc<Tile>, Fail> {
+pub fn tile_that_fits<'a, J: Naming>(
+    alloc: Global,
+    tellers: &[Teller<'a, J>],
+) -> Result<Arc<Tile>, Fail> {
     let first = tellers.first().ok_or("no board")?;
     tile(alloc, first.board.last().conf().shape().depth)
 }

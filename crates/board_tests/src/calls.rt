@@ -2,11 +2,10 @@
 use board_story::tile;
 use edit_journal::Edit;
 use parent_rule::{Depth, Steps};
-use reader_pin::{Board, BoardBatch, BoardRefusal, Published};
+use reader_pin::{Board, BoardBatch, BoardRefusal, ChangedWith, Published};
 use small_survey::{all_fit, fits};
 use std::alloc::{AllocError, Global};
 use std::process::Abort;
-use std::sync::Wait;
 use std::test::Fail;
 use std::thread::Threads;
 use survey_core::State;
@@ -44,7 +43,7 @@ fn edits(alloc: Global, depth: Depth, text: &str) -> Result<Vec<Edit>, Fail> {
 }
 
 // What the board answers to an edit.
-fn told_of_edit<B: Board, R: Wait>(
+fn told_of_edit<B: ChangedWith<R>, R>(
     rt: &R,
     alloc: Global,
     board: &mut B,
@@ -63,7 +62,7 @@ fn told_of_edit<B: Board, R: Wait>(
 }
 
 // What it answers to a batch.
-fn told_of_batch<B: Board, R: Wait>(
+fn told_of_batch<B: ChangedWith<R>, R>(
     rt: &R,
     alloc: Global,
     board: &mut B,
@@ -82,7 +81,7 @@ fn told_of_batch<B: Board, R: Wait>(
 }
 
 // What it answers to a publication, and how many tiles that merged.
-fn told_of_publication<B: Board, R: Threads + Wait + Sync>(
+fn told_of_publication<B: ChangedWith<R>, R: Threads + Sync>(
     rt: &R,
     alloc: Global,
     board: &mut B,
@@ -98,7 +97,7 @@ fn told_of_publication<B: Board, R: Threads + Wait + Sync>(
 }
 
 // What it answers to the edit of a text.
-fn told_of_edit_text<B: Board, R: Wait>(
+fn told_of_edit_text<B: ChangedWith<R>, R>(
     rt: &R,
     alloc: Global,
     board: &mut B,
@@ -109,7 +108,7 @@ fn told_of_edit_text<B: Board, R: Wait>(
 }
 
 // What it answers to the batch of a text.
-fn told_of_batch_text<B: Board, R: Wait>(
+fn told_of_batch_text<B: ChangedWith<R>, R>(
     rt: &R,
     alloc: Global,
     board: &mut B,
@@ -120,7 +119,7 @@ fn told_of_batch_text<B: Board, R: Wait>(
 }
 
 // What it answers to a call by its word.
-fn told<B: Board, R: Threads + Wait + Sync>(
+fn told<B: ChangedWith<R>, R: Threads + Sync>(
     rt: &R,
     alloc: Global,
     board: &mut B,
@@ -156,7 +155,7 @@ fn push_shown<B: Board>(alloc: Global, told: &mut String, board: &B) -> Result<(
 }
 
 // What is answered to a call, the last state seen then, and the one that is held.
-fn found<B: Board, R: Threads + Wait + Sync>(
+fn found<B: ChangedWith<R>, R: Threads + Sync>(
     rt: &R,
     alloc: Global,
     board: &mut B,
@@ -169,7 +168,7 @@ fn found<B: Board, R: Threads + Wait + Sync>(
 }
 
 // Makes the call of a line, and compares what is found.
-fn check<B: Board, R: Threads + Wait + Abort + Sync>(
+fn check<B: ChangedWith<R>, R: Threads + Abort + Sync>(
     rt: &R,
     alloc: Global,
     board: &mut B,
@@ -183,7 +182,7 @@ fn check<B: Board, R: Threads + Wait + Abort + Sync>(
 }
 
 /// Makes the calls of some lines, and compares what is answered, the last state seen then, and the one that is held.
-pub(crate) fn check_all<B: Board, R: Threads + Wait + Abort + Sync>(
+pub(crate) fn check_all<B: ChangedWith<R>, R: Threads + Abort + Sync>(
     rt: &R,
     alloc: Global,
     board: &mut B,

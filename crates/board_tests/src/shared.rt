@@ -6,7 +6,9 @@ use crate::gates::{CountingGate, EditGate};
 use crate::storm::storm;
 use edit_journal::Edit;
 use parent_rule::Steps;
-use reader_pin::{Board, Published, Shared, Survey, SurveyBook, SurveySeat, open_shared};
+use reader_pin::{
+    Board, ChangedWith, Published, Shared, Survey, SurveyBook, SurveySeat, open_shared,
+};
 use shared_history::Naming;
 use small_files::SURVEY;
 use small_survey::{first_state, fits};
@@ -37,7 +39,7 @@ struct Connection<'a, J: Naming> {
 }
 
 // How many edits there are after this one; `None` where it isn't accepted.
-fn accepted_one<B: Board, R: Wait>(rt: &R, board: &mut B, edit: Edit) -> Option<u32> {
+fn accepted_one<B: ChangedWith<R>, R>(rt: &R, board: &mut B, edit: Edit) -> Option<u32> {
     if !fits(board.last(), &edit) {
         return None;
     }
@@ -48,7 +50,7 @@ fn accepted_one<B: Board, R: Wait>(rt: &R, board: &mut B, edit: Edit) -> Option<
 }
 
 // The same of an edit that others ask for too.
-fn accepted<B: Board, R: Wait>(rt: &R, board: &mut B, edit: &Edit) -> Option<u32> {
+fn accepted<B: ChangedWith<R>, R>(rt: &R, board: &mut B, edit: &Edit) -> Option<u32> {
     match edit.clone() {
         Ok(edit) => accepted_one(rt, board, edit),
         Err(_) => None,
@@ -56,7 +58,7 @@ fn accepted<B: Board, R: Wait>(rt: &R, board: &mut B, edit: &Edit) -> Option<u32
 }
 
 // What the board answers to a publication through the gate, and how many tiles that merged.
-fn published<B: Board, G: Gate + Sync, R: Threads + Wait + Sync>(
+fn published<B: ChangedWith<R>, G: Gate + Sync, R: Threads + Sync>(
     rt: &R,
     board: &mut B,
     gate: &G,

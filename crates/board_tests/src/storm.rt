@@ -1,5 +1,5 @@
 //! Many boards of one survey, whose random calls are explained by one history.
-use board_story::{Asked, Call, Teller, explained, meet, tellers, tile_of};
+use board_story::{Asked, Call, Teller, explained, meet, tellers, tile_that_fits};
 use reader_pin::{Survey, SurveySeat};
 use shared_history::Naming;
 use std::alloc::Global;
@@ -88,7 +88,7 @@ fn rage_with_tile<'a, J: Naming + Send + Sync, R: Threads + Wait + Abort + Sync>
     alloc: Global,
     tellers: &mut [Teller<'a, J>],
 ) -> Result<(), Fail> {
-    let tile = tile_of(alloc, tellers)?;
+    let tile = tile_that_fits(alloc, tellers)?;
     rage(rt, alloc, &tile, tellers)
 }
 

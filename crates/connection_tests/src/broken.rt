@@ -10,7 +10,6 @@ use parent_rule::Steps;
 use small_files::SURVEY;
 use std::alloc::Global;
 use std::process::Abort;
-use std::sync::Wait;
 use std::test::Fail;
 use std::thread::Threads;
 use std::time::Clock;
@@ -18,7 +17,7 @@ use survey_link::{MemSink, MemSource, OpenGate};
 
 // Serves a connection over the survey without leaves, with the bytes in pieces of some size, where the reads and the writes
 // with these numbers fail, and answers how it ends.
-fn breaks<R: Threads + Wait + Sync + Clock + Log>(
+fn breaks<R: Threads + Sync + Clock + Log>(
     rt: &R,
     alloc: Global,
     input: &[u8],
@@ -45,7 +44,7 @@ fn breaks<R: Threads + Wait + Sync + Clock + Log>(
 }
 
 // Whether the connection of these bytes ends so with this output where the read with that number fails.
-fn ends<R: Threads + Wait + Sync + Clock + Log>(
+fn ends<R: Threads + Sync + Clock + Log>(
     rt: &R,
     alloc: Global,
     input: &[u8],
@@ -63,7 +62,7 @@ fn ends<R: Threads + Wait + Sync + Clock + Log>(
 
 // Whether the output is all that is written where only the first bytes of the input come, and where all come but the read
 // behind these fails. `begun` bytes are whole requests.
-fn is_cut<R: Threads + Wait + Sync + Clock + Log>(
+fn is_cut<R: Threads + Sync + Clock + Log>(
     rt: &R,
     alloc: Global,
     input: &[u8],
@@ -85,7 +84,7 @@ fn is_cut<R: Threads + Wait + Sync + Clock + Log>(
 }
 
 // Each cut within the last request, which begins there.
-fn all_are_cut<R: Threads + Wait + Sync + Clock + Log + Abort>(
+fn all_are_cut<R: Threads + Sync + Clock + Log + Abort>(
     rt: &R,
     alloc: Global,
     asked: &str,
@@ -118,7 +117,7 @@ fn a_cut_input_is_answered_up_to_its_last_whole_request(rt: HostRuntime) -> Resu
 
 // Whether the connection that edits and publishes ends so where the write or flush with that number fails, with a first part
 // of its output, or all of it.
-fn fails<R: Threads + Wait + Sync + Clock + Log>(
+fn fails<R: Threads + Sync + Clock + Log>(
     rt: &R,
     alloc: Global,
     call: u64,

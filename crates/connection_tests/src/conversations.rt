@@ -6,7 +6,6 @@ use log::Log;
 use parent_rule::Steps;
 use small_files::SURVEY;
 use std::alloc::Global;
-use std::sync::Wait;
 use std::test::Fail;
 use std::thread::Threads;
 use std::time::Clock;
@@ -471,7 +470,7 @@ fn answered(alloc: Global, begun: bool, rows: &str) -> Result<Vec<u8>, Fail> {
 }
 
 // Whether the connection goes so over the survey with that description, and ends so.
-fn goes<R: Threads + Wait + Sync + Clock + Log>(
+fn goes<R: Threads + Sync + Clock + Log>(
     rt: &R,
     alloc: Global,
     conf: &str,
@@ -492,7 +491,7 @@ fn goes<R: Threads + Wait + Sync + Clock + Log>(
 }
 
 // Whether the connection of a row goes so: its requests are answered by these replies, and it ends so.
-fn row_goes<R: Threads + Wait + Sync + Clock + Log>(
+fn row_goes<R: Threads + Sync + Clock + Log>(
     rt: &R,
     alloc: Global,
     row: &(&str, bool, &str, &str, SessionEnd),

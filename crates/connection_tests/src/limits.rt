@@ -5,11 +5,11 @@ use edit_journal::Edit;
 use hips_http::SessionEnd;
 use log::Log;
 use parent_rule::{Depth, Steps};
-use reader_pin::{Board, Solo};
+use reader_pin::{Board, ChangedWith, Solo};
 use small_files::SURVEY;
 use small_survey::fits;
 use std::alloc::Global;
-use std::sync::{Arc, Wait};
+use std::sync::Arc;
 use std::test::Fail;
 use std::thread::Threads;
 use std::time::Clock;
@@ -51,7 +51,7 @@ static FAR_ANSWERED: &str = "201 Created;Content-Length: 0;Survey-Edits: 1
 200 OK;Content-Type: application/fits;Content-Length: 5760;Survey-Prefix: 2";
 
 // Whether these requests have these replies, as one connection over the board that is closed at their end.
-fn asks<R: Threads + Wait + Sync + Clock + Log>(
+fn asks<R: Threads + Sync + Clock + Log>(
     rt: &R,
     alloc: Global,
     board: &mut Solo,
@@ -65,7 +65,7 @@ fn asks<R: Threads + Wait + Sync + Clock + Log>(
 }
 
 // Whether the two leaves are published, the survey has so many files then, and at most so many tiles were read or merged.
-fn publishes<R: Threads + Wait + Sync + Clock + Log>(
+fn publishes<R: Threads + Sync + Clock + Log>(
     rt: &R,
     alloc: Global,
     board: &mut Solo,
@@ -79,7 +79,7 @@ fn publishes<R: Threads + Wait + Sync + Clock + Log>(
 }
 
 // The same over the survey with that description.
-fn is_published<R: Threads + Wait + Sync + Clock + Log>(
+fn is_published<R: Threads + Sync + Clock + Log>(
     rt: &R,
     alloc: Global,
     conf: &str,
@@ -108,12 +108,12 @@ fn tile(alloc: Global, depth: Depth) -> Result<Arc<Tile>, Fail> {
 }
 
 // Whether the board accepts that edit.
-fn accepts_one<R: Wait>(rt: &R, board: &mut Solo, edit: Edit) -> bool {
+fn accepts_one<R>(rt: &R, board: &mut Solo, edit: Edit) -> bool {
     fits(board.last(), &edit) && board.edit(rt, edit).is_ok()
 }
 
 // Whether the board accepts so many edits, one by one, each of which puts the same tile on leaf 0.
-fn accepts<R: Wait>(rt: &R, board: &mut Solo, tile: &Arc<Tile>, count: u32) -> Result<bool, Fail> {
+fn accepts<R>(rt: &R, board: &mut Solo, tile: &Arc<Tile>, count: u32) -> Result<bool, Fail> {
     for _ in 0..count {
         let tile = tile.clone()?;
         if !accepts_one(rt, board, Edit::Put { leaf: 0, tile }) {
@@ -133,7 +133,7 @@ static REFUSED: &str =
 412 Precondition Failed;Content-Type: text/plain;Content-Length: 20;Survey-Edits: 65536|line precondition failed";
 
 // Whether the board accepts 65,536 edits and refuses one more.
-fn is_filled<R: Threads + Wait + Sync + Clock + Log>(
+fn is_filled<R: Threads + Sync + Clock + Log>(
     rt: &R,
     alloc: Global,
     board: &mut Solo,
@@ -145,10 +145,7 @@ fn is_filled<R: Threads + Wait + Sync + Clock + Log>(
     asks(rt, alloc, board, ONE_MORE, REFUSED, &mut Steps::new())
 }
 
-fn takes_no_more<R: Threads + Wait + Sync + Clock + Log>(
-    rt: &R,
-    alloc: Global,
-) -> Result<bool, Fail> {
+fn takes_no_more<R: Threads + Sync + Clock + Log>(rt: &R, alloc: Global) -> Result<bool, Fail> {
     let mut board = opened(rt, alloc, SURVEY)?;
     is_filled(rt, alloc, &mut board)
 }
@@ -181,7 +178,7 @@ fn headed(alloc: Global, count: u32) -> Result<Vec<u8>, Fail> {
 }
 
 // Whether the connection of these requests ends so, when as many were answered as it takes.
-fn is_spent<R: Threads + Wait + Sync + Clock + Log>(
+fn is_spent<R: Threads + Sync + Clock + Log>(
     rt: &R,
     alloc: Global,
     input: Vec<u8>,

@@ -1,11 +1,11 @@
 //! Places over a door in memory.
 use crate::surveys::opened;
-use hips_place::{PlaceEnd, serve_place};
+use hips_place::{InConnection, PlaceEnd, serve_place};
 use log::Log;
 use parent_rule::Steps;
+use reader_pin::Solo;
 use small_files::SURVEY;
 use std::alloc::{AllocError, Global};
-use std::sync::Wait;
 use std::test::Fail;
 use std::thread::Threads;
 use std::time::Clock;
@@ -41,7 +41,7 @@ fn served(door: &MemDoor) -> usize {
 }
 
 // How a place ends that takes so many connections, and how many of them it serves.
-fn place<R: Threads + Wait + Sync + Clock + Log>(
+fn place<R: Threads + Sync + Clock + Log>(
     rt: &R,
     alloc: Global,
     most: u32,
@@ -49,8 +49,8 @@ fn place<R: Threads + Wait + Sync + Clock + Log>(
 ) -> Result<(PlaceEnd, usize), Fail> {
     let mut board = opened(rt, alloc, SURVEY)?;
     let mut door = door_of(alloc, fails)?;
-    let end = serve_place(
-        rt,
+    let end = serve_place::<&R, InConnection<&R>, Solo, MemDoor, OpenGate>(
+        &rt,
         alloc,
         1,
         &mut board,

@@ -6,7 +6,7 @@ use crate::rows::{replies, requests};
 use hips_http::{SessionEnd, session};
 use log::Log;
 use parent_rule::Steps;
-use reader_pin::{Board, Shared, Survey, SurveyBook, SurveySeat, open_shared};
+use reader_pin::{Board, ChangedWith, Shared, Survey, SurveyBook, SurveySeat, open_shared};
 use shared_history::Naming;
 use small_files::SURVEY;
 use small_survey::first_state;
@@ -30,7 +30,7 @@ static PINNED: &str =
 ";
 
 // Whether a connection over the board that asks this is answered so.
-fn goes<B: Board, R: Threads + Wait + Sync + Clock + Log>(
+fn goes<B: ChangedWith<R>, R: Threads + Sync + Clock + Log>(
     rt: &R,
     alloc: Global,
     board: &mut B,

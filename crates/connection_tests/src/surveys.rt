@@ -5,7 +5,6 @@ use parent_rule::Steps;
 use reader_pin::Solo;
 use small_survey::first_state;
 use std::alloc::Global;
-use std::sync::Wait;
 use std::test::Fail;
 use std::thread::Threads;
 use std::time::Clock;
@@ -17,7 +16,7 @@ pub(crate) fn opened<R: Threads + Sync>(rt: &R, alloc: Global, conf: &str) -> Re
 }
 
 // Serves a connection over the board, and answers how it ends: `OutOfMemory` also where a reply told want of memory.
-pub(crate) fn serve<R: Threads + Wait + Sync + Clock + Log, G: Gate + Sync>(
+pub(crate) fn serve<R: Threads + Sync + Clock + Log, G: Gate + Sync>(
     rt: &R,
     alloc: Global,
     board: &mut Solo,
@@ -34,7 +33,7 @@ pub(crate) fn serve<R: Threads + Wait + Sync + Clock + Log, G: Gate + Sync>(
 }
 
 // Whether a connection with that input ends so, and what was written is the output.
-pub(crate) fn answers<R: Threads + Wait + Sync + Clock + Log>(
+pub(crate) fn answers<R: Threads + Sync + Clock + Log>(
     rt: &R,
     alloc: Global,
     board: &mut Solo,

@@ -11,7 +11,8 @@ use Rattle.generation.specs.Steps.{touched}
 use Rattle.edit_journal.specs.Edit.{LeafEdit, leaf_of}
 use Rattle.survey_core.specs.History.{SurveyState, edits_at, opening_state, IsHistory, Begins, Precedes}
 use Rattle.survey_core.specs.HistoryLaws.{begins_itself, begins_trans, begins_length, history_precedes, history_some}
-use Rattle.reader_pin.specs.Board.{BoardContent, Stays, Happens, Publishes, IsPublished, last_of, last_seen, edit_count, publish_work, holding_last, holding_none}
+use Rattle.reader_pin.specs.SeatLaws.{keeps_trans, keeps_holding, keeps_holding_none}
+use Rattle.reader_pin.specs.Board.{BoardContent, IsOwned, KeepsSeat, Stays, Happens, Publishes, IsPublished, last_of, last_seen, edit_count, publish_work, holding_last, holding_none}
 use Rattle.hips_http.specs.declared.call.Call.TheVariants as call
 use Rattle.hips_http.specs.Replies.{Answer, published, already, no_memory, pinned, released}
 use Rattle.hips_http.specs.declared.call.Call.{Call}
@@ -86,6 +87,7 @@ published_serves law old new steps steps' k h all bound request = record {
   opening = h.opening;
   legal = h.legal;
   begins = event_begins old new (Publishes k) h;
+  seat = h.seat;
   at_each = λ first_own first_steps wants before at.
       let place = length h.before in
       let begins : Begins old.history new.history = event_begins old new (Publishes k) h in
@@ -122,6 +124,7 @@ already_serves law old new steps steps' k stays is bound request = record {
   opening = stays.opening;
   legal = stays.legal;
   begins = stays.earlier;
+  seat = stays.seat;
   at_each = λ first_own first_steps wants before at.
       let place = length new.history - 1 in
       let some : 0 < length new.history = history_some new.opening new.history stays.legal in
@@ -154,6 +157,7 @@ serves_later old mid new steps steps' request call answer stays serves = record 
   opening = serves.opening ∙ stays.opening;
   legal = serves.legal;
   begins = begins_trans old.history mid.history new.history stays.earlier serves.begins;
+  seat = keeps_trans old mid new stays.seat serves.seat;
   at_each = λ first_own first_steps wants before at. serves.at_each first_own first_steps wants before (record {
     within = (let w = at.within in omega (arith, begins_length old.history mid.history stays.earlier));
     held = subst (IsHeld mid.history before.held) (sym stays.held) (held_stays old.history mid.history before.held old.held stays.earlier at.held);
@@ -173,6 +177,7 @@ no_memory_serves old new steps steps' call stays request none = record {
   opening = stays.opening;
   legal = stays.legal;
   begins = stays.earlier;
+  seat = stays.seat;
   at_each = λ first_own first_steps wants before at.
       let place = length new.history - 1 in
       let some : 0 < length new.history = history_some new.opening new.history stays.legal in
@@ -204,6 +209,7 @@ pinned_serves old mid new steps stays is request =
       opening = opening ∙ stays.opening;
       legal = legal;
       begins = begins;
+      seat = subst (KeepsSeat old) (sym is) (keeps_holding old mid stays.seat);
       at_each = λ first_own first_steps wants before at.
           let place = length new.history - 1 in
           let there : slice_get new.history place ≡ Some (last_seen new) = newest_there old new legal in
@@ -231,9 +237,9 @@ pinned_serves old mid new steps stays is request =
           };
     }
 
-pub released_serves : (old new : BoardContent) (steps : ℕ) → IsHistory new.opening new.history → new ≡ holding_none old → (request : Asking)
+pub released_serves : (old new : BoardContent) (steps : ℕ) → IsHistory new.opening new.history → IsOwned new → new ≡ holding_none old → (request : Asking)
     → Serves request call.Unpin old new steps steps released
-released_serves old new steps legal is request =
+released_serves old new steps legal owned is request =
     let history : new.history ≡ old.history = ap (λ b. b.history) is in
     let begins : Begins old.history new.history = rw history (begins_itself old.history) in
     record {
@@ -241,6 +247,7 @@ released_serves old new steps legal is request =
       opening = ap (λ b. b.opening) is;
       legal = legal;
       begins = begins;
+      seat = keeps_holding_none old new is owned;
       at_each = λ first_own first_steps wants before at.
           let place = before.place in
           let w : place < length old.history = at.within in

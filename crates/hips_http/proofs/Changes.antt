@@ -25,7 +25,8 @@ use Rattle.survey_core.specs.BatchBody.{batch_entries, tile_count}
 use Rattle.survey_core.specs.History.{SurveyState, edits_at, IsHistory, AppendsBatch}
 use Rattle.survey_core.specs.HistoryLaws.{begins_itself, begins_length, history_some}
 use Rattle.reader_pin.specs.declared.answer.Accepted.{Accepted}
-use Rattle.reader_pin.specs.Board.{BoardContent, Stays, Happens, InOne, last_of, last_seen, edit_count}
+use Rattle.reader_pin.specs.SeatLaws.{keeps_itself}
+use Rattle.reader_pin.specs.Board.{BoardContent, IsOwned, Stays, Happens, InOne, last_of, last_seen, edit_count}
 use Rattle.reader_pin.specs.Answers.{Accepts as BoardAccepts, AcceptsAll, IsRefused, AreRefused}
 use Rattle.hips_http.specs.declared.call.Call.{Call}
 use Rattle.hips_http.specs.declared.call.Call.TheVariants as call
@@ -37,8 +38,8 @@ use Rattle.hips_http.proofs.Points.{IsFound, last_there, kept_point, kept_at, ke
 
 -- ---- one change of any kind
 
-pub stays_itself : (board : BoardContent) → IsHistory board.opening board.history → Stays board board
-stays_itself board legal = record { conf = refl; opening = refl; legal = legal; earlier = begins_itself board.history; own = refl; held = refl }
+pub stays_itself : (board : BoardContent) → IsHistory board.opening board.history → IsOwned board → Stays board board
+stays_itself board legal owned = record { conf = refl; opening = refl; legal = legal; earlier = begins_itself board.history; seat = keeps_itself board owned; own = refl; held = refl }
 
 module _ (old new : BoardContent) (steps steps' cost : ℕ) (request : Asking) (call : Call) (answer : Answer)
     (found : IsFound answer) (bound : steps' ≤ steps + cost) (cost_is : (from to : ℕ) → cost_of new.conf new.history request call from to ≡ cost) where
@@ -51,6 +52,7 @@ module _ (old new : BoardContent) (steps steps' cost : ℕ) (request : Asking) (
     opening = stays.opening;
     legal = stays.legal;
     begins = stays.earlier;
+    seat = stays.seat;
     at_each = λ first_own first_steps wants before at.
         let place = length new.history - 1 in
         let some : 0 < length new.history = history_some new.opening new.history stays.legal in
@@ -75,6 +77,7 @@ module _ (old new : BoardContent) (steps steps' cost : ℕ) (request : Asking) (
     opening = stays.opening;
     legal = stays.legal;
     begins = stays.earlier;
+    seat = stays.seat;
     at_each = λ first_own first_steps wants before at.
         let rises : before.place ≤ place = place_rises first_own first_steps old new steps steps' wants cost place before at late within bound in
         let seen : (place ≡ before.place) ⊎ (¬ Contains before.own place) = elim (cases_order before.place place) [
@@ -110,6 +113,7 @@ module _ (old new : BoardContent) (steps steps' cost : ℕ) (request : Asking) (
         opening = h.opening;
         legal = h.legal;
         begins = event_begins old new E h;
+        seat = h.seat;
         at_each = λ first_own first_steps wants before at.
             let place = length h.before in
             record {

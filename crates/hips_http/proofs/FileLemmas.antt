@@ -8,7 +8,8 @@ use Rattle.survey_core.specs.History.{SurveyState, IsHistory}
 use Rattle.survey_core.specs.HistoryLaws.{begins_length, history_some}
 use Rattle.survey_core.specs.State.{StateContent, survey_state}
 use Rattle.survey_core.specs.Reply.{file_at}
-use Rattle.reader_pin.specs.Board.{BoardContent, Stays, last_seen, state_in}
+use Rattle.reader_pin.specs.SeatLaws.{keeps_itself}
+use Rattle.reader_pin.specs.Board.{BoardContent, IsOwned, Stays, last_seen, state_in}
 use Rattle.hips_http.specs.declared.call.Call.TheVariants as call
 use Rattle.hips_http.specs.Replies.{found_answer, not_found, file_answer}
 use Rattle.hips_http.specs.Answers.{Asking}
@@ -56,6 +57,7 @@ module _ (request : Asking) (path : Option (List ℕ)) (path_is : request.path �
     opening = stays.opening;
     legal = stays.legal;
     begins = stays.earlier;
+    seat = stays.seat;
     at_each = λ first_own first_steps wants before at.
         let place = length new.history - 1 in
         let some : 0 < length new.history = history_some new.opening new.history stays.legal in
@@ -79,13 +81,14 @@ module _ (request : Asking) (path : Option (List ℕ)) (path_is : request.path �
   }
 
   -- by the state that is held
-  pub held_serves : (board : BoardContent) (state : StateContent) → IsHistory board.opening board.history → HoldsState board board.held state
+  pub held_serves : (board : BoardContent) (state : StateContent) → IsHistory board.opening board.history → IsOwned board → HoldsState board board.held state
       → Serves request call.File board board steps steps (file_answer state.conf state.opening (survey_state state) path)
-  held_serves board state legal holds = record {
+  held_serves board state legal owned holds = record {
     conf = refl;
     opening = refl;
     legal = legal;
-    begins = (stays_itself board legal).earlier;
+    begins = (stays_itself board legal owned).earlier;
+    seat = keeps_itself board owned;
     at_each = λ first_own first_steps wants before at.
         let place = length board.history - 1 in
         let some : 0 < length board.history = history_some board.opening board.history legal in
@@ -94,7 +97,7 @@ module _ (request : Asking) (path : Option (List ℕ)) (path_is : request.path �
         let bound : steps ≤ steps + 0 = omega arith in
         record {
           after = kept_point place 0 before;
-          at = kept_at first_own first_steps board board steps steps wants 0 place before at late within bound (stays_itself board legal) (file_answer state.conf state.opening (survey_state state) path)
+          at = kept_at first_own first_steps board board steps steps wants 0 place before at late within bound (stays_itself board legal owned) (file_answer state.conf state.opening (survey_state state) path)
               (file_found state.conf state.opening (survey_state state) path);
           never_falls = place_rises first_own first_steps board board steps steps wants 0 place before at late within bound;
           answers = record {

@@ -7,6 +7,8 @@ pub mod FileLemmas
 pub mod Runs
 pub mod Truncated
 pub mod Steps
+pub mod ReadLemmas
+pub mod ReadRequests
 pub mod HandedOn
 pub mod Sessions
 pub mod OneKind

@@ -13,7 +13,8 @@ use Rattle.http_frame.specs.declared.stop.Turn.TheVariants.{AtHead}
 use Rattle.http_frame.specs.Frame.{FrameState, unread}
 use Rattle.survey_core.specs.History.{SurveyState, IsHistory}
 use Rattle.survey_core.specs.HistoryLaws.{begins_trans, history_some}
-use Rattle.reader_pin.specs.Board.{BoardContent, holding_none}
+use Rattle.reader_pin.specs.Board.{BoardContent, IsOwned, holding_none}
+use Rattle.reader_pin.specs.SeatLaws.{keeps_trans, keeps_holding_none}
 use Rattle.hips_http.specs.declared.call.Call.{Call}
 use Rattle.hips_http.specs.declared.call.Call.TheVariants as call
 use Rattle.hips_http.specs.declared.served.SessionEnd.{SessionEnd}
@@ -26,7 +27,7 @@ use Rattle.hips_http.specs.Progress.{IsAt, Serving, IsServedOne, BreaksOne, Stop
 use Rattle.hips_http.proofs.Runs.{answered_more, answered_push, requests_push}
 use Rattle.hips_http.proofs.Truncated.{requests_front}
 use Rattle.hips_http.proofs.Steps.{appends_trans, split_of}
-use Rattle.hips_http.proofs.HandedOn.{HandsMore, HandsBefore, hands_all, hands_all_on, has_handed_all, hands_before}
+use Rattle.hips_http.proofs.HandedOn.{HandsMore, hands_all, hands_all_on, has_handed_all, hands_before}
 use Rattle.hips_http.proofs.Whole.{appends_nothing, begins_same}
 
 -- ---- one request more
@@ -94,6 +95,7 @@ push old now new first_steps steps steps' count wants wants' b b1 b2 p request a
         opening = opening ∙ p.opening;
         legal = s.serves.legal;
         begins = begins_trans old.history now.history new.history p.begins s.serves.begins;
+        seat = keeps_trans old now new p.seat s.serves.seat;
         requests = p.requests ++ request ∷ [];
         outputs = p.outputs ++ output_of (closes count request) request.asked answer ∷ [];
         last = sv.after;
@@ -135,9 +137,9 @@ all_told : (room : ℕ) (b b1 : Option (List ℕ)) → b1 ≡ b → IfSome b (λ
 all_told room None b1 same = tt
 all_told room (Some all) b1 same = rw same refl
 
-pub begins_going : (old now : BoardContent) (steps : ℕ) (frame : FrameState) (left w h : Option (List ℕ)) → now ≡ holding_none old → IsHistory now.opening now.history → frame.held ≡ []
+pub begins_going : (old now : BoardContent) (steps : ℕ) (frame : FrameState) (left w h : Option (List ℕ)) → now ≡ holding_none old → IsHistory now.opening now.history → IsOwned now → frame.held ≡ []
     → Going old now steps steps 0 0 left (unread frame left) w w h h
-begins_going old now steps frame left w h is legal empty =
+begins_going old now steps frame left w h is legal owned empty =
     let history : now.history ≡ old.history = ap (λ b. b.history) is in
     let some : 0 < length now.history = history_some now.opening now.history legal in
     let same : unread frame left ≡ left = ap (λ (held : List ℕ). prepend_known held left) empty ∙ unread_all left in
@@ -148,6 +150,7 @@ begins_going old now steps frame left w h is legal empty =
         opening = ap (λ b. b.opening) is;
         legal = legal;
         begins = begins_same old.history now.history history;
+        seat = keeps_holding_none old now is owned;
         requests = [];
         outputs = [];
         last = first_point old.history;
@@ -330,6 +333,7 @@ goes_of old now first_steps steps count wants b b1 few p = record {
   opening = p.opening;
   legal = p.legal;
   begins = p.begins;
+  seat = p.seat;
   own = p.last.own;
   own_is = p.at.own_is;
   few = (let h = p.few in omega arith);
@@ -466,10 +470,10 @@ pub record IsLoop (old now : BoardContent) (first_steps steps count wants : ℕ)
 pub holds_none : (board : BoardContent) → board.held ≡ None → board ≡ holding_none board
 holds_none board none = ap (λ (held : Option SurveyState). record board { held = held }) none
 
-pub begins_loop : (old now : BoardContent) (steps : ℕ) (frame : FrameState) (left w h : Option (List ℕ)) (sf kf top room : ℕ) → now ≡ holding_none old → IsHistory now.opening now.history → frame.held ≡ [] → frame.turn ≡ AtHead
+pub begins_loop : (old now : BoardContent) (steps : ℕ) (frame : FrameState) (left w h : Option (List ℕ)) (sf kf top room : ℕ) → now ≡ holding_none old → IsHistory now.opening now.history → IsOwned now → frame.held ≡ [] → frame.turn ≡ AtHead
     → frame.room ≡ room → room ≡ room_of old.conf → top ≡ now.conf.shape.top → IsLoop old now steps steps 0 0 frame left left w w h h sf sf kf kf top room
-begins_loop old now steps frame left w h sf kf top room is legal empty turn same room_is top_is = record {
-  going = begins_going old now steps frame left w h is legal empty;
+begins_loop old now steps frame left w h sf kf top room is legal owned empty turn same room_is top_is = record {
+  going = begins_going old now steps frame left w h is legal owned empty;
   turn = turn;
   room_is = same ∙ room_is ∙ sym (ap (λ b. room_of b.conf) is);
   same_room = same;

@@ -4,7 +4,8 @@ use Rattle.std.specs.Io.KnownBytes.{Appends}
 use Rattle.std.proofs.lemmas.Grind.{common_steps}
 use Rattle.std.proofs.Common.{arith}
 use Rattle.survey_core.specs.History.{IsHistory, Begins}
-use Rattle.reader_pin.specs.Board.{BoardContent, holding_none}
+use Rattle.reader_pin.specs.Board.{BoardContent, IsOwned, holding_none}
+use Rattle.reader_pin.specs.SeatLaws.{keeps_holding_none}
 use Rattle.hips_http.specs.declared.served.SessionEnd.TheVariants.{OutOfMemory}
 use Rattle.hips_http.specs.declared.served.Served.{Served}
 use Rattle.hips_http.specs.SessionRun.{IsServed, Goes, first_point}
@@ -54,12 +55,13 @@ no_memory_served old new (Some input) written handed source sink steps legal is 
       steps_are = λ _. grind arith;
     }
 
-pub no_memory_goes : (old new : BoardContent) → IsHistory new.opening new.history → new ≡ holding_none old → Goes old new
-no_memory_goes old new legal is = record {
+pub no_memory_goes : (old new : BoardContent) → IsHistory new.opening new.history → IsOwned new → new ≡ holding_none old → Goes old new
+no_memory_goes old new legal owned is = record {
   conf = ap (λ b. b.conf) is;
   opening = ap (λ b. b.opening) is;
   legal = legal;
   begins = begins_same old.history new.history (ap (λ b. b.history) is);
+  seat = keeps_holding_none old new is owned;
   own = [];
   own_is = (let same : new.own ≡ old.own = ap (λ b. b.own) is in grind (arith, common_steps));
   few = omega arith;
@@ -69,7 +71,7 @@ no_memory_goes old new legal is = record {
 pub goes_from : (old released new : BoardContent) → released ≡ holding_none old → Goes released new → Goes old new
 goes_from old released new is h =
     let g : Goes (holding_none old) new = subst (λ (b : BoardContent). Goes b new) is h in
-    record { conf = g.conf; opening = g.opening; legal = g.legal; begins = g.begins; own = g.own; own_is = g.own_is; few = g.few }
+    record { conf = g.conf; opening = g.opening; legal = g.legal; begins = g.begins; seat = record { seat = g.seat.seat; owners = g.seat.owners; owned = g.seat.owned }; own = g.own; own_is = g.own_is; few = g.few }
 
 pub served_from : (old released new : BoardContent) (left left' w w' hand hand' : Option (List ℕ)) (sf sf' kf kf' steps steps' : ℕ) (served : Served) → released ≡ holding_none old
     → IfSome left (λ input. IsServed released new input left' w w' hand hand' sf sf' kf kf' steps steps' served) → IfSome left (λ input. IsServed old new input left' w w' hand hand' sf sf' kf kf' steps steps' served)

@@ -14,7 +14,7 @@ use Rattle.http_frame.specs.declared.stop.Turn.TheVariants.{AtHead}
 use Rattle.http_frame.specs.Frame.{FrameState, unread, ReadsHead, StopsBody, KeepsUnread}
 use Rattle.http_frame.specs.Reply.{is_reply_code, reply_bytes, continue_bytes}
 use Rattle.survey_core.specs.History.{SurveyState, IsHistory, Begins}
-use Rattle.reader_pin.specs.Board.{BoardContent}
+use Rattle.reader_pin.specs.Board.{BoardContent, KeepsSeat}
 use Rattle.hips_http.specs.declared.call.PathKind.{PathKind}
 use Rattle.hips_http.specs.declared.call.Call.{Call}
 use Rattle.hips_http.specs.declared.call.Call.TheVariants as call
@@ -59,6 +59,7 @@ pub record Serves (request : Asking) (call : Call) (old new : BoardContent) (ste
   pub opening : new.opening ≡ old.opening
   pub legal : IsHistory new.opening new.history
   pub begins : Begins old.history new.history
+  pub seat : KeepsSeat old new
   pub at_each : (first_own : List ℕ) (first_steps wants : ℕ) (before : Point) → IsAt first_own first_steps old steps wants before
       → ServesAt request call first_own first_steps new steps' wants before answer
 
@@ -247,6 +248,7 @@ pub record Progress (old now : BoardContent) (first_steps steps count wants : �
   pub opening : now.opening ≡ old.opening
   pub legal : IsHistory now.opening now.history
   pub begins : Begins old.history now.history
+  pub seat : KeepsSeat old now
   pub requests : List Asking
   pub outputs : List (List ℕ)
   pub last : Point

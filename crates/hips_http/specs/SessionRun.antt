@@ -11,7 +11,7 @@ use Rattle.http_frame.specs.declared.request.Request.{Request}
 use Rattle.http_frame.specs.Next.{IsCut, IsCutInBody, IsFound, IsRefusedNext, IsWhole}
 use Rattle.http_frame.specs.Reply.{continue_bytes}
 use Rattle.survey_core.specs.History.{SurveyState, IsHistory, Begins}
-use Rattle.reader_pin.specs.Board.{BoardContent}
+use Rattle.reader_pin.specs.Board.{BoardContent, KeepsSeat}
 use Rattle.std.specs.Io.KnownBytes.{Appends}
 use Rattle.hips_http.specs.declared.served.Served.{Served}
 use Rattle.hips_http.specs.declared.served.SessionEnd.{SessionEnd}
@@ -223,6 +223,7 @@ pub record Goes (old new : BoardContent) : Type 0 where
   pub opening : new.opening ≡ old.opening
   pub legal : IsHistory new.opening new.history
   pub begins : Begins old.history new.history
+  pub seat : KeepsSeat old new
   pub own : List ℕ
   pub own_is : new.own ≡ old.own ++ own
   pub few : length own ≤ most_requests

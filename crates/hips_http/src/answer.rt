@@ -1,6 +1,8 @@
 //! Calls that are answered by a text, or without a body.
 ghost use Rattle.std.specs.Prelude.{◌≡◌, ◌≤◌, ◌<◌, true, ℕ, List, Option, OnOk, OnErr, IfOk, IfErr};
 ghost use Rattle.http_frame.specs.declared.stop.Turn.TheVariants.{AtBody};
+ghost use Rattle.http_frame.specs.Frame.{IsShort};
+ghost use Rattle.http_frame.specs.Readings.{ReadsWhile};
 ghost use Rattle.hips_http.specs.declared.call.Call.TheVariants as call;
 ghost use Rattle.hips_http.specs.Answers.{Asking};
 ghost use Rattle.hips_http.specs.Progress.{Serves, HasLeaf, is_text, TakesBody, LeavesNoBody, RepliesTo};
@@ -12,9 +14,8 @@ use crate::reply::TextReply;
 use http_frame::{Allow, Frame, Request, Stop};
 use log::Log;
 use parent_rule::Steps;
-use reader_pin::Board;
+use reader_pin::{Board, ChangedWith};
 use std::alloc::Global;
-use std::sync::Wait;
 use std::thread::Threads;
 use std::time::Clock;
 use survey_link::{Gate, Source};
@@ -24,7 +25,12 @@ use survey_link::{Gate, Source};
 /// # Errors
 ///
 /// As the frame stops.
-pub(crate) fn reply_to<R: Threads + Wait + Sync + Clock + Log, B: Board, S: Source, G: Gate + Sync>(
+pub(crate) fn reply_to<
+    R: Threads + Sync + Clock + Log,
+    B: ChangedWith<R>,
+    S: Source,
+    G: Gate + Sync,
+>(
     rt: &R,
     alloc: Global,
     frame: &mut Frame,
@@ -40,6 +46,7 @@ pub(crate) fn reply_to<R: Threads + Wait + Sync + Clock + Log, B: Board, S: Sour
     requires leaf { HasLeaf (B.content board.old).conf.shape.top call }
     ensures replied { IfOk result (RepliesTo request.now call frame.old frame.new (S.left src.old) (S.left src.new) (B.content board.old) (B.content board.new) steps.old steps.new) }
     ensures stop { IfErr result (LeavesNoBody request.now.length frame.old frame.new (S.left src.old) (S.left src.new) (S.faults src.old) (S.faults src.new)) }
+    ensures needed { (came : List ℕ) × ReadsWhile S.left S.readings (IsShort request.now.length) frame.old.held src.old src.new came }
     ensures unchanged { OnErr result (B.content board.new ≡ B.content board.old) }
     ensures no_steps { OnErr result (steps.new ≡ steps.old) }
     ensures source_never_falls { S.faults src.old ≤ S.faults src.new }
@@ -62,6 +69,7 @@ pub(crate) fn pass_body<S: Source>(frame: &mut Frame, src: &mut S, count: u64) -
     requires { frame.old.turn ≡ AtBody count }
     ensures read { OnOk result ((body : List ℕ) × TakesBody count frame.old frame.new (S.left src.old) (S.left src.new) body) }
     ensures stop { IfErr result (LeavesNoBody count frame.old frame.new (S.left src.old) (S.left src.new) (S.faults src.old) (S.faults src.new)) }
+    ensures needed { (came : List ℕ) × ReadsWhile S.left S.readings (IsShort count) frame.old.held src.old src.new came }
     ensures never_falls { S.faults src.old ≤ S.faults src.new }
     ensures room { frame.new.room ≡ frame.old.room }
     ensures path { frame.new.path ≡ frame.old.path }
@@ -73,7 +81,7 @@ pub(crate) fn pass_body<S: Source>(frame: &mut Frame, src: &mut S, count: u64) -
 }
 
 // Answers a call that isn't that for a file.
-fn answer<R: Threads + Wait + Sync + Clock + Log, B: Board, G: Gate + Sync>(
+fn answer<R: Threads + Sync + Clock + Log, B: ChangedWith<R>, G: Gate + Sync>(
     rt: &R,
     alloc: Global,
     board: &mut B,

@@ -21,14 +21,14 @@ use edit_journal::{Edit, EditFault};
 use fits_tile::{TileRefusal, decode};
 use http_frame::{Request, Tags};
 use parent_rule::Steps;
-use reader_pin::{Board, BoardBatch, BoardRefusal};
+use reader_pin::{BoardBatch, BoardRefusal, ChangedWith};
 use std::alloc::Global;
-use std::sync::{Arc, Wait};
+use std::sync::Arc;
 use survey_core::{BatchRead, State, read_batch};
 use tile_pixels::Tile;
 
 /// Answers PUT of a leaf: it has the tile of the body from then on, where the request's preconditions hold.
-pub(crate) fn put<R: Wait, B: Board>(
+pub(crate) fn put<R, B: ChangedWith<R>>(
     rt: &R,
     alloc: Global,
     board: &mut B,
@@ -94,7 +94,7 @@ fn put_edit(request: &Request, leaf: u64, tile: Arc<Tile>) -> Option<Edit>
 }
 
 /// Answers DELETE of a leaf: it is taken away, where it is there and the request's preconditions hold.
-pub(crate) fn delete<R: Wait, B: Board>(
+pub(crate) fn delete<R, B: ChangedWith<R>>(
     rt: &R,
     board: &mut B,
     request: &Request,
@@ -148,7 +148,7 @@ fn delete_refused(fault: EditFault, edits: u32) -> TextReply
 }
 
 /// Answers POST batch: the edits of the body are accepted, all or none.
-pub(crate) fn batch<R: Wait, B: Board>(
+pub(crate) fn batch<R, B: ChangedWith<R>>(
     rt: &R,
     alloc: Global,
     board: &mut B,

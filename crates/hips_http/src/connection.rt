@@ -1,8 +1,11 @@
 //! One connection, whole.
-ghost use Rattle.std.specs.Prelude.{◌≡◌, ◌≢◌, ◌≤◌, ◌↔◌, None, IfSome, IsSome, IsNone};
+ghost use Rattle.std.specs.Prelude.{◌≡◌, ◌≢◌, ◌≤◌, ◌↔◌, ℕ, List, [], None, IfSome, IsSome, IsNone};
 ghost use Rattle.survey_link.specs.Link.{Rises};
+ghost use Rattle.http_frame.specs.Readings.{ReadsWhile};
 ghost use Rattle.survey_core.specs.History.{IsHistory};
+ghost use Rattle.reader_pin.specs.Board.{IsOwned};
 ghost use Rattle.hips_http.specs.SessionRun.{IsServed, Goes, HandsOnAll, room_of, most_requests};
+ghost use Rattle.hips_http.specs.Readings.{NeedsNext};
 ghost use Rattle.hips_http.specs.declared.served.SessionEnd.TheVariants.{ReadFault, WriteFault, OutOfMemory};
 
 use crate::served::{Served, SessionEnd};
@@ -10,9 +13,8 @@ use crate::step::{MOST_REQUESTS, serve_one};
 use http_frame::Frame;
 use log::Log;
 use parent_rule::Steps;
-use reader_pin::Board;
+use reader_pin::{Board, ChangedWith};
 use std::alloc::Global;
-use std::sync::Wait;
 use std::thread::Threads;
 use std::time::Clock;
 use survey_core::batch_room;
@@ -26,8 +28,8 @@ use survey_link::{Gate, Sink, Source};
 /// DELETE, POST batch and POST publish may want memory, and they answer it with code 503; `wants` is the number of these
 /// replies. An event whose reply couldn't be written stays in the history.
 pub fn session<
-    R: Threads + Wait + Sync + Clock + Log,
-    B: Board,
+    R: Threads + Sync + Clock + Log,
+    B: ChangedWith<R>,
     S: Source,
     K: Sink,
     G: Gate + Sync,
@@ -53,6 +55,8 @@ pub fn session<
     // then; where the sink doesn't tell its bytes, with some bytes as those written.
     ensures served { IfSome (S.left src.old) (λ input. IsServed (B.content board.old) (B.content board.new) input (S.left src.new)
         (K.held sink.old) (K.held sink.new) (K.handed_on sink.old) (K.handed_on sink.new) (S.faults src.old) (S.faults src.new) (K.faults sink.old) (K.faults sink.new) steps.old steps.new result) }
+    // There it is read only while what came ends before or within the next request: so not once a request asked to close.
+    ensures reads { IsSome (S.left src.old) → (came : List ℕ) × ReadsWhile S.left S.readings (NeedsNext (room_of (B.content board.old).conf)) [] src.old src.new came }
 {
     let mut frame = frame_for(alloc, board);
     session_in(rt, alloc, &mut frame, board, src, sink, gate, steps)
@@ -61,8 +65,8 @@ pub fn session<
 /// As `session`, over a frame that is handed in, which has room for the longest body of the board's survey; without one it
 /// ends for want of memory, before anything is read or written. What the frame held is dropped first.
 pub fn session_in<
-    R: Threads + Wait + Sync + Clock + Log,
-    B: Board,
+    R: Threads + Sync + Clock + Log,
+    B: ChangedWith<R>,
     S: Source,
     K: Sink,
     G: Gate + Sync,
@@ -90,6 +94,8 @@ pub fn session_in<
     // then; where the sink doesn't tell its bytes, with some bytes as those written.
     ensures served { IfSome (S.left src.old) (λ input. IsServed (B.content board.old) (B.content board.new) input (S.left src.new)
         (K.held sink.old) (K.held sink.new) (K.handed_on sink.old) (K.handed_on sink.new) (S.faults src.old) (S.faults src.new) (K.faults sink.old) (K.faults sink.new) steps.old steps.new result) }
+    // There it is read only while what came ends before or within the next request: so not once a request asked to close.
+    ensures reads { IsSome (S.left src.old) → (came : List ℕ) × ReadsWhile S.left S.readings (NeedsNext (room_of (B.content board.old).conf)) [] src.old src.new came }
     // Want of memory ends it exactly where there is no frame.
     ensures begins { (result.end ≡ OutOfMemory) ↔ IsNone frame.old }
     ensures kept { IsSome frame.old → IsSome frame.new }
@@ -112,7 +118,13 @@ pub fn session_in<
 }
 
 // Serves one connection over a frame, by a board that holds no state; `top` is the order of the survey's leaves.
-fn serve_all<R: Threads + Wait + Sync + Clock + Log, B: Board, S: Source, K: Sink, G: Gate + Sync>(
+fn serve_all<
+    R: Threads + Sync + Clock + Log,
+    B: ChangedWith<R>,
+    S: Source,
+    K: Sink,
+    G: Gate + Sync,
+>(
     rt: &R,
     alloc: Global,
     frame: &mut Frame,
@@ -127,6 +139,7 @@ fn serve_all<R: Threads + Wait + Sync + Clock + Log, B: Board, S: Source, K: Sin
     requires top { top ≡ (B.content board.old).conf.shape.top }
     requires small { top ≤ 11 }
     requires legal { IsHistory (B.content board.old).opening (B.content board.old).history }
+    requires owned { IsOwned (B.content board.old) }
     requires released { (B.content board.old).held ≡ None }
     ensures goes { Goes (B.content board.old) (B.content board.new) }
     ensures wants { result.wants ≤ most_requests }
@@ -141,6 +154,8 @@ fn serve_all<R: Threads + Wait + Sync + Clock + Log, B: Board, S: Source, K: Sin
     // then; where the sink doesn't tell its bytes, with some bytes as those written.
     ensures served { IfSome (S.left src.old) (λ input. IsServed (B.content board.old) (B.content board.new) input (S.left src.new)
         (K.held sink.old) (K.held sink.new) (K.handed_on sink.old) (K.handed_on sink.new) (S.faults src.old) (S.faults src.new) (K.faults sink.old) (K.faults sink.new) steps.old steps.new result) }
+    // There it is read only while what came ends before or within the next request: so not once a request asked to close.
+    ensures reads { IsSome (S.left src.old) → (came : List ℕ) × ReadsWhile S.left S.readings (NeedsNext (room_of (B.content board.old).conf)) [] src.old src.new came }
     ensures begins { result.end ≢ OutOfMemory }
     ensures room { frame.new.room ≡ frame.old.room }
 {
@@ -178,6 +193,7 @@ fn top_of<B: Board>(board: &B) -> u8
     ensures top { result ≡ (B.content board.now).conf.shape.top }
     ensures small { result ≤ 11 }
     ensures legal { IsHistory (B.content board.now).opening (B.content board.now).history }
+    ensures owned { IsOwned (B.content board.now) }
 {
     board.last().conf().shape().top
 }

@@ -9,14 +9,13 @@ use crate::saying::Publishing;
 use dirty_plan::laws::more_touched_is_more_work;
 use log::Log;
 use parent_rule::Steps;
-use reader_pin::{Board, Published};
-use std::sync::Wait;
+use reader_pin::{Board, ChangedWith, Published};
 use std::thread::Threads;
 use std::time::Clock;
 use survey_link::Gate;
 
 /// Answers POST publish: all edits that the board has seen are published, now or already.
-pub(crate) fn publish<R: Threads + Wait + Sync + Clock + Log, B: Board, G: Gate + Sync>(
+pub(crate) fn publish<R: Threads + Sync + Clock + Log, B: ChangedWith<R>, G: Gate + Sync>(
     rt: &R,
     board: &mut B,
     gate: &G,
@@ -31,7 +30,7 @@ pub(crate) fn publish<R: Threads + Wait + Sync + Clock + Log, B: Board, G: Gate 
 }
 
 // The same; the edits that it makes visible are those beyond the last state that the board has seen.
-fn publish_from<R: Threads + Wait + Sync + Clock + Log, B: Board, G: Gate + Sync>(
+fn publish_from<R: Threads + Sync + Clock + Log, B: ChangedWith<R>, G: Gate + Sync>(
     rt: &R,
     board: &mut B,
     gate: &G,

@@ -1,9 +1,11 @@
 //! One request: its head, its body, and the reply.
-ghost use Rattle.std.specs.Prelude.{◌≡◌, ◌≢◌, ◌||◌, ◌==◌, ◌≤◌, ◌+◌, ◌<◌, true, ℕ, List, Err, OnOk, OnErr, IfOk, IfErr, IfSome};
+ghost use Rattle.std.specs.Prelude.{◌≡◌, ◌≢◌, ◌||◌, ◌==◌, ◌≤◌, ◌+◌, ◌<◌, true, ℕ, List, Err, OnOk, OnErr, IfOk, IfErr, IfSome, IsSome, ◌++◌};
 ghost use Rattle.hips_http.specs.declared.call.Call.TheVariants as call;
 ghost use Rattle.std.specs.Io.KnownBytes.{Appends};
 ghost use Rattle.survey_link.specs.Link.{AppendsPrefix, Rises};
-ghost use Rattle.http_frame.specs.Frame.{StopsHead, KeepsUnread, unread};
+ghost use Rattle.http_frame.specs.Frame.{StopsHead, KeepsUnread, IsShort, unread};
+ghost use Rattle.http_frame.specs.Next.{NeedsMore, IsFound};
+ghost use Rattle.http_frame.specs.Readings.{ReadsWhile};
 ghost use Rattle.http_frame.specs.declared.stop.Turn.TheVariants.{AtHead, AtBody};
 ghost use Rattle.http_frame.specs.declared.stop.Stop.TheVariants as Stopped;
 ghost use Rattle.http_frame.specs.Reply.{is_reply_code, continue_bytes};
@@ -11,6 +13,7 @@ ghost use Rattle.hips_http.specs.declared.served.SessionEnd.TheVariants.{ReadFau
 ghost use Rattle.hips_http.specs.Replies.{Answer, leave_bytes};
 ghost use Rattle.hips_http.specs.Progress.{ReadsCall, HasLeaf, EndsAt, is_text, Replied, reply_of, body_end, Halts, wants_after, IsServedOne, StopsOne, LeavesPart};
 ghost use Rattle.hips_http.specs.SessionRun.{HandsOn, HandsOnAll, room_of, most_requests};
+ghost use Rattle.hips_http.specs.Readings.{NeedsRest, HoldsBehind};
 
 use crate::answer::{pass_body, reply_to};
 use crate::call::{Call, call_of, path_kind};
@@ -22,9 +25,8 @@ use crate::served::SessionEnd;
 use http_frame::{Frame, Request, Stop, write_continue};
 use log::Log;
 use parent_rule::Steps;
-use reader_pin::Board;
+use reader_pin::{Board, ChangedWith};
 use std::alloc::Global;
-use std::sync::Wait;
 use std::thread::Threads;
 use std::time::Clock;
 use survey_link::{Failed, Gate, Sink, Source};
@@ -44,6 +46,8 @@ pub(crate) fn next_call<S: Source>(
     ensures stop { IfErr result (StopsHead frame.old frame.new (S.left src.old) (S.faults src.old) (S.faults src.new)) }
     ensures kept { OnErr result (KeepsUnread frame.old frame.new (S.left src.old) (S.left src.new)) }
     ensures turn { IfOk result (λ next. frame.new.turn ≡ AtBody next.0.length) }
+    ensures needed { (came : List ℕ) × ReadsWhile S.left S.readings NeedsMore frame.old.held src.old src.new came
+        × IfOk result (λ next. IsFound frame.old.room (frame.old.held ++ came) next.0 frame.new.path frame.new.held) }
     ensures leaf { IfOk result (λ next. HasLeaf top next.1) }
     ensures never_falls { S.faults src.old ≤ S.faults src.new }
     ensures room { frame.new.room ≡ frame.old.room }
@@ -145,6 +149,7 @@ pub(crate) fn serve_file<R: Clock + Log, B: Board, S: Source, K: Sink>(
     ensures handed_on { OnOk result (K.handed_on sink.new ≡ K.held sink.new) }
     ensures stays { OnErr result (K.handed_on sink.new ≡ K.handed_on sink.old) }
     ensures unwritten { IfErr result (λ end. ¬ (end ≡ WriteFault) → K.held sink.new ≡ K.held sink.old) }
+    ensures needed { (came : List ℕ) × ReadsWhile S.left S.readings (IsShort request.now.length) frame.old.held src.old src.new came }
     ensures write_fault { result ≡ Err WriteFault → Rises (K.faults sink.old) (K.faults sink.new) }
     ensures memory { IfErr result (λ end. end ≢ OutOfMemory) }
     ensures source_never_falls { S.faults src.old ≤ S.faults src.new }
@@ -168,8 +173,8 @@ pub(crate) fn serve_file<R: Clock + Log, B: Board, S: Source, K: Sink>(
 ///
 /// How the connection ends: `WriteFault` where the reply couldn't be written, else as the body isn't whole.
 pub(crate) fn serve_text<
-    R: Threads + Wait + Sync + Clock + Log,
-    B: Board,
+    R: Threads + Sync + Clock + Log,
+    B: ChangedWith<R>,
     S: Source,
     K: Sink,
     G: Gate + Sync,
@@ -200,6 +205,7 @@ pub(crate) fn serve_text<
     ensures handed_on { OnOk result (K.handed_on sink.new ≡ K.held sink.new) }
     ensures stays { OnErr result (K.handed_on sink.new ≡ K.handed_on sink.old) }
     ensures unwritten { IfErr result (λ end. ¬ (end ≡ WriteFault) → K.held sink.new ≡ K.held sink.old) }
+    ensures needed { (came : List ℕ) × ReadsWhile S.left S.readings (IsShort request.now.length) frame.old.held src.old src.new came }
     ensures write_fault { result ≡ Err WriteFault → Rises (K.faults sink.old) (K.faults sink.new) }
     ensures memory { IfErr result (λ end. end ≢ OutOfMemory) }
     ensures source_never_falls { S.faults src.old ≤ S.faults src.new }
@@ -225,7 +231,13 @@ pub(crate) fn serve_text<
 /// # Errors
 ///
 /// How the connection ends: `WriteFault` where the reply couldn't be written, else as the body isn't whole.
-fn serve_call<R: Threads + Wait + Sync + Clock + Log, B: Board, S: Source, K: Sink, G: Gate + Sync>(
+fn serve_call<
+    R: Threads + Sync + Clock + Log,
+    B: ChangedWith<R>,
+    S: Source,
+    K: Sink,
+    G: Gate + Sync,
+>(
     rt: &R,
     alloc: Global,
     frame: &mut Frame,
@@ -251,6 +263,7 @@ fn serve_call<R: Threads + Wait + Sync + Clock + Log, B: Board, S: Source, K: Si
     ensures handed_on { OnOk result (K.handed_on sink.new ≡ K.held sink.new) }
     ensures stays { OnErr result (K.handed_on sink.new ≡ K.handed_on sink.old) }
     ensures unwritten { IfErr result (λ end. ¬ (end ≡ WriteFault) → K.held sink.new ≡ K.held sink.old) }
+    ensures needed { (came : List ℕ) × ReadsWhile S.left S.readings (IsShort request.now.length) frame.old.held src.old src.new came }
     ensures write_fault { result ≡ Err WriteFault → Rises (K.faults sink.old) (K.faults sink.new) }
     ensures memory { IfErr result (λ end. end ≢ OutOfMemory) }
     ensures source_never_falls { S.faults src.old ≤ S.faults src.new }
@@ -276,8 +289,8 @@ fn serve_call<R: Threads + Wait + Sync + Clock + Log, B: Board, S: Source, K: Si
 ///
 /// How the connection ends instead.
 pub(crate) fn serve_one<
-    R: Threads + Wait + Sync + Clock + Log,
-    B: Board,
+    R: Threads + Sync + Clock + Log,
+    B: ChangedWith<R>,
     S: Source,
     K: Sink,
     G: Gate + Sync,
@@ -309,6 +322,8 @@ pub(crate) fn serve_one<
     ensures hands_on { IfErr result (λ end. ¬ (end ≡ WriteFault) → HandsOnAll (K.held sink.old) (K.held sink.new) (K.handed_on sink.old) (K.handed_on sink.new)) }
     ensures breaks { result ≡ Err WriteFault → (more : List ℕ) × HandsOn (K.held sink.old) (K.handed_on sink.old) (K.handed_on sink.new) more }
     ensures turn { OnOk result (frame.new.turn ≡ AtHead) }
+    ensures reads { IsSome (S.left src.old) → (came : List ℕ) × ReadsWhile S.left S.readings (NeedsRest frame.old.room) frame.old.held src.old src.new came
+        × HoldsBehind frame.old.room (frame.old.held ++ came) frame.new.held result }
     ensures read_fault { result ≡ Err ReadFault → Rises (S.faults src.old) (S.faults src.new) }
     ensures write_fault { result ≡ Err WriteFault → Rises (K.faults sink.old) (K.faults sink.new) }
     ensures memory { IfErr result (λ end. end ≢ OutOfMemory) }

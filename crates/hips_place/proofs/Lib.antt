@@ -1,3 +1,4 @@
 pub mod PlaceLemmas
 pub mod PlacesLemmas
+pub mod OneOwner
 pub mod DoorsLemmas

@@ -1,6 +1,8 @@
 -- Places of the server.
 use Rattle.std.proofs.Common.{◌≡◌, ◌≢◌, ◌⊎◌, inl, inr, ℕ, ◌+◌, ◌<◌, ◌≤◌, Bool, true, false, List, [], ◌∷◌, ◌++◌, length, Option, Some, None, refl, sym, ap, ◌∙◌, subst, arith, append_assoc, length-append}
 use Rattle.std.specs.Prelude.{IfSome, IsSome, All, Contains, option_map, if◌then◌else◌}
+use Rattle.std.specs.List.{concat}
+use Rattle.std.proofs.lemmas.List.{append-nil, append_cancel_left}
 use Rattle.std.proofs.lemmas.Grind.{common_steps}
 use Rattle.std.proofs.lemmas.List.Elements.{All-nil, All-head, All-tail, All-push, Contains-append_left, Contains-append_right}
 use Rattle.survey_conf.specs.Description.{Description}
@@ -12,14 +14,15 @@ use Rattle.http_frame.specs.Frame.{FrameState}
 use Rattle.edit_journal.specs.Leaves.{LeafTiles}
 use Rattle.survey_core.specs.History.{SurveyState, IsHistory, Begins}
 use Rattle.survey_core.specs.HistoryLaws.{begins_trans}
-use Rattle.reader_pin.specs.Board.{BoardContent}
+use Rattle.reader_pin.specs.Board.{BoardContent, IsOwned}
 use Rattle.hips_http.specs.declared.served.SessionEnd.{SessionEnd}
 use Rattle.hips_http.specs.declared.served.SessionEnd.TheVariants.{Closed, Asked, Refused, Cut, Spent, ReadFault, WriteFault, OutOfMemory}
-use Rattle.hips_http.specs.SessionRun.{IsServed, Goes}
+use Rattle.hips_http.specs.SessionRun.{SessionRun, IsServed, Goes}
 use Rattle.hips_http.specs.declared.served.Served.{Served}
 use Rattle.hips_place.specs.declared.place.PlaceEnd.{PlaceEnd}
 use Rattle.hips_place.specs.declared.place.PlaceEnd.TheVariants.{Done, Failed}
 use Rattle.hips_place.specs.declared.place.PlaceEnd.TheVariants as placed
+use Rattle.reader_pin.specs.SeatLaws.{keeps_itself, keeps_trans}
 use Rattle.hips_place.specs.Place.{IsSession, IsServedOnce, PlaceRun, AllReturned, HandsOut, DoorCounts, WantsFirst, EndsBy, IsPlace, PlaceGoes, TakesOne}
 
 begins_same : {X : Type 0} (xs ys : List X) → ys ≡ xs → Begins xs ys
@@ -29,43 +32,53 @@ begins_same xs ys same = record { rest = []; is = grind (arith, common_steps) }
 
 pub once_served : (old new : BoardContent) (u u' w w' h h' : Option (List ℕ)) (sf sf' kf kf' steps steps' : ℕ) (served : Served) → Goes old new
     → IfSome u (λ input. IsServed old new input u' w w' h h' sf sf' kf kf' steps steps' served)
-    → IsServedOnce new.conf new.opening old.history
+    → (own : List ℕ) → new.own ≡ old.own ++ own → IsServedOnce new.conf new.opening old.history
     (record { unread = u; written = w; handed_on = h; source_faults = sf; sink_faults = kf })
-    (record { unread = u'; written = w'; handed_on = h'; source_faults = sf'; sink_faults = kf' }) new.history served.end
-once_served old new u u' w w' h h' sf sf' kf kf' steps steps' served goes all = record { legal = goes.legal; begins = goes.begins; session = told u all }
+    (record { unread = u'; written = w'; handed_on = h'; source_faults = sf'; sink_faults = kf' }) new.history served.end own
+once_served old new u u' w w' h h' sf sf' kf kf' steps steps' served goes all own own_is = record { legal = goes.legal; begins = goes.begins; session = told u all }
   where
     told : (unread : Option (List ℕ)) → IfSome unread (λ input. IsServed old new input u' w w' h h' sf sf' kf kf' steps steps' served)
         → IfSome unread (IsSession new.conf new.opening old.history
         (record { unread = u; written = w; handed_on = h; source_faults = sf; sink_faults = kf })
-        (record { unread = u'; written = w'; handed_on = h'; source_faults = sf'; sink_faults = kf' }) new.history served.end)
+        (record { unread = u'; written = w'; handed_on = h'; source_faults = sf'; sink_faults = kf' }) new.history served.end own)
     told None all = tt
     told (Some input) s = record {
       read = s.read;
       rest = s.rest;
       out = s.out;
-      own = s.own;
       wants = served.wants;
       input_is = s.input_is;
       left_is = s.left_is;
       appended = s.appended;
       passed = s.passed;
       passed_is = s.passed_is;
-      run = s.run;
+      run = subst (λ (o : List ℕ). SessionRun new.conf new.opening old.history (record {
+        read = s.read;
+        left = s.rest;
+        written = s.out;
+        handed_on = s.passed;
+        source_faults = sf;
+        source_faults_then = sf';
+        sink_faults = kf;
+        sink_faults_then = kf';
+      }) o new.history served.end served.wants) (append_cancel_left old.own s.own own (sym s.own_is ∙ own_is)) s.run;
     }
 
 -- ---- one connection more
 
-place_push : (conf : Description) (opening : LeafTiles) (states : List SurveyState) (takens backs : List Connection) (ends : List SessionEnd) (mid states' : List SurveyState)
-    (taken back : Connection) (end : SessionEnd) → PlaceRun conf opening states takens backs ends mid → IsServedOnce conf opening mid taken back states' end
-    → PlaceRun conf opening states (takens ++ taken ∷ []) (backs ++ back ∷ []) (ends ++ end ∷ []) states'
-place_push conf opening states [] [] [] mid states' taken back end run served =
-    (states', subst (λ (s : List SurveyState). IsServedOnce conf opening s taken back states' end) run served, refl)
-place_push conf opening states [] [] (e ∷ ends) mid states' taken back end run served = absurd run
-place_push conf opening states [] (b ∷ backs) ends mid states' taken back end run served = absurd run
-place_push conf opening states (t ∷ takens) [] ends mid states' taken back end run served = absurd run
-place_push conf opening states (t ∷ takens) (b ∷ backs) [] mid states' taken back end run served = absurd run
-place_push conf opening states (t ∷ takens) (b ∷ backs) (e ∷ ends) mid states' taken back end run served =
-    (run.0, run.1, place_push conf opening run.0 takens backs ends mid states' taken back end run.2 served)
+place_push : (conf : Description) (opening : LeafTiles) (states : List SurveyState) (takens backs : List Connection) (ends : List SessionEnd) (owns : List (List ℕ)) (mid states' : List SurveyState)
+    (taken back : Connection) (end : SessionEnd) (own : List ℕ) → PlaceRun conf opening states takens backs ends owns mid → IsServedOnce conf opening mid taken back states' end own
+    → PlaceRun conf opening states (takens ++ taken ∷ []) (backs ++ back ∷ []) (ends ++ end ∷ []) (owns ++ own ∷ []) states'
+place_push conf opening states [] [] [] [] mid states' taken back end own run served =
+    (states', subst (λ (s : List SurveyState). IsServedOnce conf opening s taken back states' end own) run served, refl)
+place_push conf opening states [] [] [] (o ∷ owns) mid states' taken back end own run served = absurd run
+place_push conf opening states [] [] (e ∷ ends) owns mid states' taken back end own run served = absurd run
+place_push conf opening states [] (b ∷ backs) ends owns mid states' taken back end own run served = absurd run
+place_push conf opening states (t ∷ takens) [] ends owns mid states' taken back end own run served = absurd run
+place_push conf opening states (t ∷ takens) (b ∷ backs) [] owns mid states' taken back end own run served = absurd run
+place_push conf opening states (t ∷ takens) (b ∷ backs) (e ∷ ends) [] mid states' taken back end own run served = absurd run
+place_push conf opening states (t ∷ takens) (b ∷ backs) (e ∷ ends) (o ∷ owns) mid states' taken back end own run served =
+    (run.0, run.1, place_push conf opening run.0 takens backs ends owns mid states' taken back end own run.2 served)
 
 -- it is given back where fewer were given back than taken
 returns : (back : Connection) (mid : Connections) → length mid.returned < length mid.taken → given_back back mid ≡ record mid { returned = mid.returned ++ back ∷ [] }
@@ -147,11 +160,11 @@ framed_push frame frame' ends end (inl all) stays was = elim (is_want end) [
 ]
 
 -- what was done so far: the board's history goes on by the connections that were taken, and none is out
-pub record SoFar (old now : BoardContent) (door door' : Option Connections) (count : ℕ) (wanted : Bool) (frame : Option FrameState) : Type 0 where
+pub record SoFar (old now : BoardContent) (door door' : Option Connections) (count : ℕ) (wanted : Bool) (frame : Option FrameState) (owns : List (List ℕ)) : Type 0 where
   pub takens : List Connection
   pub backs : List Connection
   pub ends : List SessionEnd
-  pub run : PlaceRun now.conf now.opening old.history takens backs ends now.history
+  pub run : PlaceRun now.conf now.opening old.history takens backs ends owns now.history
   pub handed : HandsOut door takens backs door'
   pub count_is : length takens ≡ count
   pub backs_are : length backs ≡ count
@@ -163,7 +176,7 @@ none_handed : (door : Option Connections) → HandsOut door [] [] door
 none_handed None = tt
 none_handed (Some told) = (refl, grind (arith, common_steps), grind (arith, common_steps))
 
-pub begins_place : (board : BoardContent) (door : Option Connections) (frame : Option FrameState) → SoFar board board door door 0 false frame
+pub begins_place : (board : BoardContent) (door : Option Connections) (frame : Option FrameState) → SoFar board board door door 0 false frame []
 begins_place board door frame = record {
   takens = [];
   backs = [];
@@ -177,19 +190,19 @@ begins_place board door frame = record {
   some_wanted = λ is. absurd (cc);
 }
 
-pub one_more : (old now new : BoardContent) (door door1 door2 : Option Connections) (count : ℕ) (wanted wanted' : Bool) (frame frame' : Option FrameState) (end : SessionEnd) → AllReturned door
-    → SoFar old now door door1 count wanted frame → Goes now new → TakesOne door1 door2 now new end → (wanted' ≡ false → (wanted ≡ false) × (end ≢ OutOfMemory))
+pub one_more : (old now new : BoardContent) (door door1 door2 : Option Connections) (count : ℕ) (wanted wanted' : Bool) (frame frame' : Option FrameState) (end : SessionEnd) (owns : List (List ℕ)) → AllReturned door
+    → SoFar old now door door1 count wanted frame owns → (goes : Goes now new) → TakesOne door1 door2 now new end → (wanted' ≡ false → (wanted ≡ false) × (end ≢ OutOfMemory))
     → (wanted' ≡ true → (wanted ≡ true) ⊎ (end ≡ OutOfMemory)) → (IsSome frame → IsSome frame' × (end ≢ OutOfMemory)) → (end ≢ OutOfMemory → IsSome frame')
-    → SoFar old new door door2 (count + 1) wanted' frame'
-one_more old now new door door1 door2 count wanted wanted' frame frame' end all s goes one wants some stays was =
-    let run : PlaceRun new.conf new.opening old.history s.takens s.backs s.ends now.history
-    = subst (λ (c : Description). PlaceRun c new.opening old.history s.takens s.backs s.ends now.history) (sym goes.conf)
-    (subst (λ (l : LeafTiles). PlaceRun now.conf l old.history s.takens s.backs s.ends now.history) (sym goes.opening) s.run) in
+    → SoFar old new door door2 (count + 1) wanted' frame' (owns ++ goes.own ∷ [])
+one_more old now new door door1 door2 count wanted wanted' frame frame' end owns all s goes one wants some stays was =
+    let run : PlaceRun new.conf new.opening old.history s.takens s.backs s.ends owns now.history
+    = subst (λ (c : Description). PlaceRun c new.opening old.history s.takens s.backs s.ends owns now.history) (sym goes.conf)
+    (subst (λ (l : LeafTiles). PlaceRun now.conf l old.history s.takens s.backs s.ends owns now.history) (sym goes.opening) s.run) in
     record {
       takens = s.takens ++ one.taken ∷ [];
       backs = s.backs ++ one.back ∷ [];
       ends = s.ends ++ end ∷ [];
-      run = place_push new.conf new.opening old.history s.takens s.backs s.ends now.history new.history one.taken one.back end run one.served;
+      run = place_push new.conf new.opening old.history s.takens s.backs s.ends owns now.history new.history one.taken one.back end goes.own run (one.served goes.own goes.own_is);
       handed = hands_push door door1 one.mid door2 s.takens s.backs one.taken one.back all (s.count_is ∙ sym s.backs_are) s.handed one.takes one.returned;
       count_is = length-append s.takens (one.taken ∷ []) ∙ ap (λ n. n + 1) s.count_is;
       backs_are = length-append s.backs (one.back ∷ []) ∙ ap (λ n. n + 1) s.backs_are;
@@ -201,10 +214,10 @@ one_more old now new door door1 door2 count wanted wanted' frame frame' end all 
       ];
     }
 
-pub place_of : (old now : BoardContent) (door door' : Option Connections) (counts counts' : DoorCounts) (count most : ℕ) (wanted : Bool) (frame : Option FrameState) (end : PlaceEnd)
-    → SoFar old now door door' count wanted frame → count ≤ most → (end ≡ Done → (count ≡ most) ⊎ NoneWaits door') → (end ≡ placed.OutOfMemory → ¬ Rises counts.wants counts'.wants → (count ≡ most) ⊎ NoneWaits door') → (end ≡ Done → wanted ≡ false)
-    → (end ≡ placed.OutOfMemory → Rises counts.wants counts'.wants ⊎ (wanted ≡ true)) → IsPlace old now door door' counts counts' most end
-place_of old now door door' counts counts' count most wanted frame end s few all wanting done wants = record {
+pub place_of : (old now : BoardContent) (door door' : Option Connections) (counts counts' : DoorCounts) (count most : ℕ) (wanted : Bool) (frame : Option FrameState) (end : PlaceEnd) (owns : List (List ℕ))
+    → SoFar old now door door' count wanted frame owns → count ≤ most → (end ≡ Done → (count ≡ most) ⊎ NoneWaits door') → (end ≡ placed.OutOfMemory → ¬ Rises counts.wants counts'.wants → (count ≡ most) ⊎ NoneWaits door') → (end ≡ Done → wanted ≡ false)
+    → (end ≡ placed.OutOfMemory → Rises counts.wants counts'.wants ⊎ (wanted ≡ true)) → IsPlace old now door door' counts counts' most end owns
+place_of old now door door' counts counts' count most wanted frame end owns s few all wanting done wants = record {
   takens = s.takens;
   backs = s.backs;
   ends = s.ends;
@@ -219,13 +232,13 @@ place_of old now door door' counts counts' count most wanted frame end s few all
 }
 
 -- the same of a board and a door that stayed
-pub place_as : (old now new : BoardContent) (door door1 door2 : Option Connections) (counts counts' : DoorCounts) (count most : ℕ) (wanted : Bool) (frame : Option FrameState) (end : PlaceEnd)
-    → SoFar old now door door1 count wanted frame → new ≡ now → door2 ≡ door1 → count ≤ most
+pub place_as : (old now new : BoardContent) (door door1 door2 : Option Connections) (counts counts' : DoorCounts) (count most : ℕ) (wanted : Bool) (frame : Option FrameState) (end : PlaceEnd) (owns : List (List ℕ))
+    → SoFar old now door door1 count wanted frame owns → new ≡ now → door2 ≡ door1 → count ≤ most
     → (end ≡ Done → (count ≡ most) ⊎ NoneWaits door2) → (end ≡ placed.OutOfMemory → ¬ Rises counts.wants counts'.wants → (count ≡ most) ⊎ NoneWaits door2)
-    → (end ≡ Done → wanted ≡ false) → (end ≡ placed.OutOfMemory → Rises counts.wants counts'.wants ⊎ (wanted ≡ true)) → IsPlace old new door door2 counts counts' most end
-place_as old now new door door1 door2 counts counts' count most wanted frame end s board_is door_is few all wanting done wants =
-    place_of old new door door2 counts counts' count most wanted frame end
-    (subst (λ (b : BoardContent). SoFar old b door door2 count wanted frame) (sym board_is) (subst (λ (d : Option Connections). SoFar old now door d count wanted frame) (sym door_is) s)) few all wanting done wants
+    → (end ≡ Done → wanted ≡ false) → (end ≡ placed.OutOfMemory → Rises counts.wants counts'.wants ⊎ (wanted ≡ true)) → IsPlace old new door door2 counts counts' most end owns
+place_as old now new door door1 door2 counts counts' count most wanted frame end owns s board_is door_is few all wanting done wants =
+    place_of old new door door2 counts counts' count most wanted frame end owns
+    (subst (λ (b : BoardContent). SoFar old b door door2 count wanted frame owns) (sym board_is) (subst (λ (d : Option Connections). SoFar old now door d count wanted frame owns) (sym door_is) s)) few all wanting done wants
 
 -- ---- how it ends
 
@@ -257,42 +270,65 @@ ends_refused counts counts' fault.OutOfMemory end failed wanted rises wants =
     subst (λ (e : PlaceEnd). EndsBy counts counts' e) (sym (wanted refl)) ((wants refl).1, inl (wants refl).0)
 
 -- an accept was refused
-pub place_refused : (old now new : BoardContent) (door door1 door2 : Option Connections) (counts counts' : DoorCounts) (count most : ℕ) (wanted : Bool) (frame : Option FrameState) (why : DoorFault) (end : PlaceEnd)
-    → SoFar old now door door1 count wanted frame → new ≡ now → door2 ≡ door1 → count ≤ most → (why ≡ fault.Failed → end ≡ Failed) → (why ≡ fault.OutOfMemory → end ≡ placed.OutOfMemory)
-    → (why ≡ fault.OutOfMemory → Rises counts.wants counts'.wants) → IsPlace old new door door2 counts counts' most end
-place_refused old now new door door1 door2 counts counts' count most wanted frame fault.Failed end s board_is door_is few failed want rises =
+pub place_refused : (old now new : BoardContent) (door door1 door2 : Option Connections) (counts counts' : DoorCounts) (count most : ℕ) (wanted : Bool) (frame : Option FrameState) (why : DoorFault) (end : PlaceEnd) (owns : List (List ℕ))
+    → SoFar old now door door1 count wanted frame owns → new ≡ now → door2 ≡ door1 → count ≤ most → (why ≡ fault.Failed → end ≡ Failed) → (why ≡ fault.OutOfMemory → end ≡ placed.OutOfMemory)
+    → (why ≡ fault.OutOfMemory → Rises counts.wants counts'.wants) → IsPlace old new door door2 counts counts' most end owns
+place_refused old now new door door1 door2 counts counts' count most wanted frame fault.Failed end owns s board_is door_is few failed want rises =
     let is = failed refl in
-    place_as old now new door door1 door2 counts counts' count most wanted frame end s board_is door_is few (λ e. absurd (cc)) (λ e none. absurd (cc)) (λ e. absurd (cc)) (λ e. absurd (cc))
-place_refused old now new door door1 door2 counts counts' count most wanted frame fault.OutOfMemory end s board_is door_is few failed want rises =
+    place_as old now new door door1 door2 counts counts' count most wanted frame end owns s board_is door_is few (λ e. absurd (cc)) (λ e none. absurd (cc)) (λ e. absurd (cc)) (λ e. absurd (cc))
+place_refused old now new door door1 door2 counts counts' count most wanted frame fault.OutOfMemory end owns s board_is door_is few failed want rises =
     let is = want refl in
-    place_as old now new door door1 door2 counts counts' count most wanted frame end s board_is door_is few (λ e. absurd (cc)) (λ e none. absurd (none (rises refl))) (λ e. absurd (cc)) (λ e. inl (rises refl))
+    place_as old now new door door1 door2 counts counts' count most wanted frame end owns s board_is door_is few (λ e. absurd (cc)) (λ e none. absurd (none (rises refl))) (λ e. absurd (cc)) (λ e. inl (rises refl))
 
-pub goes_first : (board : BoardContent) → IsHistory board.opening board.history → PlaceGoes board board 0
-goes_first board legal = record {
+concat_push : (owns : List (List ℕ)) (own : List ℕ) → concat (owns ++ own ∷ []) ≡ concat owns ++ own
+concat_push [] own = append-nil own
+concat_push (first ∷ owns) own = ap (λ (rest : List ℕ). first ++ rest) (concat_push owns own) ∙ sym (append_assoc first (concat owns) own)
+
+pub goes_first : (board : BoardContent) → IsHistory board.opening board.history → IsOwned board → PlaceGoes board board 0 []
+goes_first board legal owned = record {
   conf = refl;
   opening = refl;
   legal = legal;
   begins = begins_same _ _ refl;
-  own = [];
+  seat = keeps_itself board owned;
   own_is = grind (arith, common_steps);
   few = omega arith;
 }
 
-pub goes_more : (old now new : BoardContent) (count : ℕ) → PlaceGoes old now count → Goes now new → PlaceGoes old new (count + 1)
-goes_more old now new count so_far goes = record {
-  conf = goes.conf ∙ so_far.conf;
-  opening = goes.opening ∙ so_far.opening;
+pub goes_more : (old now new : BoardContent) (count : ℕ) (owns : List (List ℕ)) → PlaceGoes old now count owns → (goes : Goes now new) → PlaceGoes old new (count + 1) (owns ++ goes.own ∷ [])
+goes_more old now new count owns so_far goes =
+    let all : concat (owns ++ goes.own ∷ []) ≡ concat owns ++ goes.own = concat_push owns goes.own in
+    record {
+      conf = goes.conf ∙ so_far.conf;
+      opening = goes.opening ∙ so_far.opening;
+      legal = goes.legal;
+      begins = begins_trans old.history now.history new.history so_far.begins goes.begins;
+      seat = keeps_trans old now new so_far.seat goes.seat;
+      own_is = goes.own_is ∙ ap (λ xs. xs ++ goes.own) so_far.own_is ∙ append_assoc old.own (concat owns) goes.own ∙ ap (λ xs. old.own ++ xs) (sym all);
+      few = (let before = so_far.few in let more = goes.few in let whole = ap length all ∙ length-append (concat owns) goes.own in omega (arith, whole));
+    }
+
+-- what so many connections may make
+pub goes_most : (old new : BoardContent) (count most : ℕ) (owns : List (List ℕ)) → PlaceGoes old new count owns → count ≤ most → PlaceGoes old new most owns
+goes_most old new count most owns goes few = record {
+  conf = goes.conf;
+  opening = goes.opening;
   legal = goes.legal;
-  begins = begins_trans old.history now.history new.history so_far.begins goes.begins;
-  own = so_far.own ++ goes.own;
-  own_is = goes.own_is ∙ ap (λ xs. xs ++ goes.own) so_far.own_is ∙ append_assoc old.own so_far.own goes.own;
-  few = (let before = so_far.few in let more = goes.few in omega (arith, length-append so_far.own goes.own));
+  begins = goes.begins;
+  seat = goes.seat;
+  own_is = goes.own_is;
+  few = (let before = goes.few in omega (arith, before, few));
 }
+
+-- the same of a board that stayed
+pub goes_as : (old now new : BoardContent) (count most : ℕ) (owns : List (List ℕ)) → PlaceGoes old now count owns → new ≡ now → count ≤ most → PlaceGoes old new most owns
+goes_as old now new count most owns goes is few = subst (λ (b : BoardContent). PlaceGoes old b most owns) (sym is) (goes_most old now count most owns goes few)
 
 -- the loop over connections
 pub record IsLoop (old now : BoardContent) (door door' : Option Connections) (faults faults' wants wants' steps steps' count : ℕ) (wanted : Bool) (frame : Option FrameState) : Type 0 where
-  pub goes : PlaceGoes old now count
+  pub owns : List (List ℕ)
+  pub goes : PlaceGoes old now count owns
   pub no_faults : faults' ≡ faults
   pub no_wants : wants' ≡ wants
   pub steps_never_fall : steps ≤ steps'
-  pub so_far : AllReturned door → SoFar old now door door' count wanted frame
+  pub so_far : AllReturned door → SoFar old now door door' count wanted frame owns

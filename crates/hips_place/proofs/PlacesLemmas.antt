@@ -121,14 +121,24 @@ empty_places content connections faults wants most (b ∷ boards) doors none sam
 
 -- the first of one board and of one door
 pub first_place : {B D : Type 0} (content : B → BoardContent) (connections : D → Option Connections) (faults wants : D → ℕ) (most : ℕ) (boards : List B) (doors : List D)
-    (b b' : B) (d d' : D) (end : PlaceEnd) → length boards ≡ 1 → length doors ≡ 1 → b ≡ get_or boards 0 b → d ≡ get_or doors 0 d
-    → IsServedPlace most (record { board = content b; board_then = content b'; door = connections d; door_then = connections d'; counts = counts_of (faults d) (wants d); counts_then = counts_of (faults d') (wants d'); end = end })
+    (b b' : B) (d d' : D) (owns : List (List ℕ)) (end : PlaceEnd) → length boards ≡ 1 → length doors ≡ 1 → b ≡ get_or boards 0 b → d ≡ get_or doors 0 d
+    → IsServedPlace most (record { board = content b; board_then = content b'; door = connections d; door_then = connections d'; counts = counts_of (faults d) (wants d); counts_then = counts_of (faults d') (wants d'); owns = owns; end = end })
     → ArePlaces most (map content boards) (map content (slice_set boards 0 b')) (map connections doors) (map connections (slice_set doors 0 d')) (map faults doors) (map faults (slice_set doors 0 d')) (map wants doors) (map wants (slice_set doors 0 d')) end
-first_place content connections faults wants most [] doors b b' d d' end one same is_b is_d is = absurd (omega arith)
-first_place content connections faults wants most (x ∷ y ∷ boards) doors b b' d d' end one same is_b is_d is = absurd (omega arith)
-first_place content connections faults wants most (x ∷ []) [] b b' d d' end one same is_b is_d is = absurd (omega arith)
-first_place content connections faults wants most (x ∷ []) (y ∷ z ∷ doors) b b' d d' end one same is_b is_d is = absurd (omega arith)
-first_place {B = B} {D = D} content connections faults wants most (x ∷ []) (y ∷ []) b b' d d' end one same is_b is_d is =
+first_place content connections faults wants most [] doors b b' d d' owns end one same is_b is_d is = absurd (omega arith)
+first_place content connections faults wants most (x ∷ y ∷ boards) doors b b' d d' owns end one same is_b is_d is = absurd (omega arith)
+first_place content connections faults wants most (x ∷ []) [] b b' d d' owns end one same is_b is_d is = absurd (omega arith)
+first_place content connections faults wants most (x ∷ []) (y ∷ z ∷ doors) b b' d d' owns end one same is_b is_d is = absurd (omega arith)
+first_place {B = B} {D = D} content connections faults wants most (x ∷ []) (y ∷ []) b b' d d' owns end one same is_b is_d is =
     subst (λ (b : B). ArePlaces most (content b ∷ []) (content b' ∷ []) (connections y ∷ []) (connections d' ∷ []) (faults y ∷ []) (faults d' ∷ []) (wants y ∷ []) (wants d' ∷ []) end) is_b
     (subst (λ (d : D). ArePlaces most (content b ∷ []) (content b' ∷ []) (connections d ∷ []) (connections d' ∷ []) (faults d ∷ []) (faults d' ∷ []) (wants d ∷ []) (wants d' ∷ []) end) is_d
-    (one_place most (record { board = content b; board_then = content b'; door = connections d; door_then = connections d'; counts = counts_of (faults d) (wants d); counts_then = counts_of (faults d') (wants d'); end = end }) is))
+    (one_place most (record { board = content b; board_then = content b'; door = connections d; door_then = connections d'; counts = counts_of (faults d) (wants d); counts_then = counts_of (faults d') (wants d'); owns = owns; end = end }) is))
+
+-- ---- two parts of the boards and doors, joined
+
+module _ {B D : Type 0} (content : B → BoardContent) (connections : D → Option Connections) (faults wants : D → ℕ) where
+  pub are_joined : (most : ℕ) (boards b1 b2 b1' b2' : List B) (doors d1 d2 d1' d2' : List D) (end : PlaceEnd) → boards ≡ b1 ++ b2 → doors ≡ d1 ++ d2
+      → ArePlaces most (map content b1 ++ map content b2) (map content b1' ++ map content b2') (map connections d1 ++ map connections d2) (map connections d1' ++ map connections d2')
+      (map faults d1 ++ map faults d2) (map faults d1' ++ map faults d2') (map wants d1 ++ map wants d2) (map wants d1' ++ map wants d2') end
+      → ArePlaces most (map content boards) (map content (b1' ++ b2')) (map connections doors) (map connections (d1' ++ d2')) (map faults doors) (map faults (d1' ++ d2')) (map wants doors) (map wants (d1' ++ d2')) end
+  are_joined most boards b1 b2 b1' b2' doors d1 d2 d1' d2' end bs ds are =
+      rw (bs, ds, map-append content b1 b2, map-append content b1' b2', map-append connections d1 d2, map-append connections d1' d2', map-append faults d1 d2, map-append faults d1' d2', map-append wants d1 d2, map-append wants d1' d2') are

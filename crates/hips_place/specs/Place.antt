@@ -1,14 +1,15 @@
 -- One place of the server: the connections that it takes from its door, serves one after another, and gives back. This
 -- project's profile.
-use Rattle.std.specs.Prelude.{◌≡◌, ◌≢◌, ◌⊎◌, ℕ, ◌*◌, ◌≤◌, List, [], ◌∷◌, ◌++◌, length, map, All, Contains, Option, Some, None, IfSome, option_map, ⊤}
-use Rattle.std.specs.List.{AllZip}
+use Rattle.std.specs.Prelude.{◌≡◌, ◌≢◌, ◌⊎◌, ℕ, ◌+◌, ◌*◌, ◌<◌, ◌≤◌, List, [], ◌∷◌, ◌++◌, length, map, slice_index_or, All, Contains, Option, Some, None, IfSome, option_map, ⊤}
+use Rattle.std.specs.List.{concat}
 use Rattle.std.specs.Io.KnownBytes.{Appends}
 use Rattle.survey_conf.specs.Description.{Description}
 use Rattle.survey_link.specs.Link.{Rises}
 use Rattle.survey_link.specs.Door.{Connection, Connections, Takes, NoneWaits, given_back}
 use Rattle.edit_journal.specs.Leaves.{LeafTiles}
 use Rattle.survey_core.specs.History.{SurveyState, opening_state, IsHistory, Begins}
-use Rattle.reader_pin.specs.Board.{BoardContent}
+use Rattle.shared_history.specs.Histories.{places_of}
+use Rattle.reader_pin.specs.Board.{BoardSeat, BoardContent, KeepsSeat}
 use Rattle.hips_http.specs.declared.served.SessionEnd.{SessionEnd}
 use Rattle.hips_http.specs.declared.served.SessionEnd.TheVariants.{OutOfMemory as WantOfMemory}
 use Rattle.hips_http.specs.SessionRun.{HandsOn, SessionRun, most_requests}
@@ -17,13 +18,12 @@ use Rattle.hips_place.specs.declared.place.PlaceEnd.TheVariants.{Done, Failed, O
 
 -- ---- a connection
 
--- it is a session, from the states seen before it to those seen then: some first bytes of its input were read and the rest
+-- it is a session with these events of its own, from the states seen before it to those seen then: some first bytes of its input were read and the rest
 -- is left, what its sink holds grew by what was written, and what it has handed on by what was handed on of that
-pub record IsSession (conf : Description) (opening : LeafTiles) (states : List SurveyState) (taken back : Connection) (states' : List SurveyState) (end : SessionEnd) (input : List ℕ) : Type 0 where
+pub record IsSession (conf : Description) (opening : LeafTiles) (states : List SurveyState) (taken back : Connection) (states' : List SurveyState) (end : SessionEnd) (own input : List ℕ) : Type 0 where
   pub read : List ℕ
   pub rest : List ℕ
   pub out : List ℕ
-  pub own : List ℕ
   pub wants : ℕ
   pub input_is : input ≡ read ++ rest
   pub left_is : back.unread ≡ Some rest
@@ -44,21 +44,21 @@ pub record IsSession (conf : Description) (opening : LeafTiles) (states : List S
       own states' end wants
 
 -- a connection as it was taken and as it was given back: the history goes on, and by a session where the source told its bytes
-pub record IsServedOnce (conf : Description) (opening : LeafTiles) (states : List SurveyState) (taken back : Connection) (states' : List SurveyState) (end : SessionEnd) : Type 0 where
+pub record IsServedOnce (conf : Description) (opening : LeafTiles) (states : List SurveyState) (taken back : Connection) (states' : List SurveyState) (end : SessionEnd) (own : List ℕ) : Type 0 where
   pub legal : IsHistory opening states'
   pub begins : Begins states states'
-  pub session : IfSome taken.unread (IsSession conf opening states taken back states' end)
+  pub session : IfSome taken.unread (IsSession conf opening states taken back states' end own)
 
 -- ---- a place
 
--- connections as they were taken, as they were given back, and how they ended lead, one after another, from the states seen
--- before to those seen then
-abbrev pub PlaceRun : Description → LeafTiles → List SurveyState → List Connection → List Connection → List SessionEnd → List SurveyState → Type 0
-PlaceRun conf opening states [] [] [] states' = states' ≡ states
-PlaceRun conf opening states (taken ∷ takens) (back ∷ backs) (end ∷ ends) states' = (mid : List SurveyState)
-    × IsServedOnce conf opening states taken back mid end
-    × PlaceRun conf opening mid takens backs ends states'
-PlaceRun conf opening states takens backs ends states' = ⊥
+-- connections as they were taken and as they were given back, with their ends and the events of each, lead one after another
+-- from the states seen before to those seen then
+abbrev pub PlaceRun : Description → LeafTiles → List SurveyState → List Connection → List Connection → List SessionEnd → List (List ℕ) → List SurveyState → Type 0
+PlaceRun conf opening states [] [] [] [] states' = states' ≡ states
+PlaceRun conf opening states (taken ∷ takens) (back ∷ backs) (end ∷ ends) (own ∷ owns) states' = (mid : List SurveyState)
+    × IsServedOnce conf opening states taken back mid end own
+    × PlaceRun conf opening mid takens backs ends owns states'
+PlaceRun conf opening states takens backs ends owns states' = ⊥
 
 -- all connections that were taken from a door were given back, where it tells them
 abbrev pub AllReturned : Option Connections → Type 0
@@ -93,14 +93,14 @@ WantsFirst [] = ⊤
 WantsFirst (WantOfMemory ∷ ends) = WantsFirst ends
 WantsFirst (end ∷ ends) = All (λ each. each ≢ WantOfMemory) ends
 
--- what a place did to its board and its door, of which it was to take so many connections. It took them or none is left, unless
+-- what a place whose sessions had these events of their own did to its board and its door, of which it was to take so many connections. It took them or none is left, unless
 -- an accept was refused. It ends for want of memory where an accept wanted it or a connection ended so, and is done where none
 -- did
-pub record IsPlace (old new : BoardContent) (door door' : Option Connections) (counts counts' : DoorCounts) (most : ℕ) (end : PlaceEnd) : Type 0 where
+pub record IsPlace (old new : BoardContent) (door door' : Option Connections) (counts counts' : DoorCounts) (most : ℕ) (end : PlaceEnd) (owns : List (List ℕ)) : Type 0 where
   pub takens : List Connection
   pub backs : List Connection
   pub ends : List SessionEnd
-  pub run : PlaceRun new.conf new.opening old.history takens backs ends new.history
+  pub run : PlaceRun new.conf new.opening old.history takens backs ends owns new.history
   pub handed : HandsOut door takens backs door'
   pub few : length takens ≤ most
   pub all : end ≡ Done → (length takens ≡ most) ⊎ NoneWaits door'
@@ -109,16 +109,22 @@ pub record IsPlace (old new : BoardContent) (door door' : Option Connections) (c
   pub none_wanted : end ≡ Done → All (λ end. end ≢ WantOfMemory) ends
   pub wanted : end ≡ OutOfMemory → Rises counts.wants counts'.wants ⊎ Contains ends WantOfMemory
 
--- what is true of it, also where nothing is told: the history that its board sees goes on, with as many events of its own as
--- so many connections may make
-pub record PlaceGoes (old new : BoardContent) (most : ℕ) : Type 0 where
+-- what is true of it, also where nothing is told: the history that its board sees goes on, by the events of its sessions and
+-- those of other boards, with no more of its own than so many connections may make
+pub record PlaceGoes (old new : BoardContent) (most : ℕ) (owns : List (List ℕ)) : Type 0 where
   pub conf : new.conf ≡ old.conf
   pub opening : new.opening ≡ old.opening
   pub legal : IsHistory new.opening new.history
   pub begins : Begins old.history new.history
-  pub own : List ℕ
-  pub own_is : new.own ≡ old.own ++ own
-  pub few : length own ≤ most * most_requests
+  pub seat : KeepsSeat old new
+  pub own_is : new.own ≡ old.own ++ concat owns
+  pub few : length (concat owns) ≤ most * most_requests
+
+-- a place and what it did, where its door tells its connections
+pub record ServesPlace (old new : BoardContent) (door door' : Option Connections) (counts counts' : DoorCounts) (most : ℕ) (end : PlaceEnd) : Type 0 where
+  pub owns : List (List ℕ)
+  pub goes : PlaceGoes old new most owns
+  pub place : AllReturned door → IsPlace old new door door' counts counts' most end owns
 
 -- ---- the next connection
 
@@ -129,17 +135,17 @@ pub record TakesOne (door door' : Option Connections) (old new : BoardContent) (
   pub mid : Option Connections
   pub takes : Takes door mid taken
   pub returned : door' ≡ option_map (given_back back) mid
-  pub served : IsServedOnce new.conf new.opening old.history taken back new.history end
+  pub served : (own : List ℕ) → new.own ≡ old.own ++ own → IsServedOnce new.conf new.opening old.history taken back new.history end own
 
 -- a connection that was taken like this is served and given back
 pub record GivesBack (door door' : Option Connections) (old new : BoardContent) (taken : Connection) (end : SessionEnd) : Type 0 where
   pub back : Connection
   pub returned : door' ≡ option_map (given_back back) door
-  pub served : IsServedOnce new.conf new.opening old.history taken back new.history end
+  pub served : (own : List ℕ) → new.own ≡ old.own ++ own → IsServedOnce new.conf new.opening old.history taken back new.history end own
 
 -- ---- the places of a server
 
--- a place: its board, its door and the door's counts, before and after, and how it ended
+-- a place: its board, its door and the door's counts, before and after, the events of each of its sessions, and how it ended
 pub record OnePlace : Type 0 where
   pub board : BoardContent
   pub board_then : BoardContent
@@ -147,12 +153,13 @@ pub record OnePlace : Type 0 where
   pub door_then : Option Connections
   pub counts : DoorCounts
   pub counts_then : DoorCounts
+  pub owns : List (List ℕ)
   pub end : PlaceEnd
 
 -- it is one of which so many connections were to be taken
 pub record IsServedPlace (most : ℕ) (place : OnePlace) : Type 0 where
-  pub served : AllReturned place.door → IsPlace place.board place.board_then place.door place.door_then place.counts place.counts_then most place.end
-  pub goes : PlaceGoes place.board place.board_then most
+  pub served : AllReturned place.door → IsPlace place.board place.board_then place.door place.door_then place.counts place.counts_then most place.end place.owns
+  pub goes : PlaceGoes place.board place.board_then most place.owns
   pub ends_by : EndsBy place.counts place.counts_then place.end
 
 -- the worse of two ends: `Failed`, before `OutOfMemory`, before `Done`
@@ -185,37 +192,77 @@ pub record ArePlaces (most : ℕ) (boards boards' : List BoardContent) (doors do
 
 -- ---- the doors of a survey's server
 
--- the board of a survey that nobody has changed yet
-abbrev pub first_board : Description → LeafTiles → BoardContent
-first_board conf opening = record { conf = conf; opening = opening; history = opening_state ∷ []; own = []; held = None }
+-- the board at a seat of a survey that nobody has changed yet
+abbrev pub first_board : BoardSeat → Description → LeafTiles → BoardContent
+first_board seat conf opening = record {
+  conf = conf;
+  opening = opening;
+  history = opening_state ∷ [];
+  owners = [];
+  seat = seat;
+  own = [];
+  held = None;
+}
+
+-- a door before and after, and the places of the events of each of its sessions, in order
+pub record DoorRun : Type 0 where
+  pub door : Option Connections
+  pub door_then : Option Connections
+  pub owns : List (List ℕ)
 
 -- a door of the server, of which so many connections were to be taken, where the server's places ended all in all so: those
 -- that it handed out and got back lead from the survey's first state to states with which these begin
-pub record ServesDoor (conf : Description) (opening : LeafTiles) (states : List SurveyState) (most : ℕ) (end : PlaceEnd) (door door' : Option Connections) : Type 0 where
+pub record ServesDoor (conf : Description) (opening : LeafTiles) (states : List SurveyState) (most : ℕ) (end : PlaceEnd) (served : DoorRun) : Type 0 where
   pub takens : List Connection
   pub backs : List Connection
   pub ends : List SessionEnd
   pub seen : List SurveyState
-  pub run : PlaceRun conf opening (opening_state ∷ []) takens backs ends seen
+  pub run : PlaceRun conf opening (opening_state ∷ []) takens backs ends served.owns seen
   pub begins : Begins seen states
-  pub handed : HandsOut door takens backs door'
+  pub handed : HandsOut served.door takens backs served.door_then
   pub few : length takens ≤ most
-  pub all : end ≡ Done → (length takens ≡ most) ⊎ NoneWaits door'
+  pub all : end ≡ Done → (length takens ≡ most) ⊎ NoneWaits served.door_then
   pub none_wanted : end ≡ Done → All (λ end. end ≢ WantOfMemory) ends
 
--- the doors of the server, each of which had got back all that it had handed out: one history holds what happened at all of them
+-- the places of the events of a session, by the place of its door and its own there
+abbrev pub own_at : List (List (List ℕ)) → ℕ → ℕ → List ℕ
+own_at owns door session = slice_index_or (slice_index_or owns door []) session []
+
+-- the state at a place is the event of some session of some door, and no other's
+pub record IsOneSessions (owns : List (List (List ℕ))) (place : ℕ) : Type 0 where
+  pub door : ℕ
+  pub session : ℕ
+  pub own : Contains (own_at owns door session) place
+  pub alone : (other another : ℕ) → Contains (own_at owns other another) place → (other ≡ door) × (another ≡ session)
+
+-- the doors of the server, each of which had got back all that it had handed out: one history holds what happened at all of
+-- them, and each of its states but the first is one session's event
 pub record ServesDoors (conf : Description) (opening : LeafTiles) (most : ℕ) (doors doors' : List (Option Connections)) (end : PlaceEnd) : Type 0 where
   pub states : List SurveyState
   pub legal : IsHistory opening states
-  pub each : AllZip (λ door door'. AllReturned door → ServesDoor conf opening states most end door door') doors doors'
+  pub runs : List DoorRun
+  pub doors_are : map (λ run. run.door) runs ≡ doors
+  pub doors_then : map (λ run. run.door_then) runs ≡ doors'
+  pub each : All (λ run. AllReturned run.door → ServesDoor conf opening states most end run) runs
+  pub owned : (place : ℕ) → 0 < place → place < length states → IsOneSessions (map (λ run. run.owns) runs) place
 
 -- the count of one of them rose
 abbrev pub SomeRises : List ℕ → List ℕ → Type 0
 SomeRises (old ∷ olds) (new ∷ news) = Rises old new ⊎ SomeRises olds news
 SomeRises olds news = ⊥
 
--- what each of the boards has seen is the beginning of the states of one history
+-- what each of the boards has seen is the beginning of the states of one history, each of which but the first has an owner; and
+-- the events of each board are all those of its seat
 pub record HaveAllMet (boards : List BoardContent) : Type 0 where
   pub states : List SurveyState
+  pub owners : List ℕ
   pub legal : (opening : LeafTiles) → All (λ board. board.opening ≡ opening) boards → IsHistory opening states
+  pub owned : length states ≡ length owners + 1
+  pub seated : All (λ board. All (λ owner. owner < board.seat.seats) owners) boards
   pub each : All (λ board. Begins board.history states) boards
+  pub own : All (λ board. board.own ≡ places_of board.seat.number owners) boards
+
+-- a board's events are all those of its seat among the states that the first board has seen, and both have the same seats
+pub record OwnsAmong (first board : BoardContent) : Type 0 where
+  pub own : board.own ≡ places_of board.seat.number first.owners
+  pub seats : board.seat.seats ≡ first.seat.seats

@@ -1,18 +1,20 @@
 //! The doors of a survey, at once.
 ghost use Rattle.std.specs.Prelude.{◌≡◌, ◌≢◌, ◌<◌, ◌≤◌, [], Ok, map, length, All, IfOk, OnOk};
+ghost use Rattle.std.specs.List.{AllZip, range_with_len};
 ghost use Rattle.shared_history.specs.Histories.{one_state};
 ghost use Rattle.survey_core.specs.State.{StateContent};
 ghost use Rattle.survey_core.specs.History.{Begins};
 ghost use Rattle.reader_pin.specs.Board.{Stays};
 ghost use Rattle.reader_pin.specs.Shared.{seated};
 ghost use Rattle.hips_place.specs.declared.place.PlaceEnd.TheVariants.{Done, Failed};
-ghost use Rattle.hips_place.specs.Place.{ServesDoors, SomeRises, HaveAllMet};
+ghost use Rattle.hips_place.specs.Place.{ServesDoors, SomeRises, HaveAllMet, OwnsAmong};
 
-use crate::place::PlaceEnd;
+use crate::place::{InConnection, PlaceEnd};
 use crate::places::serve_places;
 use log::Log;
 use reader_pin::{Board, Shared, Survey, SurveyBook, SurveySeat, open_shared};
 use shared_history::Naming;
+use shared_history::laws::{each_is_one_seats, places_are_own};
 use std::alloc::{AllocError, Global};
 use std::marker::Brand;
 use std::sync::Wait;
@@ -23,7 +25,7 @@ use survey_link::{Door, Gate};
 
 /// Opens the survey of which this is the first state, and serves its doors at once, each by a place of its own: up to `most`
 /// connections of each. When all places have ended, the first board meets each other one, so that one history holds what
-/// happened at all of them; then the survey is closed.
+/// happened at all of them, and each of its states but the first is one session's event; then the survey is closed.
 ///
 /// It answers `Failed` exactly where an accept failed; else `OutOfMemory` where a place ended so; else `Done`.
 ///
@@ -103,15 +105,20 @@ where
     G: Gate + Sync,
     requires same { length seats.items ≡ length doors.old }
     requires some { 0 < length doors.old }
-    ensures served { (state : StateContent) → All (λ seat. seat ≡ one_state state) seats.items → state.batches ≡ [] → state.tip ≡ 0
+    ensures served { (state : StateContent) → map (λ seat. seat.number) seats.items ≡ range_with_len 0 (length seats.items)
+        → All (λ seat. seat.seen ≡ one_state (length seats.items) state) seats.items → state.batches ≡ [] → state.tip ≡ 0
         → IfOk result (ServesDoors state.conf state.opening most (map D.connections doors.old) (map D.connections doors.new)) }
     ensures failed { result ≡ Ok Failed → SomeRises (map D.faults doors.old) (map D.faults doors.new) }
     ensures sound { IfOk result (λ end. end ≢ Failed → map D.faults doors.new ≡ map D.faults doors.old) }
     ensures done { result ≡ Ok Done → map D.wants doors.new ≡ map D.wants doors.old }
 {
+    places_are_own();
+    each_is_one_seats();
     let mut boards = boards_at(alloc, survey, seats)?;
     let boards = boards.as_mut_slice();
-    let end = serve_places(rt, alloc, 1, most, gate, boards, doors);
+    let end = serve_places::<&R, InConnection<&R>, Shared<'a, J>, D, G>(
+        &rt, alloc, 1, most, gate, boards, doors,
+    );
     meet_first(boards)?;
     Ok(end)
 }
@@ -131,13 +138,15 @@ fn boards_at<'a, J: Naming>(
     Ok(boards)
 }
 
-// The first board meets each other one.
+// The first board meets each other one, and then each other one goes on to what the first one has seen.
 fn meet_first<'a, J: Naming>(boards: &mut [Shared<'a, J>]) -> Result<(), AllocError>
     requires { 0 < length boards.old }
     ensures { OnOk result (HaveAllMet boards.old) }
 {
     let (first, others) = boards.split_at_mut(1);
-    meet_others(&mut first[0], others)
+    let first = &mut first[0];
+    meet_others(first, others)?;
+    follow_first(first, others)
 }
 
 // A board meets each of these.
@@ -146,11 +155,25 @@ fn meet_others<'a, J: Naming>(
     others: &mut [Shared<'a, J>],
 ) -> Result<(), AllocError>
     ensures stays { OnOk result (Stays first.old first.new) }
+    ensures others { OnOk result (AllZip Stays others.old others.new) }
     ensures met { OnOk result (All (λ board. Begins board.history first.new.history) others.old) }
 {
     let _legal = first.last();
     for other in others {
         first.meet(other)?;
+    }
+    Ok(())
+}
+
+// Each of these goes on to what the first board has seen. The events of each are then those of its seat.
+fn follow_first<'a, J: Naming>(
+    first: &Shared<'a, J>,
+    others: &mut [Shared<'a, J>],
+) -> Result<(), AllocError>
+    ensures { OnOk result (All (OwnsAmong first.now) others.old) }
+{
+    for other in others {
+        other.follow(first)?;
     }
     Ok(())
 }

@@ -9,5 +9,5 @@ mod place;
 mod places;
 
 pub use doors::serve_doors;
-pub use place::{PlaceEnd, serve_place};
+pub use place::{InConnection, NamesConnections, PlaceEnd, serve_place};
 pub use places::serve_places;

@@ -1,20 +1,39 @@
 //! One place of the server: the connections of one door, one after another.
-ghost use Rattle.std.specs.Prelude.{◌≡◌, ◌≢◌, ◌≤◌, ◌⊎◌, true, false, IfOk, IfSome, IsSome, IsErrOf, MatchOption, OnOk, OnErr, if◌then◌else◌};
+ghost use Rattle.std.specs.Prelude.{◌≡◌, ◌≢◌, ℕ, List, ◌++◌, ◌≤◌, ◌⊎◌, true, false, IfOk, IfSome, IsSome, IsErrOf, MatchOption, OnOk, OnErr, if◌then◌else◌};
 ghost use Rattle.survey_link.specs.Link.{Rises};
 ghost use Rattle.survey_link.specs.Door.{NoneWaits};
 ghost use Rattle.hips_http.specs.SessionRun.{Goes, room_of};
-ghost use Rattle.hips_place.specs.Place.{AllReturned, EndsBy, IsPlace, IsServedOnce, PlaceGoes, TakesOne, GivesBack, counts_of, worse};
+ghost use Rattle.hips_place.specs.Place.{EndsBy, IsServedOnce, ServesPlace, TakesOne, GivesBack, counts_of, worse};
 
 use hips_http::{SessionEnd, frame_for, session_in};
 use http_frame::Frame;
-use log::{Log, debug, debug_span, info};
+use log::kv::With;
+use log::{Level, Log, Span, debug, info, log_enabled};
 use parent_rule::Steps;
-use reader_pin::Board;
+use reader_pin::ChangedWith;
 use std::alloc::Global;
-use std::sync::Wait;
 use std::thread::Threads;
 use std::time::Clock;
 use survey_link::{Door, DoorFault, Gate, Sink, Source};
+
+/// A runtime by which a connection is served: what is said by it names the connection's place and its number there.
+pub type InConnection<R> = Span<'static, R, With<'static, With<'static, (), usize>, u32>>;
+
+/// A runtime that has one of the type `N` for each connection.
+pub trait NamesConnections<N> {
+    /// The runtime by which the connection of that number at that place is served.
+    fn within(&self, place: usize, number: u32) -> N;
+}
+
+impl<R: Log + Copy> NamesConnections<InConnection<R>> for R {
+    // It names the connection where requests are said.
+    fn within(&self, place: usize, number: u32) -> InConnection<R> {
+        Span::enter(*self, "connection")
+            .shown_if(log_enabled!(*self; Level::Debug))
+            .with("place", place)
+            .with("number", number)
+    }
+}
 
 /// How a place ended.
 #[derive(Clone, Copy, Debug, PartialEq, Eq)]
@@ -44,9 +63,18 @@ impl PlaceEnd {
 /// it back. It keeps one frame for all; a connection for which there was no memory for one ends for want of it, with nothing
 /// read or written, and the next one is served where there is. `place` is the place's number, from 1 on, which only the log gets.
 ///
+/// It waits for nobody but the door and its connections where the board doesn't. A runtime that can't be copied is given as a
+/// reference to it.
+///
 /// `Failed` exactly where an accept fails, also after a session that ended for want of memory. `OutOfMemory` where an accept
 /// answers it, or a session ended so and no accept failed; such a session doesn't end the place.
-pub fn serve_place<R: Threads + Wait + Sync + Clock + Log, B: Board, D: Door, G: Gate + Sync>(
+pub fn serve_place<
+    R: Log + NamesConnections<N>,
+    N: Threads + Sync + Clock + Log + Drop,
+    B: ChangedWith<N>,
+    D: Door,
+    G: Gate + Sync,
+>(
     rt: &R,
     alloc: Global,
     place: usize,
@@ -56,10 +84,8 @@ pub fn serve_place<R: Threads + Wait + Sync + Clock + Log, B: Board, D: Door, G:
     gate: &G,
     steps: &mut Steps,
 ) -> PlaceEnd
-    ensures place { AllReturned (D.connections door.old)
-        → IsPlace (B.content board.old) (B.content board.new) (D.connections door.old) (D.connections door.new)
+    ensures place { ServesPlace (B.content board.old) (B.content board.new) (D.connections door.old) (D.connections door.new)
         (counts_of (D.faults door.old) (D.wants door.old)) (counts_of (D.faults door.new) (D.wants door.new)) most result }
-    ensures goes { PlaceGoes (B.content board.old) (B.content board.new) most }
     ensures ends_by { EndsBy (counts_of (D.faults door.old) (D.wants door.old)) (counts_of (D.faults door.new) (D.wants door.new)) result }
     ensures steps_never_fall { steps.old ≤ steps.new }
 {
@@ -71,7 +97,7 @@ pub fn serve_place<R: Threads + Wait + Sync + Clock + Log, B: Board, D: Door, G:
             place,
             number: count + 1,
         };
-        match serve_next(rt, alloc, name, &mut frame, board, door, gate, steps) {
+        match serve_next::<R, N, B, D, G>(rt, alloc, name, &mut frame, board, door, gate, steps) {
             Ok(Some(end)) => wanted = is_wanted(wanted, end),
             Ok(None) => return say_ended(rt, end_of(wanted), count),
             Err(fault) => return say_ended(rt, end_by(fault), count),
@@ -132,7 +158,13 @@ fn end_by(fault: DoorFault) -> PlaceEnd
 
 // Takes the next connection, serves it and gives it back; how it ended, or `None` where none is left. Where there is no frame,
 // one is asked for before.
-fn serve_next<R: Threads + Wait + Sync + Clock + Log, B: Board, D: Door, G: Gate + Sync>(
+fn serve_next<
+    R: Log + NamesConnections<N>,
+    N: Threads + Sync + Clock + Log + Drop,
+    B: ChangedWith<N>,
+    D: Door,
+    G: Gate + Sync,
+>(
     rt: &R,
     alloc: Global,
     name: ConnectionName,
@@ -163,7 +195,7 @@ fn serve_next<R: Threads + Wait + Sync + Clock + Log, B: Board, D: Door, G: Gate
     match door.accept()? {
         None => Ok(None),
         Some(connection) => {
-            let end = serve_connection(
+            let end = serve_connection::<R, N, B, D, G>(
                 rt, alloc, name, frame, board, door, connection, gate, steps,
             );
             Ok(Some(end))
@@ -172,7 +204,13 @@ fn serve_next<R: Threads + Wait + Sync + Clock + Log, B: Board, D: Door, G: Gate
 }
 
 // Serves a connection and gives it back; how it ended. What is said meanwhile names it, where requests are said.
-fn serve_connection<R: Threads + Wait + Sync + Clock + Log, B: Board, D: Door, G: Gate + Sync>(
+fn serve_connection<
+    R: Log + NamesConnections<N>,
+    N: Threads + Sync + Clock + Log + Drop,
+    B: ChangedWith<N>,
+    D: Door,
+    G: Gate + Sync,
+>(
     rt: &R,
     alloc: Global,
     name: ConnectionName,
@@ -199,7 +237,7 @@ fn serve_connection<R: Threads + Wait + Sync + Clock + Log, B: Board, D: Door, G
     ensures frame_was { result ≢ SessionEnd.OutOfMemory → IsSome frame.new }
     ensures steps_never_fall { steps.old ≤ steps.new }
 {
-    let rt = debug_span!(rt; "connection", place = name.place, number = name.number);
+    let rt: N = rt.within(name.place, name.number);
     let (mut input, mut output) = connection;
     let end = serve(
         &rt,
@@ -217,7 +255,7 @@ fn serve_connection<R: Threads + Wait + Sync + Clock + Log, B: Board, D: Door, G
 }
 
 // Serves a connection over the frame; how it ended. Without a frame it ends for want of memory.
-fn serve<R: Threads + Wait + Sync + Clock + Log, B: Board, S: Source, K: Sink, G: Gate + Sync>(
+fn serve<R: Threads + Sync + Clock + Log, B: ChangedWith<R>, S: Source, K: Sink, G: Gate + Sync>(
     rt: &R,
     alloc: Global,
     frame: &mut Option<Frame>,
@@ -229,7 +267,8 @@ fn serve<R: Threads + Wait + Sync + Clock + Log, B: Board, S: Source, K: Sink, G
 ) -> SessionEnd
     requires room { IfSome frame.old (λ frame. frame.room ≡ room_of (B.content board.old).conf) }
     ensures room { IfSome frame.new (λ frame. frame.room ≡ room_of (B.content board.new).conf) }
-    ensures served { IsServedOnce (B.content board.new).conf (B.content board.new).opening (B.content board.old).history
+    ensures served { (own : List ℕ) → (B.content board.new).own ≡ (B.content board.old).own ++ own
+        → IsServedOnce (B.content board.new).conf (B.content board.new).opening (B.content board.old).history
         (record {
           unread = S.left source.old;
           written = K.held sink.old;
@@ -244,7 +283,7 @@ fn serve<R: Threads + Wait + Sync + Clock + Log, B: Board, S: Source, K: Sink, G
           source_faults = S.faults source.new;
           sink_faults = K.faults sink.new;
         })
-        (B.content board.new).history result }
+        (B.content board.new).history result own }
     ensures goes { Goes (B.content board.old) (B.content board.new) }
     ensures frame_stays { IsSome frame.old → IsSome frame.new × (result ≢ SessionEnd.OutOfMemory) }
     ensures frame_was { result ≢ SessionEnd.OutOfMemory → IsSome frame.new }

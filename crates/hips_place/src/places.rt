@@ -3,12 +3,11 @@ ghost use Rattle.std.specs.Prelude.{◌≡◌, ◌<◌, ◌++◌, map, length};
 ghost use denote.Param.Send.{IsSync, IsSend};
 ghost use Rattle.hips_place.specs.Place.{ArePlaces};
 
-use crate::place::{PlaceEnd, serve_place};
+use crate::place::{NamesConnections, PlaceEnd, serve_place};
 use log::Log;
 use parent_rule::Steps;
-use reader_pin::Board;
+use reader_pin::ChangedWith;
 use std::alloc::Global;
-use std::sync::Wait;
 use std::thread::{Threads, join_mut};
 use std::time::Clock;
 use survey_link::{Door, Gate};
@@ -21,8 +20,9 @@ use survey_link::{Door, Gate};
 /// It answers `Failed` where a place ended so; else `OutOfMemory` where one did; else `Done`.
 #[cycle(places)]
 pub fn serve_places<
-    R: Threads + Wait + Sync + Clock + Log,
-    B: Board + Send,
+    R: Threads + Sync + Log + NamesConnections<N>,
+    N: Threads + Sync + Clock + Log + Drop,
+    B: ChangedWith<N> + Send,
     D: Door + Send,
     G: Gate + Sync,
 >(
@@ -42,12 +42,12 @@ where
         (map D.faults doors.old) (map D.faults doors.new) (map D.wants doors.old) (map D.wants doors.new) result }
 {
     if boards.len() < 2 {
-        return serve_first(rt, alloc, first, most, gate, boards, doors);
+        return serve_first::<R, N, B, D, G>(rt, alloc, first, most, gate, boards, doors);
     }
     let middle = boards.len() / 2;
     let (near_boards, far_boards) = boards.split_at_mut(middle);
     let (near_doors, far_doors) = doors.split_at_mut(middle);
-    serve_both(
+    serve_both::<R, N, B, D, G>(
         rt,
         alloc,
         Halves { first, middle },
@@ -82,8 +82,9 @@ impl Halves {
 // Serves the places of two parts of the server at once.
 #[cycle(places)]
 fn serve_both<
-    R: Threads + Wait + Sync + Clock + Log,
-    B: Board + Send,
+    R: Threads + Sync + Log + NamesConnections<N>,
+    N: Threads + Sync + Clock + Log + Drop,
+    B: ChangedWith<N> + Send,
     D: Door + Send,
     G: Gate + Sync,
 >(
@@ -117,7 +118,7 @@ where
                 (map D.faults near_doors.entry.now) (map D.faults near_doors.exit.now)
                 (map D.wants near_doors.entry.now) (map D.wants near_doors.exit.now) result }
         {
-            serve_places(
+            serve_places::<R, N, B, D, G>(
                 rt,
                 alloc,
                 halves.near(),
@@ -133,13 +134,29 @@ where
                 (map D.connections far_doors.entry.now) (map D.connections far_doors.exit.now)
                 (map D.faults far_doors.entry.now) (map D.faults far_doors.exit.now)
                 (map D.wants far_doors.entry.now) (map D.wants far_doors.exit.now) result }
-        { serve_places(rt, alloc, halves.far(), most, gate, far_boards, far_doors) },
+        {
+            serve_places::<R, N, B, D, G>(
+                rt,
+                alloc,
+                halves.far(),
+                most,
+                gate,
+                far_boards,
+                far_doors,
+            )
+        },
     );
     near.worse(far)
 }
 
 // Serves the one place, where there is one.
-fn serve_first<R: Threads + Wait + Sync + Clock + Log, B: Board, D: Door, G: Gate + Sync>(
+fn serve_first<
+    R: Log + NamesConnections<N>,
+    N: Threads + Sync + Clock + Log + Drop,
+    B: ChangedWith<N>,
+    D: Door,
+    G: Gate + Sync,
+>(
     rt: &R,
     alloc: Global,
     place: usize,
@@ -157,7 +174,7 @@ fn serve_first<R: Threads + Wait + Sync + Clock + Log, B: Board, D: Door, G: Gat
         return PlaceEnd::Done;
     }
     let mut steps = Steps::new();
-    serve_place(
+    serve_place::<R, N, B, D, G>(
         rt,
         alloc,
         place,

@@ -9,7 +9,7 @@ use Rattle.edit_journal.specs.Edit.{LeafEdit}
 use Rattle.edit_journal.specs.Batches.{edits_of}
 use Rattle.survey_core.specs.History.{SurveyState, IsHistory, Begins}
 use Rattle.survey_core.specs.HistoryLaws.{history_some, history_sound, begins_length}
-use Rattle.reader_pin.specs.Board.{BoardContent, Stays, Happens, Publishes, last_of, last_seen, edit_count}
+use Rattle.reader_pin.specs.Board.{BoardSeat, BoardContent, IsOwned, Stays, Happens, Publishes, last_of, last_seen, edit_count}
 use Rattle.reader_pin.specs.Solo.{IsAlone}
 use Rattle.reader_pin.proofs.SoloLemmas.{last_of-push, last_there}
 
@@ -21,30 +21,33 @@ same-length xs ys begins e =
     begins.is ∙ (ap (λ (rest : List _). xs ++ rest) none ∙ append-nil xs)
 
 -- boards are the same where their parts are
-board_of : Description → LeafTiles → List SurveyState → List ℕ → Option SurveyState → BoardContent
-board_of conf opening history own held = record { conf = conf; opening = opening; history = history; own = own; held = held }
+board_of : Description → LeafTiles → List SurveyState → List ℕ → BoardSeat → List ℕ → Option SurveyState → BoardContent
+board_of conf opening history owners seat own held = record { conf = conf; opening = opening; history = history; owners = owners; seat = seat; own = own; held = held }
 
-same-content : (old new : BoardContent) → new.conf ≡ old.conf → new.opening ≡ old.opening → new.history ≡ old.history → new.own ≡ old.own → new.held ≡ old.held → new ≡ old
+same-content : (old new : BoardContent) → new.conf ≡ old.conf → new.opening ≡ old.opening → new.history ≡ old.history → new.owners ≡ old.owners → new.seat ≡ old.seat → new.own ≡ old.own → new.held ≡ old.held → new ≡ old
 unfolding board_of
-same-content old new conf opening history own held =
-    ap (λ (x : Description). board_of x new.opening new.history new.own new.held) conf
-    ∙ (ap (λ (x : LeafTiles). board_of old.conf x new.history new.own new.held) opening
-    ∙ (ap (λ (x : List SurveyState). board_of old.conf old.opening x new.own new.held) history
-    ∙ (ap (λ (x : List ℕ). board_of old.conf old.opening old.history x new.held) own
-    ∙ ap (board_of old.conf old.opening old.history old.own) held)))
+same-content old new conf opening history owners seat own held =
+    ap (λ (x : Description). board_of x new.opening new.history new.owners new.seat new.own new.held) conf
+    ∙ (ap (λ (x : LeafTiles). board_of old.conf x new.history new.owners new.seat new.own new.held) opening
+    ∙ (ap (λ (x : List SurveyState). board_of old.conf old.opening x new.owners new.seat new.own new.held) history
+    ∙ (ap (λ (x : List ℕ). board_of old.conf old.opening old.history x new.seat new.own new.held) owners
+    ∙ (ap (λ (x : BoardSeat). board_of old.conf old.opening old.history old.owners x new.own new.held) seat
+    ∙ (ap (λ (x : List ℕ). board_of old.conf old.opening old.history old.owners old.seat x new.held) own
+    ∙ ap (board_of old.conf old.opening old.history old.owners old.seat old.own) held)))))
 
 -- how many steps it made
 steps-alone : (board : BoardContent) → IsAlone board → length board.own ≡ length board.history - 1
 steps-alone board alone = ap length alone ∙ length-range_with_len 1 (length board.history - 1)
 
-pub stays-alone : (old new : BoardContent) → IsHistory old.opening old.history → IsAlone old → IsAlone new → Stays old new → new ≡ old
-stays-alone old new legal before after stays =
+pub stays-alone : (old new : BoardContent) → IsHistory old.opening old.history → IsOwned old → IsAlone old → IsAlone new → Stays old new → new ≡ old
+stays-alone old new legal owned before after stays =
     let some : 0 < length old.history = history_some old.opening old.history legal in
     let grown : length old.history ≤ length new.history = begins_length old.history new.history stays.earlier in
     let own : length new.own ≡ length old.own = ap length stays.own in
     let count : length old.history ≡ length new.history = omega (arith, steps-alone old before, steps-alone new after, own) in
     let history : new.history ≡ old.history = same-length old.history new.history stays.earlier count in
-    same-content old new stays.conf stays.opening history stays.own stays.held
+    let owners : new.owners ≡ old.owners = same-length old.owners new.owners stays.seat.owners (omega (arith, count, owned.each, stays.seat.owned.each)) in
+    same-content old new stays.conf stays.opening history owners stays.seat.seat stays.own stays.held
 
 pub happens-alone : (IsEvent : SurveyState → SurveyState → Type 0) (old new : BoardContent) → IsHistory old.opening old.history → IsAlone old → IsAlone new →
     (event : Happens IsEvent old new) → event.before ≡ old.history

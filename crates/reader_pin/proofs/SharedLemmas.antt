@@ -20,6 +20,7 @@ use Rattle.reader_pin.specs.declared.answer.BoardBatch.TheVariants.{Fault as Fau
 use Rattle.reader_pin.specs.declared.answer.Published.{Published}
 use Rattle.reader_pin.specs.declared.answer.Published.TheVariants.{New, Already}
 use Rattle.reader_pin.specs.Board.{BoardContent, Stays, Happens, InOne, Publishes, last_of, last_seen, state_in, edit_count, publish_work}
+use Rattle.reader_pin.specs.SeatLaws.{keeps_trans}
 use Rattle.reader_pin.specs.Build.{build_work}
 use Rattle.reader_pin.specs.Answers.{Accepts, AcceptsAll, IsRefused, AreRefused, TellsRefusal, TellsBatchRefusal, TellsPublished}
 use Rattle.reader_pin.proofs.SoloLemmas.{last_there}
@@ -30,6 +31,7 @@ stays_stays old mid new one two = record {
   opening = two.opening ∙ one.opening;
   legal = two.legal;
   earlier = begins_trans old.history mid.history new.history one.earlier two.earlier;
+  seat = keeps_trans old mid new one.seat two.seat;
   own = two.own ∙ one.own;
   held = two.held ∙ one.held;
 }
@@ -45,6 +47,7 @@ stays_happens IsOne IsOther old mid new stays also happens = record {
   earlier = begins_trans old.history mid.history happens.before stays.earlier happens.earlier;
   event = also (last_of happens.before) happens.state happens.event;
   history = happens.history;
+  seat = keeps_trans old mid new stays.seat happens.seat;
   own = happens.own ∙ ap (λ (own : List ℕ). own ++ length happens.before ∷ []) stays.own;
   held = happens.held ∙ stays.held;
 }

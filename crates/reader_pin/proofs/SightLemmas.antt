@@ -4,13 +4,14 @@ use Rattle.std.specs.Prelude.{slice_get, option_map, IfSome}
 use Rattle.std.proofs.lemmas.List.{map-append, length-map}
 use Rattle.std.proofs.lemmas.Option.{slice_get-map, get_or_from_slice_get, slice_get_within}
 use mathlib.Core.List.{IsPrefix}
-use Rattle.shared_history.specs.Histories.{SeenHistory, IsSeenHistory}
+use Rattle.shared_history.specs.Histories.{SeenHistory, places_of, IsSeenHistory, GoesOn}
 use Rattle.survey_conf.specs.Description.{Description}
 use Rattle.edit_journal.specs.Leaves.{LeafTiles}
 use Rattle.survey_core.specs.History.{SurveyState, opening_state, IsStep, IsHistory, Begins}
 use Rattle.survey_core.specs.HistoryLaws.{begins_itself, slice_get-append, history_more}
 use Rattle.survey_core.specs.State.{StateContent, survey_state}
-use Rattle.reader_pin.specs.Board.{BoardContent, Stays, last_of, last_seen, state_in, holding_last}
+use Rattle.reader_pin.specs.Board.{BoardSeat, BoardContent, IsOwned, KeepsSeat, Stays, last_of, last_seen, state_in, holding_last}
+use Rattle.reader_pin.specs.SeatLaws.{keeps_itself}
 use Rattle.reader_pin.specs.Shared.{IsOneSurvey, IsSight, HasSeen, shared_content}
 
 abbrev Seen : Type 0
@@ -36,8 +37,8 @@ unfolding last_of
 seen_last seen is = get_or_from_slice_get (map survey_state seen.states) (length (map survey_state seen.states) - 1) (survey_state seen.last) opening_state (last_there seen is)
 
 -- the last state as its board tells it
-pub state_at : (seen : Seen) (own : List ℕ) (held : Option StateContent) → IsSeen seen → state_in (shared_content seen own held) (last_seen (shared_content seen own held)) ≡ seen.last
-state_at seen own held is = ap (λ (s : SurveyState). let state : StateContent = record { conf = seen.last.conf; opening = seen.last.opening; batches = s.batches; tip = s.tip } in state) (seen_last seen is)
+pub state_at : (number : ℕ) (seen : Seen) (own : List ℕ) (held : Option StateContent) → IsSeen seen → state_in (shared_content number seen own held) (last_seen (shared_content number seen own held)) ≡ seen.last
+state_at number seen own held is = ap (λ (s : SurveyState). let state : StateContent = record { conf = seen.last.conf; opening = seen.last.opening; batches = s.batches; tip = s.tip } in state) (seen_last seen is)
 
 -- ---- going on
 
@@ -53,28 +54,44 @@ later_same p q is_p is_q prefix =
 begins-map : (xs ys : List StateContent) → IsPrefix xs ys → Begins (map survey_state xs) (map survey_state ys)
 begins-map xs ys prefix = record { rest = map survey_state prefix.0; is = ap (map survey_state) (sym prefix.1) ∙ map-append survey_state xs prefix.0 }
 
-pub moved_stays : (p q : Seen) (own : List ℕ) (held held' : Option StateContent) → IsSeen p → IsSeen q → IsPrefix p.states q.states → held' ≡ held → Stays (shared_content p own held) (shared_content q own held')
-moved_stays p q own held held' is_p is_q prefix same = record {
-  conf = sym (later_same p q is_p is_q prefix).0;
-  opening = sym (later_same p q is_p is_q prefix).1;
+-- its own events are those of its seat
+pub owned_at : (number : ℕ) (seen : Seen) (own : List ℕ) (held : Option StateContent) → IsSeen seen → own ≡ places_of number seen.owners → IsOwned (shared_content number seen own held)
+owned_at number seen own held is mine = record { each = length-map seen.states survey_state ∙ is.owned; seated = is.seated; own = mine }
+
+pub moved_stays : (number : ℕ) (p q : Seen) (own : List ℕ) (held held' : Option StateContent) → IsSeen p → IsSeen q → own ≡ places_of number p.owners → GoesOn number p q → held' ≡ held
+    → Stays (shared_content number p own held) (shared_content number q own held')
+moved_stays number p q own held held' is_p is_q mine goes same = record {
+  conf = sym (later_same p q is_p is_q goes.begins).0;
+  opening = sym (later_same p q is_p is_q goes.begins).1;
   legal = seen_legal q is_q;
-  earlier = begins-map p.states q.states prefix;
+  earlier = begins-map p.states q.states goes.begins;
+  seat = record {
+    seat = ap (λ (n : ℕ). let seat : BoardSeat = record { number = number; seats = n } in seat) goes.seats;
+    owners = (let begins : Begins p.owners q.owners = record { rest = goes.owners.0; is = sym goes.owners.1 } in begins);
+    owned = owned_at number q own held' is_q (mine ∙ sym goes.own);
+  };
   own = refl;
   held = ap (option_map survey_state) same;
 }
 
-pub same_stays : (board : BoardContent) → IsHistory board.opening board.history → Stays board board
-same_stays board legal = record { conf = refl; opening = refl; legal = legal; earlier = begins_itself board.history; own = refl; held = refl }
+pub same_stays : (board : BoardContent) → IsHistory board.opening board.history → IsOwned board → Stays board board
+same_stays board legal owned = record { conf = refl; opening = refl; legal = legal; earlier = begins_itself board.history; seat = keeps_itself board owned; own = refl; held = refl }
 
 held_moves : (p q : Seen) (held : Option StateContent) → p.last.conf ≡ q.last.conf → p.last.opening ≡ q.last.opening →
     IfSome held (λ state. (state.conf ≡ p.last.conf) × (state.opening ≡ p.last.opening)) → IfSome held (λ state. (state.conf ≡ q.last.conf) × (state.opening ≡ q.last.opening))
 held_moves p q None conf opening is = tt
 held_moves p q (Some state) conf opening is = (is.0 ∙ conf, is.1 ∙ opening)
 
-pub moved_sight : (p q : Seen) (held held' : Option StateContent) → IsSight p held → IsSeen q → IsPrefix p.states q.states → held' ≡ held → IsSight q held'
-moved_sight p q held held' is is_q prefix same =
-    let both = later_same p q is.seen is_q prefix in
-    subst (IsSight q) (sym same) (let sight : IsSight q held = record { seen = is_q; held = held_moves p q held both.0 both.1 is.held } in sight)
+pub moved_sight : (number : ℕ) (p q : Seen) (own : List ℕ) (held held' : Option StateContent) → IsSight number p own held → IsSeen q → GoesOn number p q → held' ≡ held → IsSight number q own held'
+moved_sight number p q own held held' is is_q goes same =
+    let both = later_same p q is.seen is_q goes.begins in
+    subst (IsSight number q own) (sym same) (
+    let sight : IsSight number q own held = record {
+      seen = is_q;
+      seated = subst (λ (n : ℕ). number < n) (sym goes.seats) is.seated;
+      own = is.own ∙ sym goes.own;
+      held = held_moves p q held both.0 both.1 is.held;
+    } in sight)
 
 -- ---- an event
 
@@ -105,10 +122,18 @@ survey_more seen next is conf opening step =
 
 -- ---- what is held
 
-pub holding : (seen : Seen) (own : List ℕ) (held : Option StateContent) → IsSeen seen → shared_content seen own (Some seen.last) ≡ holding_last (shared_content seen own held)
-holding seen own held is =
+pub holding : (number : ℕ) (seen : Seen) (own : List ℕ) (held : Option StateContent) → IsSeen seen → shared_content number seen own (Some seen.last) ≡ holding_last (shared_content number seen own held)
+holding number seen own held is =
     ap (λ (s : SurveyState).
-    let board : BoardContent = record { conf = seen.last.conf; opening = seen.last.opening; history = map survey_state seen.states; own = own; held = Some s } in board)
+    let board : BoardContent = record {
+      conf = seen.last.conf;
+      opening = seen.last.opening;
+      history = map survey_state seen.states;
+      owners = seen.owners;
+      seat = record { number = number; seats = seen.seats };
+      own = own;
+      held = Some s;
+    } in board)
     (sym (seen_last seen is))
 
 -- ---- the first state

@@ -1,9 +1,10 @@
 -- What a `Solo` keeps: the states that its marks stand for stay the same while batches come, and each event adds one.
-use Rattle.std.proofs.Common.{◌≡◌, ℕ, ◌+◌, ◌-◌, ◌<◌, ◌≤◌, true, false, nat_le, List, [], ◌∷◌, ◌++◌, length, get_or, Some, refl, sym, ap, ◌∙◌, subst, arith, length-append}
-use Rattle.std.specs.Prelude.{All, slice_get}
+use Rattle.std.proofs.Common.{◌≡◌, ℕ, zero, suc, ◌+◌, ◌-◌, ◌<◌, ◌≤◌, true, false, nat_le, List, [], ◌∷◌, ◌++◌, length, get_or, Some, refl, sym, ap, ◌∙◌, subst, arith, length-append}
+use Rattle.std.specs.Prelude.{All, slice_get, replicate}
+use Rattle.shared_history.specs.Histories.{places_from, places_of}
 use Rattle.std.specs.List.{range_with_len}
 use Rattle.std.proofs.lemmas.Bool.Decides.{nat_tests}
-use Rattle.std.proofs.lemmas.List.{map-id, map-append, length-map, get_or-append_right}
+use Rattle.std.proofs.lemmas.List.{map-id, map-append, length-map, get_or-append_right, get_or-replicate, length-replicate, replicate-append-replicate}
 use Rattle.std.proofs.lemmas.List.Elements.{All-head, All-tail, All-push}
 use Rattle.std.proofs.lemmas.List.FromFn.{map-range_with_len_more}
 use Rattle.std.proofs.lemmas.Option.{slice_get-get_or}
@@ -21,7 +22,8 @@ use Rattle.reader_pin.specs.declared.answer.BoardRefusal.{BoardRefusal}
 use Rattle.reader_pin.specs.declared.answer.BoardRefusal.TheVariants.{Fault, OutOfMemory}
 use Rattle.reader_pin.specs.declared.answer.BoardBatch.{BoardBatch}
 use Rattle.reader_pin.specs.declared.answer.BoardBatch.TheVariants.{Fault as Faulty, OutOfMemory as NoMemory}
-use Rattle.reader_pin.specs.Board.{BoardContent, Stays, Happens, InOne, Publishes, state_in, last_of, last_seen, publish_work}
+use Rattle.reader_pin.specs.Board.{BoardContent, IsOwned, Stays, Happens, InOne, Publishes, state_in, last_of, last_seen, publish_work}
+use Rattle.reader_pin.specs.SeatLaws.{keeps_itself, keeps_event}
 use Rattle.reader_pin.specs.Build.{build_work}
 use Rattle.reader_pin.specs.Answers.{Accepts, AcceptsAll, IsRefused, AreRefused, TellsRefusal, TellsBatchRefusal}
 use Rattle.reader_pin.specs.Next.{FollowsEdit, FollowsBatch, TellsRefusedEdit, TellsRefusedBatch}
@@ -168,7 +170,10 @@ content_goes_on last next marks held after is state conf opening step kept =
     let more : length (marks ++ mark_of next ∷ []) ≡ length marks + 1 = length-append marks (mark_of next ∷ []) in
     let own : range_with_len 1 (length (marks ++ mark_of next ∷ []) - 1) ≡ range_with_len 1 (length marks - 1) ++ length states ∷ [] =
     ap (λ (n : ℕ). range_with_len 1 (n - 1)) more ∙ (places-more (length marks) (omega (arith, count)) ∙ ap (λ (p : ℕ). range_with_len 1 (length marks - 1) ++ p ∷ []) (sym count)) in
-    rw (history, own, kept, conf, opening) refl
+    let before : length (marks ++ mark_of next ∷ []) - 1 ≡ length marks - 1 + 1 = omega (arith, more, count, some) in
+    let owners : replicate {A = ℕ} (length (marks ++ mark_of next ∷ []) - 1) 0 ≡ replicate {A = ℕ} (length marks - 1) 0 ++ 0 ∷ [] =
+    ap (λ (n : ℕ). replicate {A = ℕ} n 0) before ∙ sym (replicate-append-replicate {A = ℕ} (length marks - 1) 1 0) in
+    rw (history, own, owners, kept, conf, opening) refl
 
 -- what is held stays
 held-behind : (last next : StateContent) (held : Held StateContent) → held_of next (held_behind last held) ≡ held_of last held
@@ -226,8 +231,8 @@ opened-content state first = rw (opened-states state first) refl
 
 -- an event of its own
 pub happens : (IsEvent : SurveyState → SurveyState → Type 0) (old new : BoardContent) (state : SurveyState) → new ≡ after_event state old → IsHistory new.opening new.history →
-    IsEvent (last_seen old) state → Happens IsEvent old new
-happens IsEvent old new state is legal event = record {
+    IsOwned new → IsEvent (last_seen old) state → Happens IsEvent old new
+happens IsEvent old new state is legal owned event = record {
   conf = ap (λ (b : BoardContent). b.conf) is;
   opening = ap (λ (b : BoardContent). b.opening) is;
   legal = legal;
@@ -236,17 +241,36 @@ happens IsEvent old new state is legal event = record {
   earlier = begins_itself old.history;
   event = event;
   history = ap (λ (b : BoardContent). b.history) is;
+  seat = keeps_event old new state is owned;
   own = ap (λ (b : BoardContent). b.own) is;
   held = ap (λ (b : BoardContent). b.held) is;
 }
 
 -- no event
-pub stays : (old new : BoardContent) → new ≡ old → IsHistory old.opening old.history → Stays old new
-stays old new is legal = subst (λ (b : BoardContent). Stays old b) (sym is) (let same : Stays old old = record { conf = refl; opening = refl; legal = legal; earlier = begins_itself old.history; own = refl; held = refl } in same)
+pub stays : (old new : BoardContent) → new ≡ old → IsHistory old.opening old.history → IsOwned old → Stays old new
+stays old new is legal owned = subst (λ (b : BoardContent). Stays old b) (sym is) (
+    let same : Stays old old = record { conf = refl; opening = refl; legal = legal; earlier = begins_itself old.history; seat = keeps_itself old owned; own = refl; held = refl } in same)
 
 -- every step was its own event
 pub alone : (last : StateContent) (marks : List Mark) (held : Held StateContent) (board : BoardContent) → solo_content last marks held ≡ board → IsAlone board
-alone last marks held board is = subst IsAlone is (ap (λ (n : ℕ). range_with_len 1 (n - 1)) (sym (length-all_marked last.batches marks)))
+alone last marks held board is =
+    subst IsAlone is (ap (λ (n : ℕ). range_with_len 1 (n - 1)) (sym (length-all_marked last.batches marks)))
+
+-- all places are those of the only seat
+places-alone : (place n : ℕ) → places_from place 0 (replicate {A = ℕ} n 0) ≡ range_with_len place n
+places-alone place zero = refl
+places-alone place (suc n) = ap (λ (places : List ℕ). place ∷ places) (places-alone (place + 1) n)
+
+pub owned : (last : StateContent) (marks : List Mark) (held : Held StateContent) (board : BoardContent) → IsSolo last marks held → solo_content last marks held ≡ board → IsOwned board
+owned last marks held board solo is =
+    let some : 0 < length (all_marked last.batches marks) = history_some last.opening (all_marked last.batches marks) solo.legal in
+    let count : length (all_marked last.batches marks) ≡ length marks = length-all_marked last.batches marks in
+    let own : IsOwned (solo_content last marks held) = record {
+      each = omega (arith, some, count, length-replicate {A = ℕ} (length marks - 1) 0);
+      seated = λ k d within. (let zero_there = get_or-replicate {A = ℕ} (length marks - 1) k 0 d (omega (arith, within, length-replicate {A = ℕ} (length marks - 1) 0)) in omega (arith, zero_there));
+      own = sym (places-alone 1 (length marks - 1));
+    } in
+    subst IsOwned is own
 
 -- ---- what it answers
 
@@ -265,19 +289,19 @@ refused-batch batch board (Faulty at fault edits) legal tells = in-last board (A
 refused-batch batch board NoMemory legal tells = tt
 
 pub accepted-edit : (edit : LeafEdit) (old new : BoardContent) (next : StateContent) (accepted : Accepted) → FollowsEdit edit (state_in old (last_seen old)) next accepted →
-    new ≡ after_event (survey_state next) old → IsHistory new.opening new.history → Accepts edit old new accepted
+    new ≡ after_event (survey_state next) old → IsHistory new.opening new.history → IsOwned new → Accepts edit old new accepted
 unfolding happens
-accepted-edit edit old new next accepted follows is legal = record {
-  happens = happens (AppendsBatch old.opening (edit ∷ [])) old new (survey_state next) is legal follows.follows.event;
+accepted-edit edit old new next accepted follows is legal owned = record {
+  happens = happens (AppendsBatch old.opening (edit ∷ [])) old new (survey_state next) is legal owned follows.follows.event;
   number = follows.number;
   created = follows.created;
 }
 
 pub accepted-batch : (batch : List LeafEdit) (old new : BoardContent) (next : StateContent) (count : ℕ) → FollowsBatch batch (state_in old (last_seen old)) next count →
-    new ≡ after_event (survey_state next) old → IsHistory new.opening new.history → AcceptsAll batch old new count
+    new ≡ after_event (survey_state next) old → IsHistory new.opening new.history → IsOwned new → AcceptsAll batch old new count
 unfolding happens
-accepted-batch batch old new next count follows is legal = record {
-  happens = happens (AppendsBatch old.opening batch) old new (survey_state next) is legal follows.follows.event;
+accepted-batch batch old new next count follows is legal owned = record {
+  happens = happens (AppendsBatch old.opening batch) old new (survey_state next) is legal owned follows.follows.event;
   count = follows.number;
 }
 

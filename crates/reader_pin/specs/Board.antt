@@ -1,6 +1,7 @@
 -- How one connection sees a survey that others may change too: a history of states, in which some steps are its own events.
 -- This project's profile.
-use Rattle.std.specs.Prelude.{◌≡◌, ℕ, ◌+◌, ◌-◌, ◌≤◌, List, [], ◌∷◌, ◌++◌, length, slice_get, slice_index_or, Option, Some, None}
+use Rattle.std.specs.Prelude.{◌≡◌, ℕ, ◌+◌, ◌-◌, ◌<◌, ◌≤◌, List, [], ◌∷◌, ◌++◌, length, All, slice_get, slice_index_or, Option, Some, None}
+use Rattle.shared_history.specs.Histories.{places_of}
 use Rattle.survey_conf.specs.Description.{Description}
 use Rattle.edit_journal.specs.Leaves.{LeafTiles}
 use Rattle.dirty_plan.specs.Dirty.{work}
@@ -8,12 +9,19 @@ use Rattle.generation.specs.Steps.{touched}
 use Rattle.survey_core.specs.History.{SurveyState, edits_at, opening_state, IsPublication, IsHistory, Begins}
 use Rattle.survey_core.specs.State.{StateContent}
 
--- the survey's description and opening leaves, the states that the board has seen, the places of its own events among them,
--- and the state that it holds
+-- the number of a board's seat, and how many seats its survey has: their numbers are those below
+pub record BoardSeat : Type 0 where
+  pub number : ℕ
+  pub seats : ℕ
+
+-- the survey's description and opening leaves, the states that the board has seen, of each state after the first the number
+-- of the seat whose event made it, the board's own seat, the places of its own events, and the state that it holds
 pub record BoardContent : Type 0 where
   pub conf : Description
   pub opening : LeafTiles
   pub history : List SurveyState
+  pub owners : List ℕ
+  pub seat : BoardSeat
   pub own : List ℕ
   pub held : Option SurveyState
 
@@ -33,7 +41,19 @@ state_in board state = record { conf = board.conf; opening = board.opening; batc
 abbrev pub edit_count : SurveyState → ℕ
 edit_count state = length (edits_at state)
 
+-- each state after the first has an owner, which is one of the survey's seats; its own events are those whose owner is its seat
+pub record IsOwned (board : BoardContent) : Type 0 where
+  pub each : length board.history ≡ length board.owners + 1
+  pub seated : All (λ owner. owner < board.seat.seats) board.owners
+  pub own : board.own ≡ places_of board.seat.number board.owners
+
 -- ---- what a call does to a board
+
+-- it keeps its seat, and each state that it has seen keeps its owner
+pub record KeepsSeat (old new : BoardContent) : Type 0 where
+  pub seat : new.seat ≡ old.seat
+  pub owners : Begins old.owners new.owners
+  pub owned : IsOwned new
 
 -- no event of its own: what it has seen stands at the front of what it has seen then
 pub record Stays (old new : BoardContent) : Type 0 where
@@ -41,6 +61,7 @@ pub record Stays (old new : BoardContent) : Type 0 where
   pub opening : new.opening ≡ old.opening
   pub legal : IsHistory new.opening new.history
   pub earlier : Begins old.history new.history
+  pub seat : KeepsSeat old new
   pub own : new.own ≡ old.own
   pub held : new.held ≡ old.held
 
@@ -55,6 +76,7 @@ pub record Happens (IsEvent : SurveyState → SurveyState → Type 0) (old new :
   pub earlier : Begins old.history before
   pub event : IsEvent (last_of before) state
   pub history : new.history ≡ before ++ state ∷ []
+  pub seat : KeepsSeat old new
   pub own : new.own ≡ old.own ++ length before ∷ []
   pub held : new.held ≡ old.held
 

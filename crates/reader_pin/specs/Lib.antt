@@ -6,3 +6,4 @@ pub mod Next
 pub mod Held
 pub mod Solo
 pub mod Shared
+pub mod SeatLaws

@@ -1,6 +1,6 @@
 -- The board of a survey that other boards share, and how it keeps what it has seen.
-use Rattle.std.specs.Prelude.{◌≡◌, ℕ, List, [], map, slice_get, option_map, Option, Some, None, IfSome}
-use Rattle.shared_history.specs.Histories.{SeenHistory, IsSeenHistory}
+use Rattle.std.specs.Prelude.{◌≡◌, ℕ, ◌<◌, List, [], map, slice_get, option_map, Option, Some, None, IfSome}
+use Rattle.shared_history.specs.Histories.{SeenHistory, SeatContent, places_of, IsSeenHistory}
 use Rattle.survey_conf.specs.Description.{Description}
 use Rattle.edit_journal.specs.Leaves.{LeafTiles}
 use Rattle.survey_core.specs.History.{IsHistory}
@@ -22,33 +22,41 @@ held_at value last Nothing = None
 held_at value last Last = Some last
 held_at value last (Earlier state) = Some (value state)
 
--- a board that has seen that, with its own events and the state that it holds
-abbrev pub shared_content : SeenHistory StateContent → List ℕ → Option StateContent → BoardContent
-shared_content seen own held = record {
+-- a board at the seat with that number, which has seen that, with its own events and the state that it holds
+abbrev pub shared_content : ℕ → SeenHistory StateContent → List ℕ → Option StateContent → BoardContent
+shared_content number seen own held = record {
   conf = seen.last.conf;
   opening = seen.last.opening;
   history = map survey_state seen.states;
+  owners = seen.owners;
+  seat = record { number = number; seats = seen.seats };
   own = own;
   held = option_map survey_state held;
 }
 
--- a board that has seen that, and no more
-abbrev pub seated : SeenHistory StateContent → BoardContent
-seated seen = shared_content seen [] None
+-- a board at a seat, which has seen no more than that
+abbrev pub seated : SeatContent StateContent → BoardContent
+seated seat = shared_content seat.number seat.seen [] None
 
 -- the board has seen just that
 pub record HasSeen (seen : SeenHistory StateContent) (board : BoardContent) : Type 0 where
   pub conf : board.conf ≡ seen.last.conf
   pub opening : board.opening ≡ seen.last.opening
   pub history : board.history ≡ map survey_state seen.states
+  pub owners : board.owners ≡ seen.owners
+  pub seats : board.seat.seats ≡ seen.seats
 
 -- both have seen the same
 pub record HaveMet (one other : BoardContent) : Type 0 where
   pub conf : one.conf ≡ other.conf
   pub opening : one.opening ≡ other.opening
   pub history : one.history ≡ other.history
+  pub owners : one.owners ≡ other.owners
+  pub seats : one.seat.seats ≡ other.seat.seats
 
--- what is true of what it keeps: the state that is held is one of the same survey
-pub record IsSight (history : SeenHistory StateContent) (state : Option StateContent) : Type 0 where
+-- what is true of what it keeps: its own events are those of its seat, and the state that is held is one of the same survey
+pub record IsSight (number : ℕ) (history : SeenHistory StateContent) (events : List ℕ) (state : Option StateContent) : Type 0 where
   pub seen : IsSeenHistory IsOneSurvey history
+  pub seated : number < history.seats
+  pub own : events ≡ places_of number history.owners
   pub held : IfSome state (λ held. (held.conf ≡ history.last.conf) × (held.opening ≡ history.last.opening))

@@ -1,6 +1,6 @@
 -- The board of a survey that nobody else changes, and how it keeps what it has seen: the last state, and of each state the
 -- number of its edits and its tip.
-use Rattle.std.specs.Prelude.{◌≡◌, ℕ, ◌-◌, ◌≤◌, nat_le, if◌then◌else◌, List, [], ◌∷◌, ◌++◌, map, length, All, Option, Some, None}
+use Rattle.std.specs.Prelude.{◌≡◌, ℕ, ◌-◌, ◌≤◌, nat_le, if◌then◌else◌, List, [], ◌∷◌, ◌++◌, map, length, replicate, All, Option, Some, None}
 use Rattle.std.specs.List.{range_with_len}
 use Rattle.edit_journal.specs.Edit.{LeafEdit}
 use Rattle.survey_core.specs.History.{SurveyState, opening_state, IsHistory}
@@ -8,11 +8,15 @@ use Rattle.survey_core.specs.State.{StateContent, state_edits, survey_state}
 use Rattle.reader_pin.specs.declared.mark.Mark.{Mark}
 use Rattle.reader_pin.specs.declared.held.Held.{Held}
 use Rattle.reader_pin.specs.declared.held.Held.TheVariants.{Nothing, Last, Earlier}
-use Rattle.reader_pin.specs.Board.{BoardContent, last_of}
+use Rattle.reader_pin.specs.Board.{BoardSeat, BoardContent, last_of}
+
+-- the only seat of a survey
+abbrev pub only_seat : BoardSeat
+only_seat = record { number = 0; seats = 1 }
 
 -- a board that has seen the first state of a survey
 abbrev pub opened : StateContent → BoardContent
-opened state = record { conf = state.conf; opening = state.opening; history = opening_state ∷ []; own = []; held = None }
+opened state = record { conf = state.conf; opening = state.opening; history = opening_state ∷ []; owners = []; seat = only_seat; own = []; held = None }
 
 -- every step was its own event
 abbrev pub IsAlone : BoardContent → Type 0
@@ -20,7 +24,11 @@ IsAlone board = board.own ≡ range_with_len 1 (length board.history - 1)
 
 -- one event more of its own
 abbrev pub after_event : SurveyState → BoardContent → BoardContent
-after_event state board = record board { history = board.history ++ state ∷ []; own = board.own ++ length board.history ∷ [] }
+after_event state board = record board {
+  history = board.history ++ state ∷ [];
+  owners = board.owners ++ board.seat.number ∷ [];
+  own = board.own ++ length board.history ∷ [];
+}
 
 -- ---- how it is kept
 
@@ -52,6 +60,8 @@ solo_content last marks held = record {
   conf = last.conf;
   opening = last.opening;
   history = all_marked last.batches marks;
+  owners = replicate (length marks - 1) 0;
+  seat = only_seat;
   own = range_with_len 1 (length marks - 1);
   held = held_of last held;
 }

@@ -12,6 +12,7 @@ ghost use Rattle.reader_pin.specs.Shared.{seated, HaveMet};
 use crate::answer::{Accepted, BoardBatch, BoardRefusal, Published};
 use crate::board::Board;
 use crate::build::Built;
+use crate::changed_with::ChangedWith;
 use crate::sight::Sight;
 use crate::survey::{SeenSurvey, Survey, SurveySeat, SurveyWindow};
 use dirty_plan::laws::more_touched_is_more_work;
@@ -46,11 +47,11 @@ impl<'a, J: Naming> Shared<'a, J> {
     pub fn new(alloc: Global, survey: &'a Survey<J>, seat: SurveySeat<J>) -> Shared<'a, J>
         ensures { result ≡ seated seat }
     {
-        let (window, seen) = seat.into_parts();
+        let (number, window, seen) = seat.into_parts();
         Shared {
             survey,
             window,
-            sight: Sight::new(alloc, seen),
+            sight: Sight::new(alloc, number, seen),
         }
     }
 
@@ -58,7 +59,7 @@ impl<'a, J: Naming> Shared<'a, J> {
     ///
     /// # Errors
     ///
-    /// `AllocError` where the count of the state's owners is full.
+    /// `AllocError` where a count of the state's owners is full.
     pub fn meet<'b>(&mut self, other: &mut Shared<'b, J>) -> Result<(), AllocError>
         ensures this { Stays self.old self.new }
         ensures that { Stays other.old other.new }
@@ -68,6 +69,18 @@ impl<'a, J: Naming> Shared<'a, J> {
             return self.sight.catch_up(other.sight.seen());
         }
         other.sight.catch_up(self.sight.seen())
+    }
+
+    /// Goes on to what the other board has seen, which stays as it is.
+    ///
+    /// # Errors
+    ///
+    /// `AllocError` where the other has seen less, or a count of the state's owners is full.
+    pub fn follow<'b>(&mut self, other: &Shared<'b, J>) -> Result<(), AllocError>
+        ensures stays { Stays self.old self.new }
+        ensures met { OnOk result (HaveMet self.new other.now) }
+    {
+        self.sight.catch_up(other.sight.seen())
     }
 }
 
@@ -95,18 +108,20 @@ impl<'a, J: Naming> Board for Shared<'a, J> {
     fn release(&mut self) {
         self.sight.release();
     }
+}
 
-    fn edit<R: Wait>(&mut self, rt: &R, edit: Edit) -> Result<Accepted, BoardRefusal> {
+impl<'a, J: Naming, R: Wait> ChangedWith<R> for Shared<'a, J> {
+    fn edit(&mut self, rt: &R, edit: Edit) -> Result<Accepted, BoardRefusal> {
         let mut desk = self.survey.lock(rt);
         self.sight.edit(rt, &mut **desk, edit)
     }
 
-    fn batch<R: Wait>(&mut self, rt: &R, edits: Vec<Edit>) -> Result<u32, BoardBatch> {
+    fn batch(&mut self, rt: &R, edits: Vec<Edit>) -> Result<u32, BoardBatch> {
         let mut desk = self.survey.lock(rt);
         self.sight.batch(rt, &mut **desk, edits)
     }
 
-    fn publish_by<R: Wait, F: Fn(&State, Steps) -> Built>(
+    fn publish_by<F: Fn(&State, Steps) -> Built>(
         &mut self,
         rt: &R,
         build: &F,

@@ -1,17 +1,18 @@
 //! What a board of a shared survey has seen, made and holds.
 ghost use Rattle.std.specs.Prelude.{◌≡◌, ℕ, ◌*◌, ◌<◌, ◌≤◌, [], ◌++◌, map, length, All, option_map, Some, None, IfOk, IfErr, IfSome, OnOk, OnErr};
 ghost use Rattle.std.specs.Arc.{arc_value};
+ghost use Rattle.shared_history.specs.Histories.{places_of};
 ghost use Rattle.edit_journal.specs.Edit.{edit_of};
 ghost use Rattle.edit_journal.specs.Leaves.{FitsEdit};
 ghost use Rattle.dirty_plan.specs.Dirty.{steps_after};
 ghost use Rattle.survey_core.specs.History.{edits_at, IsStep, IsHistory};
 ghost use Rattle.survey_core.specs.State.{state_edits, survey_state};
-ghost use Rattle.reader_pin.specs.Board.{Stays, Happens, Publishes, last_seen, state_in, edit_count, holding_last, holding_none, publish_work};
+ghost use Rattle.reader_pin.specs.Board.{IsOwned, Stays, Happens, Publishes, last_seen, state_in, edit_count, holding_last, holding_none, publish_work};
 ghost use Rattle.reader_pin.specs.Build.{Builds, BuildsAll, whole_generation, build_work};
 ghost use Rattle.reader_pin.specs.Answers.{Accepts, AcceptsAll, TellsRefusal, TellsBatchRefusal, TellsPublished};
 ghost use Rattle.reader_pin.specs.Next.{IsPublishable};
 ghost use Rattle.reader_pin.specs.Solo.{after_event};
-ghost use Rattle.reader_pin.specs.Shared.{HasSeen, seated, held_at};
+ghost use Rattle.reader_pin.specs.Shared.{HasSeen, shared_content, held_at};
 
 use crate::answer::{Accepted, BoardBatch, BoardRefusal, Published};
 use crate::build::Built;
@@ -29,10 +30,12 @@ use std::mem::replace;
 use std::sync::{Arc, Wait};
 use survey_core::State;
 
-/// The history that was seen with its last state, the places of the board's own events, and the state that it holds.
+/// The number of the board's seat, the history that was seen with its last state, the places of the board's own events, and the
+/// state that it holds.
 #[derive(Drop)]
 pub(crate) struct Sight<J: Naming> {
     alloc: Global,
+    number: usize,
     seen: SeenSurvey<J>,
     own: Vec<u64>,
     held: Held<Arc<State>>,
@@ -46,19 +49,22 @@ impl<J: Naming> Model for Sight<J> {
 
     ghost Value = { BoardContent };
 
-    ghost view = { λ s. shared_content s.seen s.own.items (held_at arc_value s.seen.last s.held) };
+    ghost view = { λ s. shared_content s.number s.seen s.own.items (held_at arc_value s.seen.last s.held) };
 
-    ghost invariant = { λ s. IsSight s.seen (held_at arc_value s.seen.last s.held) };
+    ghost invariant = { λ s. IsSight s.number s.seen s.own.items (held_at arc_value s.seen.last s.held) };
 }
 
 impl<J: Naming> Sight<J> {
-    /// It has seen that, and holds nothing.
-    pub(crate) fn new(alloc: Global, seen: SeenSurvey<J>) -> Sight<J>
-        ensures { result ≡ seated seen }
+    /// At the seat with that number it has seen that, made no event, and holds nothing.
+    pub(crate) fn new(alloc: Global, number: usize, seen: SeenSurvey<J>) -> Sight<J>
+        requires seated { number < seen.seats }
+        requires fresh { places_of number seen.owners ≡ [] }
+        ensures { result ≡ shared_content number seen [] None }
     {
         let _last = seen.last();
         Sight {
             alloc,
+            number,
             seen,
             own: Vec::new(alloc),
             held: Held::Nothing,
@@ -69,6 +75,7 @@ impl<J: Naming> Sight<J> {
     pub(crate) fn seen(&self) -> &SeenSurvey<J>
         ensures seen { HasSeen result.now self.now }
         ensures legal { IsHistory self.now.opening self.now.history }
+        ensures owned { IsOwned self.now }
     {
         &self.seen
     }
@@ -77,6 +84,7 @@ impl<J: Naming> Sight<J> {
     pub(crate) fn state(&self) -> &State
         ensures last { result.now ≡ state_in self.now (last_seen self.now) }
         ensures legal { IsHistory self.now.opening self.now.history }
+        ensures owned { IsOwned self.now }
     {
         &**self.seen.last()
     }
@@ -111,7 +119,7 @@ impl<J: Naming> Sight<J> {
         ensures { Stays self.old self.new }
     {
         let _last = self.seen.last();
-        if let Some(newer) = window.look(&self.seen) {
+        if let Some(newer) = window.look(&self.seen, self.number) {
             let _newest = newer.last();
             move_on(&mut self.seen, &mut self.held, newer);
         }
@@ -121,14 +129,14 @@ impl<J: Naming> Sight<J> {
     ///
     /// # Errors
     ///
-    /// `AllocError` where the other has seen less, or its count of owners is full.
+    /// `AllocError` where the other has seen less, or a count of its owners is full.
     pub(crate) fn catch_up(&mut self, newest: &SeenSurvey<J>) -> Result<(), AllocError>
         ensures seen { OnOk result (HasSeen newest.now self.new) }
         ensures stays { Stays self.old self.new }
     {
         let _last = self.seen.last();
         let _newest = newest.last();
-        if let Some(newer) = self.seen.newer(newest)? {
+        if let Some(newer) = self.seen.newer(newest, self.number)? {
             move_on(&mut self.seen, &mut self.held, newer);
         }
         Ok(())
@@ -157,7 +165,7 @@ impl<J: Naming> Sight<J> {
         let _all = desk.newest().last();
         let place = self.seen.len();
         self.own.reserve(1)?;
-        let newest = desk.append(rt, next)?;
+        let newest = desk.append(rt, self.number, next)?;
         let _newest = newest.last();
         self.own.push_reserved(place);
         move_on(&mut self.seen, &mut self.held, newest);
@@ -180,6 +188,8 @@ impl<J: Naming> Sight<J> {
         match after_edit(self.state(), edit) {
             Ok((next, accepted)) => {
                 self.happen(rt, desk, next)?;
+                // For the prover: the event is its seat's.
+                let _made = self.state();
                 Ok(accepted)
             }
             Err(refusal) => Err(refusal),
@@ -204,6 +214,8 @@ impl<J: Naming> Sight<J> {
         match after_batch(self.state(), edits) {
             Ok((next, count)) => {
                 self.happen(rt, desk, next)?;
+                // For the prover: the event is its seat's.
+                let _made = self.state();
                 Ok(count)
             }
             Err(refusal) => Err(refusal),
@@ -329,6 +341,8 @@ impl<J: Naming> Sight<J> {
         let prefix = generation.prefix();
         let next = after_prefix(self.alloc, self.state(), generation)?;
         self.happen(rt, desk, next)?;
+        // For the prover: the event is its seat's.
+        let _made = self.state();
         Ok(Published::New(prefix))
     }
 }

@@ -6,13 +6,14 @@ ghost use Rattle.edit_journal.specs.Faults.{has_leaf};
 ghost use Rattle.dirty_plan.specs.Dirty.{steps_after};
 ghost use Rattle.survey_core.specs.History.{edits_at, IsStep, IsHistory};
 ghost use Rattle.survey_core.specs.State.{state_edits, survey_state};
-ghost use Rattle.reader_pin.specs.Board.{Stays, Happens, Publishes, last_seen, state_in, edit_count, holding_last, holding_none, publish_work};
+ghost use Rattle.reader_pin.specs.Board.{IsOwned, Stays, Happens, Publishes, last_seen, state_in, edit_count, holding_last, holding_none, publish_work};
 ghost use Rattle.reader_pin.specs.Build.{Builds, whole_generation};
 ghost use Rattle.reader_pin.specs.Answers.{Accepts, AcceptsAll, TellsRefusal, TellsBatchRefusal, TellsPublished, CountsOnce};
 
 use crate::answer::{Accepted, BoardBatch, BoardRefusal, Published};
 use crate::board::Board;
 use crate::build::Built;
+use crate::changed_with::ChangedWith;
 use crate::held::Held;
 use crate::mark::Mark;
 use crate::next::{after_batch, after_edit, after_generation};
@@ -22,7 +23,6 @@ use parent_rule::Steps;
 use std::alloc::{AllocError, Global};
 use std::marker::Model;
 use std::mem::replace;
-use std::sync::Wait;
 use survey_core::State;
 
 /// The board of a survey that nobody else changes: it owns the survey's newest state, and every step of the history that it
@@ -107,6 +107,8 @@ impl Solo {
         let edits = last.edits();
         let next = after_generation(self.alloc(), last, generation?)?;
         self.go_on(next)?;
+        // For the prover: the event is its seat's.
+        let _made = self.last();
         Ok(Published::New(edits))
     }
 }
@@ -127,6 +129,7 @@ impl Board for Solo {
     fn last(&self) -> &State
         ensures last { result.now ≡ state_in self.now (last_seen self.now) }
         ensures legal { IsHistory self.now.opening self.now.history }
+        ensures owned { IsOwned self.now }
         ensures alone { IsAlone self.now }
     {
         &self.last
@@ -147,21 +150,27 @@ impl Board for Solo {
     fn release(&mut self) {
         self.held = Held::Nothing;
     }
+}
 
-    fn edit<R: Wait>(&mut self, _rt: &R, edit: Edit) -> Result<Accepted, BoardRefusal> {
+impl<R> ChangedWith<R> for Solo {
+    fn edit(&mut self, _rt: &R, edit: Edit) -> Result<Accepted, BoardRefusal> {
         match after_edit(self.last(), edit) {
             Ok((next, accepted)) => {
                 self.go_on(next)?;
+                // For the prover: the event is its seat's.
+                let _made = self.last();
                 Ok(accepted)
             }
             Err(refusal) => Err(refusal),
         }
     }
 
-    fn batch<R: Wait>(&mut self, _rt: &R, edits: Vec<Edit>) -> Result<u32, BoardBatch> {
+    fn batch(&mut self, _rt: &R, edits: Vec<Edit>) -> Result<u32, BoardBatch> {
         match after_batch(self.last(), edits) {
             Ok((next, count)) => {
                 self.go_on(next)?;
+                // For the prover: the event is its seat's.
+                let _made = self.last();
                 Ok(count)
             }
             Err(refusal) => Err(refusal),
@@ -169,7 +178,7 @@ impl Board for Solo {
     }
 
     /// Publishes all edits, by one generation at most.
-    fn publish_by<R: Wait, F: Fn(&State, Steps) -> Built>(
+    fn publish_by<F: Fn(&State, Steps) -> Built>(
         &mut self,
         _rt: &R,
         build: &F,

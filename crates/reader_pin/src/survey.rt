@@ -1,5 +1,6 @@
 //! A survey that several boards share.
-ghost use Rattle.std.specs.Prelude.{◌≡◌, ◌<◌, ◌≤◌, [], length, All, IfOk};
+ghost use Rattle.std.specs.Prelude.{◌≡◌, ◌<◌, ◌≤◌, [], map, length, All, IfOk};
+ghost use Rattle.std.specs.List.{range_with_len};
 ghost use Rattle.shared_history.specs.Histories.{one_state};
 
 use shared_history::{Blank, Desk, Law, Naming, Seat, SharedHistory, Shown, Window};
@@ -35,7 +36,7 @@ pub(crate) type SurveyWindow<J> = Window<State, SurveyLaw, J>;
 /// be the book's, and is called with `Brand`.
 pub type SurveyBook = Blank<State, SurveyLaw>;
 
-/// Opens a survey with so many places, each of which has seen the history of this one state.
+/// Opens a survey with so many places, each of which has seen the history of this one state. Their numbers are 0, 1 and so on.
 ///
 /// # Errors
 ///
@@ -52,7 +53,8 @@ pub fn open_shared<J: Naming, R: Wait>(
     requires some { 0 < places }
     requires most { places ≤ 64 }
     ensures places { IfOk result (λ opened. length opened.1.items ≡ places) }
-    ensures seen { IfOk result (λ opened. All (λ seat. seat ≡ one_state state) opened.1.items) }
+    ensures numbers { IfOk result (λ opened. map (λ seat. seat.number) opened.1.items ≡ range_with_len 0 places) }
+    ensures seen { IfOk result (λ opened. All (λ seat. seat.seen ≡ one_state places state) opened.1.items) }
 {
     let _first = state.edits();
     book.open(rt, alloc, state, places)

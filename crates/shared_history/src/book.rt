@@ -1,7 +1,8 @@
 //! The book of a history.
 ghost use Rattle.std.specs.Prelude.{◌≡◌, ◌+◌, ◌++◌, ◌∷◌, [], length, IsTrue};
-ghost use Rattle.shared_history.specs.Book.{head_of};
+ghost use Rattle.shared_history.specs.Book.{head_of, states_of};
 
+use crate::entry::Entry;
 use logbook::{Gain, Offer, Plain, Play, Rule, Seen, Start, Word};
 use std::marker::{Brand, Model, PhantomData};
 
@@ -28,12 +29,12 @@ pub struct Kept<L> {
     of: PhantomData<L>,
 }
 
-impl<S, L: Law<S>> Rule<S, u64> for Kept<L> {
+impl<S: Drop, L: Law<S>> Rule<Entry<S>, u64> for Kept<L> {
     ghost use Rattle.std.specs.Prelude.{[]};
     ghost use base.Fml.{ftrue};
-    ghost use Rattle.shared_history.specs.Book.{IsKept};
+    ghost use Rattle.shared_history.specs.Book.{IsKeptHistory};
 
-    ghost holds = { λ cells log. IsKept L.legal cells log };
+    ghost holds = { λ cells log. IsKeptHistory L.legal cells log };
 
     ghost first = { [] };
 
@@ -49,7 +50,7 @@ impl<S, L: Law<S>> Rule<S, u64> for Kept<L> {
 /// Callers trade nothing.
 pub struct Nothing;
 
-impl<S> Gain<S, u64> for Nothing {
+impl<S: Drop> Gain<Entry<S>, u64> for Nothing {
     ghost use base.Fml.{ftrue};
 
     ghost after = { λ names about answer. ftrue };
@@ -58,29 +59,29 @@ impl<S> Gain<S, u64> for Nothing {
 /// The step that appends a state.
 pub struct Add;
 
-impl<S> Play<S, u64> for Add {
+impl<S: Drop> Play<Entry<S>, u64> for Add {
     ghost use Rattle.shared_history.specs.Book.{Adds};
 
     ghost then = { Adds };
 }
 
-/// What a step asks for: the state.
-impl<S> Plain<S, S, u64> for Add {
+/// What a step asks for: the entry.
+impl<S: Drop> Plain<Entry<S>, Entry<S>, u64> for Add {
     ghost use Rattle.std.specs.Prelude.{None};
 
-    ghost ask = { λ state. state };
+    ghost ask = { λ entry. entry };
 
-    ghost state = { λ state. None };
+    ghost state = { λ entry. None };
 }
 
 /// A book with an empty history, which has no name yet. Contracts see which book it is.
 #[derive(Drop)]
-pub struct Blank<S, L: Law<S>> {
-    head: Word<S, u64, Kept<L>>,
-    seen: Seen<S, u64, Kept<L>>,
+pub struct Blank<S: Drop, L: Law<S>> {
+    head: Word<Entry<S>, u64, Kept<L>>,
+    seen: Seen<Entry<S>, u64, Kept<L>>,
 }
 
-impl<S, L: Law<S>> Model for Blank<S, L> {
+impl<S: Drop, L: Law<S>> Model for Blank<S, L> {
     ghost use Rattle.std.specs.Prelude.{◌≡◌, []};
     ghost use Rattle.logbook.specs.Pages.{Book};
     ghost use Rattle.shared_history.specs.Book.{head_of};
@@ -92,7 +93,7 @@ impl<S, L: Law<S>> Model for Blank<S, L> {
     ghost invariant = { λ b. (b.head ≡ head_of b.seen.book) × (b.seen.log ≡ []) };
 }
 
-impl<S, L: Law<S>> Blank<S, L> {
+impl<S: Drop, L: Law<S>> Blank<S, L> {
     /// A new book.
     pub fn new() -> Blank<S, L> {
         let (seen, mut first, _second) = Seen::open(Start::alone(), 0, 0);
@@ -103,7 +104,7 @@ impl<S, L: Law<S>> Blank<S, L> {
     }
 
     /// Its word, and what is seen of it.
-    pub(crate) fn into_parts(self) -> (Word<S, u64, Kept<L>>, Seen<S, u64, Kept<L>>)
+    pub(crate) fn into_parts(self) -> (Word<Entry<S>, u64, Kept<L>>, Seen<Entry<S>, u64, Kept<L>>)
         ensures head { result.0 ≡ head_of self }
         ensures book { result.1.book ≡ self }
         ensures empty { result.1.log ≡ [] }
@@ -114,21 +115,23 @@ impl<S, L: Law<S>> Blank<S, L> {
 }
 
 /// Appends a state to all that was seen, which is so much, and says whether it did. It did not where the history is longer.
-pub(crate) fn append<S, L: Law<S>>(
-    head: &Word<S, u64, Kept<L>>,
-    seen: &mut Seen<S, u64, Kept<L>>,
+pub(crate) fn append<S: Drop, L: Law<S>>(
+    head: &Word<Entry<S>, u64, Kept<L>>,
+    seen: &mut Seen<Entry<S>, u64, Kept<L>>,
     count: u64,
     next: u64,
-    state: &S,
+    entry: &Entry<S>,
 ) -> bool
     requires head { head.now ≡ head_of seen.old.book }
     requires count { count ≡ length seen.old.log }
     requires next { next ≡ count + 1 }
-    requires legal { L.legal (seen.old.log ++ state.now ∷ []) }
+    requires legal { L.legal (states_of seen.old.log ++ entry.now.state ∷ []) }
     ensures book { seen.new.book ≡ seen.old.book }
-    ensures added { IsTrue result → seen.new.log ≡ seen.old.log ++ state.now ∷ [] }
+    ensures added { IsTrue result → seen.new.log ≡ seen.old.log ++ entry.now ∷ [] }
 {
-    let mut offer: Offer<S, u64, Kept<L>, Nothing> = seen.plain::<Nothing, S, Add>(state);
+    let mut offer: Offer<Entry<S>, u64, Kept<L>, Nothing> = seen.plain::<Nothing, Entry<S>, Add>(
+        entry,
+    );
     let mut pen = seen.no_pen();
     let found = head.compare_exchange::<Add, Nothing>(count, next, seen, &mut offer, &mut pen);
     found == count

@@ -1,9 +1,11 @@
 //! What lies under the lock.
-ghost use Rattle.std.specs.Prelude.{◌≡◌, ◌⊎◌, ◌<◌, ◌^◌, ◌++◌, ◌∷◌, [], length, All, IfOk, OnOk, OnErr};
+ghost use Rattle.std.specs.Prelude.{◌≡◌, ◌⊎◌, ◌<◌, ◌≤◌, ◌^◌, ◌++◌, ◌∷◌, [], map, length, All, IfOk, OnOk, OnErr};
+ghost use Rattle.std.specs.List.{range_with_len};
 ghost use Rattle.shared_history.specs.Book.{head_of};
-ghost use Rattle.shared_history.specs.Histories.{and_then};
+ghost use Rattle.shared_history.specs.Histories.{places_of, and_then};
 
 use crate::book::{Kept, Law, Naming};
+use crate::entry::Entry;
 use crate::page::{Page, Showable};
 use crate::seat::Seat;
 use crate::showing::Showing;
@@ -21,7 +23,7 @@ where
     Page<S, L>: Showable,
 {
     alloc: Global,
-    head: Word<S, u64, Kept<L>>,
+    head: Word<Entry<S>, u64, Kept<L>>,
     showing: Showing<S, L, J>,
     newest: Shown<S, L, J>,
 }
@@ -48,7 +50,7 @@ where
     /// A desk where `newest` is shown to so many readers.
     pub(crate) fn new(
         alloc: Global,
-        head: Word<S, u64, Kept<L>>,
+        head: Word<Entry<S>, u64, Kept<L>>,
         newest: Shown<S, L, J>,
         readers: usize,
     ) -> Result<Desk<S, L, J>, AllocError>
@@ -67,21 +69,25 @@ where
     }
 
     /// A seat that has seen the history.
-    pub(crate) fn seat(&self) -> Result<Seat<S, L, J>, AllocError>
-        ensures { IfOk result (λ seat. seat ≡ self.now.newest) }
+    pub(crate) fn seat(&self, number: usize) -> Result<Seat<S, L, J>, AllocError>
+        requires seated { number < self.now.newest.seats }
+        requires fresh { places_of number self.now.newest.owners ≡ [] }
+        ensures { IfOk result (λ seat. seat ≡ record { number = number; seen = self.now.newest }) }
     {
         let seen = self.newest.again()?;
-        Ok(Seat::new(Window::of(self.showing.reader()?), seen))
+        Ok(Seat::new(number, Window::of(self.showing.reader()?), seen))
     }
 
-    /// So many seats.
+    /// So many seats of a history of one state, with the numbers from 0 on.
     pub(crate) fn seats(&self, count: usize) -> Result<Vec<Seat<S, L, J>>, AllocError>
-        ensures count { IfOk result (λ seats. length seats.items ≡ count) }
-        ensures seen { IfOk result (λ seats. All (λ seat. seat ≡ self.now.newest) seats.items) }
+        requires most { count ≤ self.now.newest.seats }
+        requires fresh { self.now.newest.owners ≡ [] }
+        ensures numbers { IfOk result (λ seats. map (λ seat. seat.number) seats.items ≡ range_with_len 0 count) }
+        ensures seen { IfOk result (λ seats. All (λ seat. seat.seen ≡ self.now.newest) seats.items) }
     {
         let mut seats = Vec::new(self.alloc);
-        for _ in 0..count {
-            seats.push(self.seat()?)?;
+        for number in 0..count {
+            seats.push(self.seat(number)?)?;
         }
         Ok(seats)
     }
@@ -93,24 +99,31 @@ where
         &self.newest
     }
 
-    /// Appends a state, and shows the history to readers. It answers a copy of the history. It waits for readers that are
-    /// still looking at what was shown before last.
+    /// Appends a state, which is that seat's, and shows the history to readers. It answers a copy of the history. It waits for
+    /// readers that are still looking at what was shown before last.
     ///
     /// # Errors
     ///
     /// `AllocError` where there is no memory for the state: the history stays as it is. Where there is none to show the state,
     /// the history has it, and the next state is shown with it.
-    pub fn append<R: Wait>(&mut self, rt: &R, next: S) -> Result<Shown<S, L, J>, AllocError>
+    pub fn append<R: Wait>(
+        &mut self,
+        rt: &R,
+        seat: usize,
+        next: S,
+    ) -> Result<Shown<S, L, J>, AllocError>
+        requires seated { seat < self.old.newest.seats }
         requires legal { L.legal (self.old.newest.states ++ next ∷ []) }
-        ensures appended { IfOk result (λ shown. shown ≡ and_then self.old.newest next) }
-        ensures kept { OnOk result (self.new.newest ≡ and_then self.old.newest next) }
+        ensures appended { IfOk result (λ shown. shown ≡ and_then self.old.newest seat next) }
+        ensures own { IfOk result (λ shown. places_of seat shown.owners ≡ places_of seat self.old.newest.owners ++ length self.old.newest.states ∷ []) }
+        ensures kept { OnOk result (self.new.newest ≡ and_then self.old.newest seat next) }
         ensures shown { (self.new.shown ≡ self.new.newest) ⊎ (self.new.shown ≡ self.old.shown) }
         ensures unchanged { OnErr result (self.new ≡ self.old) }
     {
+        // For the prover: each state but the first has an owner.
+        let _all = self.newest.last();
         let last = Arc::new(self.alloc, next)?;
-        let same = last.clone()?;
-        let newest = self.newest.after(&self.head, last)?;
-        let answer = newest.beside(same);
+        let (newest, answer) = self.newest.after(self.alloc, &self.head, seat, last)?;
         self.newest = newest;
         let _shown = self.show_newest(rt);
         Ok(answer)

@@ -1,5 +1,6 @@
 //! A history that threads share.
-ghost use Rattle.std.specs.Prelude.{◌≡◌, ◌<◌, ◌≤◌, ◌^◌, ◌∷◌, [], length, All, IfOk};
+ghost use Rattle.std.specs.Prelude.{◌≡◌, ◌<◌, ◌≤◌, ◌^◌, ◌∷◌, [], map, length, All, IfOk};
+ghost use Rattle.std.specs.List.{range_with_len};
 ghost use Rattle.shared_history.specs.Histories.{one_state};
 
 use crate::book::{Blank, Law, Naming};
@@ -37,7 +38,7 @@ where
 }
 
 impl<S: Drop, L: Law<S>> Blank<S, L> {
-    /// Opens the history of one state, with so many seats, each of which has seen it.
+    /// Opens the history of one state, with so many seats, each of which has seen it. Their numbers are 0, 1 and so on.
     ///
     /// # Errors
     ///
@@ -56,10 +57,11 @@ impl<S: Drop, L: Law<S>> Blank<S, L> {
         requires some { 0 < seats }
         requires most { seats < 2 ^ 32 }
         ensures seats { IfOk result (λ opened. length opened.1.items ≡ seats) }
-        ensures seen { IfOk result (λ opened. All (λ seat. seat ≡ one_state first) opened.1.items) }
+        ensures numbers { IfOk result (λ opened. map (λ seat. seat.number) opened.1.items ≡ range_with_len 0 seats) }
+        ensures seen { IfOk result (λ opened. All (λ seat. seat.seen ≡ one_state seats first) opened.1.items) }
     {
         let (head, seen) = self.into_parts();
-        let newest = Shown::begin(&head, seen, Arc::new(alloc, first)?)?;
+        let newest = Shown::begin(alloc, &head, seen, seats, Arc::new(alloc, first)?)?;
         let desk = Desk::new(alloc, head, newest, seats)?;
         match desk.seats(seats) {
             Ok(taken) => Ok((

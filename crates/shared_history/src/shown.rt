@@ -5,9 +5,10 @@ ghost use Rattle.shared_history.specs.Book.{head_of};
 ghost use Rattle.shared_history.specs.Histories.{IsSeenHistory, one_state, and_then, TellsMore};
 
 use crate::book::{Kept, Law, Naming};
+use crate::entry::Entry;
 use crate::page::Page;
 use logbook::{Seen, Word};
-use std::alloc::AllocError;
+use std::alloc::{AllocError, Global};
 use std::marker::{Model, PhantomData};
 use std::sync::Arc;
 
@@ -30,19 +31,21 @@ impl<S: Drop, L: Law<S>, J: Naming> Model for Shown<S, L, J> {
 }
 
 impl<S: Drop, L: Law<S>, J: Naming> Shown<S, L, J> {
-    /// The history of one state, which is the first of its book.
+    /// The history of one state, which is the first of its book, with so many seats.
     pub(crate) fn begin(
-        head: &Word<S, u64, Kept<L>>,
-        past: Seen<S, u64, Kept<L>>,
+        alloc: Global,
+        head: &Word<Entry<S>, u64, Kept<L>>,
+        past: Seen<Entry<S>, u64, Kept<L>>,
+        seats: usize,
         first: Arc<S>,
     ) -> Result<Shown<S, L, J>, AllocError>
         requires head { head.now ≡ head_of J.book }
         requires book { past.book ≡ J.book }
         requires empty { past.log ≡ [] }
         requires legal { L.legal (arc_value first ∷ []) }
-        ensures { IfOk result (λ shown. shown ≡ one_state (arc_value first)) }
+        ensures { IfOk result (λ shown. shown ≡ one_state seats (arc_value first)) }
     {
-        Ok(Shown::of(Page::begin(head, past, first)?))
+        Ok(Shown::of(Page::begin(alloc, head, past, seats, first)?))
     }
 
     /// What is seen of the book.
@@ -56,36 +59,34 @@ impl<S: Drop, L: Law<S>, J: Naming> Shown<S, L, J> {
         }
     }
 
-    /// The history with a state more, which becomes the last of its book.
+    /// The history with a state of that seat's more, which becomes the last of its book; and a copy.
     ///
     /// # Errors
     ///
-    /// `AllocError` where the book's history isn't the one that was seen, or has 2^64 - 1 states: it stays as it is.
+    /// `AllocError` where the book's history isn't the one that was seen, or has 2^64 - 1 states, or there is no memory for it:
+    /// it stays as it is.
     pub(crate) fn after(
         &self,
-        head: &Word<S, u64, Kept<L>>,
+        alloc: Global,
+        head: &Word<Entry<S>, u64, Kept<L>>,
+        seat: usize,
         next: Arc<S>,
-    ) -> Result<Shown<S, L, J>, AllocError>
+    ) -> Result<(Shown<S, L, J>, Shown<S, L, J>), AllocError>
         requires head { head.now ≡ head_of J.book }
+        requires seated { seat < self.now.seats }
         requires legal { L.legal (self.now.states ++ arc_value next ∷ []) }
-        ensures { IfOk result (λ shown. shown ≡ and_then self.now (arc_value next)) }
+        ensures history { IfOk result (λ pair. pair.0 ≡ and_then self.now seat (arc_value next)) }
+        ensures alike { IfOk result (λ pair. pair.1 ≡ pair.0) }
     {
-        Ok(Shown::of(self.page.after(head, next)?))
-    }
-
-    /// A copy, for which the count was raised before.
-    pub(crate) fn beside(&self, last: Arc<S>) -> Shown<S, L, J>
-        requires { arc_value last ≡ self.now.last }
-        ensures { result ≡ self.now }
-    {
-        Shown::of(self.page.beside(last))
+        let (page, copy) = self.page.after(alloc, head, seat, next)?;
+        Ok((Shown::of(page), Shown::of(copy)))
     }
 
     /// A copy.
     ///
     /// # Errors
     ///
-    /// `AllocError` where the count of owners is full.
+    /// `AllocError` where a count of owners is full.
     pub fn again(&self) -> Result<Shown<S, L, J>, AllocError>
         ensures { IfOk result (λ shown. shown ≡ self.now) }
     {
@@ -96,7 +97,7 @@ impl<S: Drop, L: Law<S>, J: Naming> Shown<S, L, J> {
     ///
     /// # Errors
     ///
-    /// `AllocError` where the count of owners is full.
+    /// `AllocError` where a count of owners is full.
     pub(crate) fn page(&self) -> Result<Page<S, L>, AllocError>
         ensures book { IfOk result (λ page. page.book ≡ J.book) }
         ensures history { IfOk result (λ page. page.history ≡ self.now) }
@@ -127,26 +128,41 @@ impl<S: Drop, L: Law<S>, J: Naming> Shown<S, L, J> {
         self.page.len()
     }
 
-    /// A copy of another of the same history, where that one has seen more; `None` where both have seen the same.
+    /// How many seats the history has.
+    pub fn seats(&self) -> usize
+        ensures { result ≡ self.now.seats }
+    {
+        self.page.seats()
+    }
+
+    /// A copy of another of the same history, where that one has seen more, and what it has seen more isn't that seat's; `None`
+    /// where both have seen the same.
     ///
     /// # Errors
     ///
-    /// `AllocError` where the other has seen less, or its count of owners is full.
-    pub fn newer(&self, other: &Shown<S, L, J>) -> Result<Option<Shown<S, L, J>>, AllocError>
-        ensures { IfOk result (TellsMore self.now other.now) }
+    /// `AllocError` where the other has seen less, or more of that seat's, or a count of its owners is full.
+    pub fn newer(
+        &self,
+        other: &Shown<S, L, J>,
+        seat: usize,
+    ) -> Result<Option<Shown<S, L, J>>, AllocError>
+        requires { seat < self.now.seats }
+        ensures { IfOk result (TellsMore seat self.now other.now) }
     {
-        self.newer_page(&other.page)
+        self.newer_page(&other.page, seat)
     }
 
     /// As `newer`, of what is shown of the book.
     pub(crate) fn newer_page(
         &self,
         other: &Page<S, L>,
+        seat: usize,
     ) -> Result<Option<Shown<S, L, J>>, AllocError>
-        requires { other.now.book ≡ J.book }
-        ensures { IfOk result (TellsMore self.now other.now.history) }
+        requires book { other.now.book ≡ J.book }
+        requires seated { seat < self.now.seats }
+        ensures { IfOk result (TellsMore seat self.now other.now.history) }
     {
-        match self.page.newer(other)? {
+        match self.page.newer(other, seat)? {
             Some(page) => Ok(Some(Shown::of(page))),
             None => Ok(None),
         }

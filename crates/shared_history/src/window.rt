@@ -1,5 +1,5 @@
 //! What a reader looks through.
-ghost use Rattle.std.specs.Prelude.{IfSome};
+ghost use Rattle.std.specs.Prelude.{◌<◌, IfSome};
 ghost use Rattle.shared_history.specs.Histories.{GoesOn};
 
 use crate::book::{Law, Naming};
@@ -21,12 +21,15 @@ impl<S: Drop, L: Law<S>, J: Naming> Window<S, L, J> {
         Window { reader }
     }
 
-    /// A copy of what is shown, where that goes on from what was seen before. `None` where what is shown is no more, where
-    /// its count of owners is full, and once the history is closed.
-    pub fn look(&mut self, seen: &Shown<S, L, J>) -> Option<Shown<S, L, J>>
-        ensures { IfSome result (GoesOn seen.now) }
+    /// A copy of what is shown, where that goes on from what was seen before with none of that seat's. `None` where what is shown
+    /// is no more, or has more of that seat's, where a count of its owners is full, and once the history is closed.
+    pub fn look(&mut self, seen: &Shown<S, L, J>, seat: usize) -> Option<Shown<S, L, J>>
+        requires { seat < seen.now.seats }
+        ensures { IfSome result (GoesOn seat seen.now) }
     {
-        replace_with(&mut self.reader, seen, |reader, seen| looked(reader, seen))
+        replace_with(&mut self.reader, (seen, seat), |reader, (seen, seat)| {
+            looked(reader, seen, seat)
+        })
     }
 }
 
@@ -34,12 +37,14 @@ impl<S: Drop, L: Law<S>, J: Naming> Window<S, L, J> {
 fn looked<S: Drop, L: Law<S>, J: Naming>(
     reader: Reader<Page<S, L>, (), Named<J>>,
     seen: &Shown<S, L, J>,
+    seat: usize,
 ) -> (Reader<Page<S, L>, (), Named<J>>, Option<Shown<S, L, J>>)
-    ensures { IfSome result.1 (GoesOn seen.now) }
+    requires { seat < seen.now.seats }
+    ensures { IfSome result.1 (GoesOn seat seen.now) }
 {
     match reader.enter_as::<Finds<J>>() {
         Ok(reading) => {
-            let more = seen.newer_page(reading.get());
+            let more = seen.newer_page(reading.get(), seat);
             let reader = reading.leave();
             match more {
                 Ok(more) => (reader, more),

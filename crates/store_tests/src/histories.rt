@@ -15,14 +15,18 @@ impl Law<u64> for Numbers {
     ghost legal = { λ _. Unit {0} };
 }
 
-// Appends a number.
+// Appends a number, where the history has that seat.
 fn add<J: Naming, R: Wait>(
     rt: &R,
     history: &SharedHistory<u64, Numbers, J>,
+    seat: usize,
     number: u64,
-) -> Result<Shown<u64, Numbers, J>, AllocError> {
+) -> Result<Shown<u64, Numbers, J>, Fail> {
     let mut desk = history.lock(rt);
-    (**desk).append(rt, number)
+    if seat >= (**desk).newest().seats() {
+        return Err("no such seat".into());
+    }
+    Ok((**desk).append(rt, seat, number)?)
 }
 
 // How many numbers were seen, and the last of them.
@@ -30,24 +34,29 @@ fn seen<J: Naming>(shown: &Shown<u64, Numbers, J>) -> (u64, u64) {
     (shown.len(), **shown.last())
 }
 
-// How many numbers the other has seen and the last of them, where these are more.
+// How many numbers the other has seen and the last of them, where these are more and none is that seat's.
 fn more<J: Naming>(
     shown: &Shown<u64, Numbers, J>,
     other: &Shown<u64, Numbers, J>,
+    seat: usize,
 ) -> Result<Option<(u64, u64)>, AllocError> {
-    match shown.newer(other)? {
+    if seat >= shown.seats() {
+        return Err(AllocError);
+    }
+    match shown.newer(other, seat)? {
         Some(more) => Ok(Some(seen(&more))),
         None => Ok(None),
     }
 }
 
-// Two numbers are appended, and seen through a window.
+// Two numbers are appended by the other seat, and seen through a window.
 fn appended<J: Naming, R: Wait + Abort>(
     rt: &R,
     history: &SharedHistory<u64, Numbers, J>,
     seat: Seat<u64, Numbers, J>,
 ) -> Result<(), Fail> {
-    let (mut window, first) = seat.into_parts();
+    let (number, mut window, first) = seat.into_parts();
+    assert_eq!(rt; number, 1);
     assert_eq!(rt; seen(&first), (1, 7));
     check_first(rt, history, &mut window, &first)
 }
@@ -59,8 +68,11 @@ fn check_first<J: Naming, R: Wait + Abort>(
     window: &mut Window<u64, Numbers, J>,
     first: &Shown<u64, Numbers, J>,
 ) -> Result<(), Fail> {
-    assert!(rt; window.look(first).is_none());
-    let second = add(rt, history, 9)?;
+    if first.seats() != 2 {
+        return Err("not two seats".into());
+    }
+    assert!(rt; window.look(first, 1).is_none());
+    let second = add(rt, history, 0, 9)?;
     check_second(rt, history, window, first, &second)
 }
 
@@ -73,14 +85,17 @@ fn check_second<J: Naming, R: Wait + Abort>(
     second: &Shown<u64, Numbers, J>,
 ) -> Result<(), Fail> {
     assert_eq!(rt; seen(second), (2, 9));
-    add(rt, history, 8)?;
-    match window.look(first) {
+    add(rt, history, 0, 8)?;
+    if first.seats() != 2 {
+        return Err("not two seats".into());
+    }
+    match window.look(first, 1) {
         Some(third) => check_third(rt, first, second, &third),
         None => Err("nothing was shown".into()),
     }
 }
 
-// All three were seen.
+// All three were seen. A seat whose own numbers these are doesn't take them for another's.
 fn check_third<J: Naming>(
     rt: &impl Abort,
     first: &Shown<u64, Numbers, J>,
@@ -88,9 +103,10 @@ fn check_third<J: Naming>(
     third: &Shown<u64, Numbers, J>,
 ) -> Result<(), Fail> {
     assert_eq!(rt; seen(third), (3, 8));
-    assert_eq!(rt; more(first, second)?, Some((2, 9)));
-    assert_eq!(rt; more(third, third)?, None);
-    assert!(rt; more(third, second).is_err());
+    assert_eq!(rt; more(first, second, 1)?, Some((2, 9)));
+    assert_eq!(rt; more(third, third, 0)?, None);
+    assert!(rt; more(third, second, 1).is_err());
+    assert!(rt; more(first, third, 0).is_err());
     Ok(())
 }
 
@@ -118,10 +134,11 @@ fn opened<J: Naming, R: Wait + Abort>(
 
 // Once the history has ended its window finds nothing, however often one looks, though less was seen than was shown.
 fn ended<J: Naming>(rt: &impl Abort, seat: Seat<u64, Numbers, J>) -> Result<(), Fail> {
-    let (mut window, first) = seat.into_parts();
+    let (number, mut window, first) = seat.into_parts();
+    assert_eq!(rt; number, 0);
     assert_eq!(rt; seen(&first), (1, 7));
-    assert!(rt; window.look(&first).is_none());
-    assert!(rt; window.look(&first).is_none());
+    assert!(rt; window.look(&first, number).is_none());
+    assert!(rt; window.look(&first, number).is_none());
     Ok(())
 }
 

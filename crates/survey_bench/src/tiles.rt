@@ -65,7 +65,7 @@ pub fn seeded(alloc: Global, depth: Depth, n: u8, blanks: u32, seed: u32) -> io:
 {
     let len = bytes_of_tile(depth, n);
     let raw = numbers(alloc, depth.bytes(), len, blanks, seed)?;
-    tile_of(alloc, depth, n, &raw)
+    tile_from(alloc, depth, n, &raw)
 }
 
 // How many bytes a tile has.
@@ -77,7 +77,7 @@ fn bytes_of_tile(depth: Depth, n: u8) -> usize
 }
 
 // The tile of these bytes.
-fn tile_of(alloc: Global, depth: Depth, n: u8, raw: &[u8]) -> io::Result<Tile>
+fn tile_from(alloc: Global, depth: Depth, n: u8, raw: &[u8]) -> io::Result<Tile>
     requires least { 1 ≤ n }
     requires greatest { n ≤ 9 }
     ensures { IfOk result (λ tile. HasShape tile depth n) }
@@ -138,7 +138,7 @@ fn byte_of(byte: u8, blank: u8, is_blank: bool, is_first: bool) -> u8 {
 pub fn small_tile(alloc: Global, depth: Depth) -> io::Result<Arc<Tile>>
     ensures { IfOk result (λ tile. HasShape tile.value depth 1) }
 {
-    let tile = tile_of(alloc, depth, 1, &[0, 1, 0, 2, 0, 3, 0, 4])?;
+    let tile = tile_from(alloc, depth, 1, &[0, 1, 0, 2, 0, 3, 0, 4])?;
     Ok(Arc::new(alloc, tile)?)
 }
 

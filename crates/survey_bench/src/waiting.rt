@@ -9,7 +9,7 @@ use crate::workers::{Worker, is_accepted, workers};
 use edit_journal::Edit;
 use parent_rule::Steps;
 use pyramid_model::Shape;
-use reader_pin::{Board, Published, Survey, SurveyBook, SurveySeat, open_shared};
+use reader_pin::{Board, ChangedWith, Published, Survey, SurveyBook, SurveySeat, open_shared};
 use shared_history::Naming;
 use std::alloc::Global;
 use std::io;
@@ -197,7 +197,7 @@ fn publish<'a, J: Naming, R: Clock + Threads + Wait + Sync>(
 }
 
 // The nanoseconds of a publication.
-fn published<B: Board, R: Clock + Threads + Wait + Sync>(rt: &R, board: &mut B) -> Option<u128> {
+fn published<B: ChangedWith<R>, R: Clock + Threads + Sync>(rt: &R, board: &mut B) -> Option<u128> {
     let start = Instant::now(rt).ok()?;
     match board.publish(rt, &OpenGate::new(), &mut Steps::new()) {
         Ok(Published::New(_)) => passed_since(rt, start).ok(),

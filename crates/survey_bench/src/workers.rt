@@ -8,11 +8,11 @@ use crate::survey::leaf_tile;
 use edit_journal::Edit;
 use healpix_nested::cells;
 use pyramid_model::Shape;
-use reader_pin::{Board, Shared, Survey, SurveySeat};
+use reader_pin::{Board, ChangedWith, Shared, Survey, SurveySeat};
 use shared_history::Naming;
 use std::alloc::Global;
 use std::io;
-use std::sync::{Arc, Wait};
+use std::sync::Arc;
 use tile_pixels::Tile;
 
 /// A board, and what it measured last.
@@ -71,7 +71,7 @@ fn worker_at<'a, J: Naming>(
 }
 
 /// Whether the board accepts the edit.
-pub fn is_accepted<B: Board, R: Wait>(rt: &R, board: &mut B, edit: Edit) -> bool {
+pub fn is_accepted<B: ChangedWith<R>, R>(rt: &R, board: &mut B, edit: Edit) -> bool {
     if !fits(board, &edit) {
         return false;
     }

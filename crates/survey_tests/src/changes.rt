@@ -4,12 +4,12 @@ ghost use Rattle.std.specs.Prelude.{◌<◌};
 use edit_journal::Edit;
 use generation::{Body, Generation, Parts};
 use parent_rule::{Depth, Steps};
-use reader_pin::{Board, BoardRefusal, Solo};
+use reader_pin::{Board, BoardRefusal, ChangedWith, Solo};
 use small_files::SURVEY;
 use small_survey::{first_state, fits};
 use std::alloc::{AllocError, Global};
+use std::sync::Arc;
 use std::sync::atomic::{AtomicU64, Ordering};
-use std::sync::{Arc, Wait};
 use std::test::Fail;
 use std::thread::Threads;
 use survey_link::{Gate, OpenGate};
@@ -22,7 +22,7 @@ fn opened<R: Threads + Sync>(rt: &R, alloc: Global, conf: &str) -> Result<Solo, 
 }
 
 // Asks the board for the edit, and says whether it answered. It may refuse to remove a leaf that isn't there.
-fn edits<R: Wait>(rt: &R, board: &mut Solo, edit: Edit) -> bool {
+fn edits<R>(rt: &R, board: &mut Solo, edit: Edit) -> bool {
     if !fits(board.last(), &edit) {
         return false;
     }
@@ -43,7 +43,7 @@ fn tile(alloc: Global, depth: Depth, bytes: &[u8; 8]) -> Result<Arc<Tile>, Fail>
 }
 
 // Puts a leaf, by the bytes of its tile.
-fn puts<R: Wait>(
+fn puts<R>(
     rt: &R,
     alloc: Global,
     board: &mut Solo,
@@ -56,7 +56,7 @@ fn puts<R: Wait>(
 }
 
 // Puts the leaf whose tile begins with that number, and goes on with -32768, 5 and 7.
-fn puts_number<R: Wait>(
+fn puts_number<R>(
     rt: &R,
     alloc: Global,
     board: &mut Solo,
@@ -67,13 +67,13 @@ fn puts_number<R: Wait>(
     puts(rt, alloc, board, leaf, &[high, low, 0x80, 0, 0, 5, 0, 7])
 }
 
-fn removes<R: Wait>(rt: &R, board: &mut Solo, leaf: u32) -> bool {
+fn removes<R>(rt: &R, board: &mut Solo, leaf: u32) -> bool {
     let leaf = u64::from(leaf);
     edits(rt, board, Edit::Remove { leaf })
 }
 
 // Publishes all edits, each tile of which passes the gate.
-fn publishes<R: Threads + Wait + Sync, G: Gate + Sync>(rt: &R, board: &mut Solo, gate: &G) -> bool {
+fn publishes<R: Threads + Sync, G: Gate + Sync>(rt: &R, board: &mut Solo, gate: &G) -> bool {
     board.publish(rt, gate, &mut Steps::new()).is_ok()
 }
 
@@ -90,7 +90,7 @@ impl Gate for Counting {
 }
 
 // Puts the leaf whose tile has that number four times.
-fn puts_same<R: Wait>(
+fn puts_same<R>(
     rt: &R,
     alloc: Global,
     board: &mut Solo,
@@ -103,11 +103,7 @@ fn puts_same<R: Wait>(
 }
 
 // Puts a leaf under each of three cells, and publishes them.
-fn puts_three<R: Threads + Wait + Sync>(
-    rt: &R,
-    alloc: Global,
-    board: &mut Solo,
-) -> Result<bool, Fail> {
+fn puts_three<R: Threads + Sync>(rt: &R, alloc: Global, board: &mut Solo) -> Result<bool, Fail> {
     for cell in 0..3 {
         if !puts_same(rt, alloc, board, cell * 4, cell + 1)? {
             return Ok(false);
@@ -117,7 +113,7 @@ fn puts_three<R: Threads + Wait + Sync>(
 }
 
 // Puts one of these leaves again, and publishes it through the gate.
-fn puts_one<R: Threads + Wait + Sync>(
+fn puts_one<R: Threads + Sync>(
     rt: &R,
     alloc: Global,
     board: &mut Solo,
@@ -127,11 +123,7 @@ fn puts_one<R: Threads + Wait + Sync>(
 }
 
 // Whether one passes the gate for the last edit.
-fn passes_one<R: Threads + Wait + Sync>(
-    rt: &R,
-    alloc: Global,
-    board: &mut Solo,
-) -> Result<bool, Fail> {
+fn passes_one<R: Threads + Sync>(rt: &R, alloc: Global, board: &mut Solo) -> Result<bool, Fail> {
     let gate = Counting {
         passed: AtomicU64::new(0),
     };
@@ -139,7 +131,7 @@ fn passes_one<R: Threads + Wait + Sync>(
     Ok(is_put && gate.passed.load(Ordering::SeqCst) == 1)
 }
 
-fn merges_one<R: Threads + Wait + Sync>(rt: &R, alloc: Global) -> Result<bool, Fail> {
+fn merges_one<R: Threads + Sync>(rt: &R, alloc: Global) -> Result<bool, Fail> {
     let mut board = opened(rt, alloc, SURVEY)?;
     passes_one(rt, alloc, &mut board)
 }
@@ -170,13 +162,7 @@ fn leaf(i: u32, top: u8) -> u32 {
 }
 
 // Makes the edit with that number, of those that look random: a third removes a leaf, which may not be there.
-fn edits_at<R: Wait>(
-    rt: &R,
-    alloc: Global,
-    board: &mut Solo,
-    top: u8,
-    i: u32,
-) -> Result<bool, Fail> {
+fn edits_at<R>(rt: &R, alloc: Global, board: &mut Solo, top: u8, i: u32) -> Result<bool, Fail> {
     let leaf = leaf(i, top);
     if number(i, 3) == 0 {
         return Ok(removes(rt, board, leaf));
@@ -185,7 +171,7 @@ fn edits_at<R: Wait>(
 }
 
 // Makes the edit that a word names: to put a leaf, or behind a `-` to remove it.
-fn edits_by<R: Wait>(rt: &R, alloc: Global, board: &mut Solo, word: &str) -> Result<bool, Fail> {
+fn edits_by<R>(rt: &R, alloc: Global, board: &mut Solo, word: &str) -> Result<bool, Fail> {
     match word.strip_prefix('-') {
         Some(leaf) => Ok(removes(rt, board, leaf.parse::<u32>()?)),
         None => puts_number(rt, alloc, board, word.parse::<u32>()?, 3),
@@ -204,7 +190,7 @@ static STEPS: [(u32, u32, &str); 6] = [
 ];
 
 // Makes the edits of a step, and publishes them.
-fn goes_on<R: Threads + Wait + Sync>(
+fn goes_on<R: Threads + Sync>(
     rt: &R,
     alloc: Global,
     board: &mut Solo,
@@ -321,7 +307,7 @@ survey_blank = -32768
 ";
 
 // Whether each step makes what the leaves make, of order `top`.
-fn all_go<R: Threads + Wait + Sync>(
+fn all_go<R: Threads + Sync>(
     rt: &R,
     alloc: Global,
     board: &mut Solo,
@@ -336,12 +322,7 @@ fn all_go<R: Threads + Wait + Sync>(
 }
 
 // The same over a survey whose description ends by these lines.
-fn goes<R: Threads + Wait + Sync>(
-    rt: &R,
-    alloc: Global,
-    top: u8,
-    lines: &str,
-) -> Result<bool, Fail> {
+fn goes<R: Threads + Sync>(rt: &R, alloc: Global, top: u8, lines: &str) -> Result<bool, Fail> {
     let conf = format!(in alloc; "{NAMES}hips_order = {top}\n{lines}")?;
     let mut board = opened(rt, alloc, &conf)?;
     all_go(rt, alloc, &mut board, top)

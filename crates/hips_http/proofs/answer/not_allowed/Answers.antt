@@ -8,4 +8,4 @@ pub returns : goal.returns
 returns g c = λ request steps.
     let bound : steps ≤ steps + 0 = omega arith in
     rw c.not_allowed.ensures (unread_serves _ _ steps steps 0 request (call.NotAllowed c.args.allow) (not_allowed c.args.allow) refl bound (λ _ _. refl)
-    (stays_itself _ c.last-legal.ensures.legal) (λ before after judged. judged))
+    (stays_itself _ c.last-legal.ensures.legal c.last-legal.ensures.owned) (λ before after judged. judged))

@@ -11,11 +11,11 @@ pub returns-in-Err-Entry-clause-serves : goal.returns-in-Err-Entry-clause-serves
 returns-in-Err-Entry-clause-serves g c = λ request body.
     let refusal = rw (c.in-Err-Entry.field-0-is, c.deref.ensures, c.conf.ensures.conf, c.last.ensures.last, ← body) at c.in-Err-Entry.ensures.refused in
     let bound = rw (c.deref.ensures, c.conf.ensures.conf, c.last.ensures.last, ← body) at c.in-Err-Entry.ensures.at_most in
-    rw c.batch_refused.ensures (batch_unread _ _ _ _ request bound _ _ (stays_itself _ c.last.ensures.legal) refusal.0 refusal.1)
+    rw c.batch_refused.ensures (batch_unread _ _ _ _ request bound _ _ (stays_itself _ c.last.ensures.legal c.last.ensures.owned) refusal.0 refusal.1)
 
 pub returns-in-Err-OutOfMemory-clause-serves : goal.returns-in-Err-OutOfMemory-clause-serves
 returns-in-Err-OutOfMemory-clause-serves g c = λ request body.
-    rw c.no_memory.ensures (no_memory_serves _ _ _ _ call.Batch (stays_itself _ c.last.ensures.legal) _ (λ before after none. inr none))
+    rw c.no_memory.ensures (no_memory_serves _ _ _ _ call.Batch (stays_itself _ c.last.ensures.legal c.last.ensures.owned) _ (λ before after none. inr none))
 
 pub returns-in-Ok-batch-clause-serves : goal.returns-in-Ok-batch-clause-serves
 returns-in-Ok-batch-clause-serves g c = λ request body.

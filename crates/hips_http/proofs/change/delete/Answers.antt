@@ -8,7 +8,7 @@ use Rattle.hips_http.proofs.change.delete.Goals as goal
 pub returns-in-None : goal.returns-in-None
 returns-in-None g c = λ path body steps.
     let told = rw c.last.ensures.last at c.unmet_delete.ensures in
-    rw told (delete_unmet _ _ steps c.args.request.now path body c.args.leaf (stays_itself _ c.last.ensures.legal) (sym c.in-None.ensures))
+    rw told (delete_unmet _ _ steps c.args.request.now path body c.args.leaf (stays_itself _ c.last.ensures.legal c.last.ensures.owned) (sym c.in-None.ensures))
 
 pub returns-in-Ok : goal.returns-in-Ok
 returns-in-Ok g c = λ path body steps.

@@ -12,11 +12,11 @@ use Rattle.hips_http.proofs.change.put.Goals as goal
 pub returns-in-Err-Fault-clause-serves : goal.returns-in-Err-Fault-clause-serves
 returns-in-Err-Fault-clause-serves g c = λ path.
     let refusal = rw (c.in-Err-Fault.field-0-is, c.last.ensures.last) at c.in-Err-Fault.ensures.refused in
-    rw c.tile_refused.ensures (put_unread _ _ _ _ c.args.request.now path c.args.body.now c.args.leaf c.in-Err-Fault.ensures.at_most _ (stays_itself _ c.last.ensures.legal) refusal)
+    rw c.tile_refused.ensures (put_unread _ _ _ _ c.args.request.now path c.args.body.now c.args.leaf c.in-Err-Fault.ensures.at_most _ (stays_itself _ c.last.ensures.legal c.last.ensures.owned) refusal)
 
 pub returns-in-Err-OutOfMemory-clause-serves : goal.returns-in-Err-OutOfMemory-clause-serves
 returns-in-Err-OutOfMemory-clause-serves g c = λ path.
-    rw c.no_memory.ensures (no_memory_serves _ _ _ _ (call.Put c.args.leaf) (stays_itself _ c.last.ensures.legal) _ (λ before after none. inr none))
+    rw c.no_memory.ensures (no_memory_serves _ _ _ _ (call.Put c.args.leaf) (stays_itself _ c.last.ensures.legal c.last.ensures.owned) _ (λ before after none. inr none))
 
 pub returns-in-None-clause-serves : goal.returns-in-None-clause-serves
 returns-in-None-clause-serves g c = λ path.
@@ -26,7 +26,7 @@ returns-in-None-clause-serves g c = λ path.
     let count : c.edits.result ≡ edit_count (last_seen board) = rw c.last-in-None.ensures.last at c.edits.ensures.count in
     let told : c.unmet.result ≡ refused_answer (edit_count (last_seen board)) unmet = c.unmet.ensures ∙ ap (λ n. refused_answer n unmet) count in
     rw told (put_unmet _ _ _ _ c.args.request.now path c.args.body.now c.args.leaf c.in-Ok.ensures.at_most (arc_value c.in-Ok.tile) numbers fits
-    (stays_itself _ c.last.ensures.legal) (sym c.in-None.ensures))
+    (stays_itself _ c.last.ensures.legal c.last.ensures.owned) (sym c.in-None.ensures))
 
 pub returns-in-Ok-edit-clause-serves : goal.returns-in-Ok-edit-clause-serves
 returns-in-Ok-edit-clause-serves g c = λ path.

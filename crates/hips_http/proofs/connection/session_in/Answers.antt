@@ -1,3 +1,11 @@
+use Rattle.std.proofs.Common.{ℕ, List, [], ap, subst}
+use Rattle.std.specs.Prelude.{IsSome}
+use Rattle.http_frame.specs.Readings.{ReadsWhile}
+use Rattle.survey_conf.specs.Description.{Description}
+use Rattle.reader_pin.specs.Board.{BoardContent}
+use Rattle.hips_http.specs.SessionRun.{room_of}
+use Rattle.hips_http.specs.Readings.{NeedsNext}
+use Rattle.hips_http.proofs.ReadLemmas.{reads_none}
 use Rattle.hips_http.proofs.Whole.{no_memory_served, no_memory_goes, goes_from, served_from}
 use Rattle.hips_http.proofs.connection.session_in.Goals as goal
 
@@ -11,7 +19,17 @@ returns-in-Some-clause-served g c =
     (g.K.Sink.faults c.serve_all.new.sink) c.args.steps.now c.serve_all.new.steps c.serve_all.result c.release.ensures c.serve_all.ensures.served
 
 pub returns-in-None-clause-goes : goal.returns-in-None-clause-goes
-returns-in-None-clause-goes g c = no_memory_goes _ _ c.top_of-top.ensures.legal c.release.ensures
+returns-in-None-clause-goes g c = no_memory_goes _ _ c.top_of-top.ensures.legal c.top_of-top.ensures.owned c.release.ensures
 
 pub returns-in-None-clause-served : goal.returns-in-None-clause-served
 returns-in-None-clause-served g c = no_memory_served _ _ _ _ _ _ _ _ c.top_of-top.ensures.legal c.release.ensures
+
+pub returns-in-Some-clause-reads : goal.returns-in-Some-clause-reads
+returns-in-Some-clause-reads g c =
+    subst (λ (conf : Description). IsSome (g.S.Source.left c.args.src.now)
+    → (came : List ℕ) × ReadsWhile g.S.Source.left g.S.Source.readings (NeedsNext (room_of conf)) [] c.args.src.now c.serve_all.new.src came)
+    (ap (λ (board : BoardContent). board.conf) c.release.ensures) c.serve_all.ensures.reads
+
+pub returns-in-None-clause-reads : goal.returns-in-None-clause-reads
+returns-in-None-clause-reads g c = λ _.
+    ([], reads_none g.S.Source.left g.S.Source.readings (NeedsNext (room_of (g.B.Board.content c.args.board.now).conf)) [] c.args.src.now)

@@ -1,8 +1,9 @@
-use Rattle.std.proofs.Common.{◌≡◌, inl, inr, [], Err, refl, ap}
+use Rattle.std.proofs.Common.{◌≡◌, inl, inr, [], ◌++◌, Err, refl, ap}
 use Rattle.hips_http.specs.declared.served.SessionEnd.{SessionEnd}
 use Rattle.hips_http.specs.declared.served.SessionEnd.TheVariants.{ReadFault, WriteFault}
 use Rattle.hips_http.specs.Replies.{leave_bytes}
 use Rattle.hips_http.proofs.HandedOn.{hands_leave, hands_same}
+use Rattle.hips_http.proofs.ReadRequests.{head_reads, both_read, both_whole}
 use Rattle.hips_http.proofs.Steps.{head_stops, stops_by_read, leave_stops, served_one, breaks_one, halts_one, is_write_fault, kept_part, head_part, body_part, no_body_part}
 use Rattle.hips_http.proofs.step.serve_one.Goals as goal
 
@@ -97,3 +98,42 @@ returns-in-Err-serve_call-clause-hands_on g c = λ other.
     hands_same (g.K.Sink.held c.args.sink.now) (g.K.Sink.held c.grant.new.sink) (g.K.Sink.held c.serve_call.new.sink)
     (g.K.Sink.handed_on c.args.sink.now) (g.K.Sink.handed_on c.grant.new.sink) (g.K.Sink.handed_on c.serve_call.new.sink)
     c.in-Ok-grant.ensures.handed_on (c.in-Err-serve_call.ensures.unwritten other) c.in-Err-serve_call.ensures.stays
+
+-- ---- what was read
+
+pub returns-in-Err-clause-reads : goal.returns-in-Err-clause-reads
+returns-in-Err-clause-reads g c = λ some.
+    let head = c.in-Err.ensures.needed in
+    (head.0, head_reads g.S.Source.left g.S.Source.readings c.args.frame.now.room c.args.frame.now.held head.0 c.args.src.now c.next_call.new.src head.1, tt)
+
+pub returns-in-Err-grant-clause-reads : goal.returns-in-Err-grant-clause-reads
+returns-in-Err-grant-clause-reads g c = λ some.
+    let head = c.in-Ok.ensures.needed in
+    (head.0, head_reads g.S.Source.left g.S.Source.readings c.args.frame.now.room c.args.frame.now.held head.0 c.args.src.now c.next_call.new.src head.1, tt)
+
+pub returns-in-Ok-serve_call-clause-reads : goal.returns-in-Ok-serve_call-clause-reads
+returns-in-Ok-serve_call-clause-reads g c = λ some.
+    let head = c.in-Ok.ensures.needed in
+    let body = c.in-Ok-serve_call.ensures.needed in
+    let r = c.in-Ok-serve_call.ensures.ok in
+    let path = c.next_call.new.frame.path in (
+      head.0 ++ body.0,
+      both_read g.S.Source.left g.S.Source.readings c.args.frame.now.room c.args.frame.now.held head.0 c.next_call.new.frame.held c.args.src.now c.next_call.new.src c.serve_call.new.src
+          c.in-Ok.next.0 path head.1 head.2 body.0 body.1,
+      (
+        record { asked = c.in-Ok.next.0; path = path; body = r.1.body },
+        both_whole g.S.Source.left g.S.Source.readings c.args.frame.now.room c.args.frame.now.held head.0 c.next_call.new.frame.held c.args.src.now c.next_call.new.src c.serve_call.new.src
+            c.in-Ok.next.0 path head.1 head.2 body.0 body.1 r.1.body c.serve_call.new.frame.held some r.1.takes.count_is r.1.takes.bytes,
+        refl,
+      ),
+    )
+
+pub returns-in-Err-serve_call-clause-reads : goal.returns-in-Err-serve_call-clause-reads
+returns-in-Err-serve_call-clause-reads g c = λ some.
+    let head = c.in-Ok.ensures.needed in
+    let body = c.in-Err-serve_call.ensures.needed in (
+      head.0 ++ body.0,
+      both_read g.S.Source.left g.S.Source.readings c.args.frame.now.room c.args.frame.now.held head.0 c.next_call.new.frame.held c.args.src.now c.next_call.new.src c.serve_call.new.src
+          c.in-Ok.next.0 c.next_call.new.frame.path head.1 head.2 body.0 body.1,
+      tt,
+    )

@@ -1,7 +1,10 @@
 use Rattle.std.proofs.Common.{arith}
 use Rattle.reader_pin.specs.Board.{Stays}
-use Rattle.hips_place.proofs.DoorsLemmas.{meets_next}
+use Rattle.hips_place.proofs.DoorsLemmas.{meets_first, meets_next, meets_all}
 use Rattle.hips_place.proofs.doors.meet_others.Goals as goal
+
+pub loop-other-init : goal.loop-other-init
+loop-other-init g c = meets_first c.args.first.now c.args.others.now c.last-legal.ensures.legal c.last-legal.ensures.owned
 
 pub loop-other-preserved : goal.loop-other-preserved
 loop-other-preserved g c =

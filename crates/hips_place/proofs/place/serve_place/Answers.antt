@@ -1,12 +1,13 @@
-use Rattle.std.proofs.Common.{◌≡◌, inl, inr, Err, refl, sym, ap, ◌∙◌, arith}
+use Rattle.std.proofs.Common.{◌≡◌, inl, inr, [], ◌∷◌, ◌++◌, Err, refl, sym, ap, ◌∙◌, arith}
 use Rattle.hips_place.specs.Place.{counts_of}
-use Rattle.hips_place.proofs.PlaceLemmas.{begins_place, one_more, goes_first, goes_more, place_of, place_as, place_refused, done_wants, wanting_wants, ends_sound, ends_refused}
+use Rattle.hips_place.proofs.PlaceLemmas.{begins_place, one_more, goes_first, goes_more, goes_most, goes_as, place_of, place_as, place_refused, done_wants, wanting_wants, ends_sound, ends_refused}
 use Rattle.hips_place.proofs.place.serve_place.Goals as goal
 
 pub loop-count-init : goal.loop-count-init
 loop-count-init g c = (
   record {
-    goes = goes_first (g.B.Board.content c.args.board.now) c.last-legal.ensures.legal;
+    owns = [];
+    goes = goes_first (g.B.Board.content c.args.board.now) c.last-legal.ensures.legal c.last-legal.ensures.owned;
     no_faults = refl;
     no_wants = refl;
     steps_never_fall = omega arith;
@@ -20,13 +21,14 @@ loop-count-preserved g c =
     let s = c.loop-count.invariant.0 in
     let e = c.in-Ok-Some.ensures in (
       record {
-        goes = goes_more (g.B.Board.content c.args.board.now) (g.B.Board.content c.loop-count.board) (g.B.Board.content c.serve_next.new.board) c.loop-count.count s.goes e.goes;
+        owns = s.owns ++ e.goes.own ∷ [];
+        goes = goes_more (g.B.Board.content c.args.board.now) (g.B.Board.content c.loop-count.board) (g.B.Board.content c.serve_next.new.board) c.loop-count.count s.owns s.goes e.goes;
         no_faults = e.sound.0 ∙ s.no_faults;
         no_wants = e.sound.1 ∙ s.no_wants;
         steps_never_fall = (let before = s.steps_never_fall in let here = e.steps_never_fall in omega arith);
         so_far = λ all. one_more (g.B.Board.content c.args.board.now) (g.B.Board.content c.loop-count.board) (g.B.Board.content c.serve_next.new.board) (g.D.Door.connections c.args.door.now)
             (g.D.Door.connections c.loop-count.door) (g.D.Door.connections c.serve_next.new.door) c.loop-count.count c.loop-count.wanted c.is_wanted-wanted.result c.loop-count.frame c.serve_next.new.frame
-            c.in-Ok-Some.end all (s.so_far all) e.goes (rw c.in-Ok-Some.field-0-is at e.next) c.is_wanted-wanted.ensures.none c.is_wanted-wanted.ensures.some
+            c.in-Ok-Some.end s.owns all (s.so_far all) e.goes (rw c.in-Ok-Some.field-0-is at e.next) c.is_wanted-wanted.ensures.none c.is_wanted-wanted.ensures.some
             (rw c.in-Ok-Some.field-0-is at e.frame_stays) (rw c.in-Ok-Some.field-0-is at e.frame_was);
       },
       e.room,
@@ -35,14 +37,19 @@ loop-count-preserved g c =
 -- ---- how it ended
 
 pub returns-in-Ok-None-clause-place : goal.returns-in-Ok-None-clause-place
-returns-in-Ok-None-clause-place g c = λ all.
+returns-in-Ok-None-clause-place g c =
+    let s = c.loop-count.invariant.0 in
     let none = rw c.in-Ok-None.field-0-is at c.in-Ok-None.ensures.next in
     let end = c.say_ended.ensures ∙ c.end_of.ensures in
-    place_as (g.B.Board.content c.args.board.now) (g.B.Board.content c.loop-count.board) (g.B.Board.content c.serve_next.new.board)
-    (g.D.Door.connections c.args.door.now) (g.D.Door.connections c.loop-count.door) (g.D.Door.connections c.serve_next.new.door)
-    (counts_of (g.D.Door.faults c.args.door.now) (g.D.Door.wants c.args.door.now)) (counts_of (g.D.Door.faults c.serve_next.new.door) (g.D.Door.wants c.serve_next.new.door)) c.loop-count.count c.args.most c.loop-count.wanted c.loop-count.frame c.say_ended.result
-    (c.loop-count.invariant.0.so_far all) none.2 none.1 (omega arith) (λ is. inr none.0) (λ is sound. inr none.0)
-    (λ is. done_wants c.loop-count.wanted (sym end ∙ is)) (λ is. inr (wanting_wants c.loop-count.wanted (sym end ∙ is)))
+    record {
+      owns = s.owns;
+      goes = goes_as (g.B.Board.content c.args.board.now) (g.B.Board.content c.loop-count.board) (g.B.Board.content c.serve_next.new.board) c.loop-count.count c.args.most s.owns s.goes none.2 (omega arith);
+      place = λ all. place_as (g.B.Board.content c.args.board.now) (g.B.Board.content c.loop-count.board) (g.B.Board.content c.serve_next.new.board)
+          (g.D.Door.connections c.args.door.now) (g.D.Door.connections c.loop-count.door) (g.D.Door.connections c.serve_next.new.door)
+          (counts_of (g.D.Door.faults c.args.door.now) (g.D.Door.wants c.args.door.now)) (counts_of (g.D.Door.faults c.serve_next.new.door) (g.D.Door.wants c.serve_next.new.door)) c.loop-count.count c.args.most c.loop-count.wanted c.loop-count.frame c.say_ended.result
+          s.owns (s.so_far all) none.2 none.1 (omega arith) (λ is. inr none.0) (λ is sound. inr none.0)
+          (λ is. done_wants c.loop-count.wanted (sym end ∙ is)) (λ is. inr (wanting_wants c.loop-count.wanted (sym end ∙ is)));
+    }
 
 pub returns-in-Ok-None-clause-ends_by : goal.returns-in-Ok-None-clause-ends_by
 returns-in-Ok-None-clause-ends_by g c =
@@ -52,14 +59,18 @@ returns-in-Ok-None-clause-ends_by g c =
     (c.say_ended.ensures ∙ c.end_of.ensures) (e.0 ∙ s.no_faults) (e.1 ∙ s.no_wants)
 
 pub returns-in-Err-clause-place : goal.returns-in-Err-clause-place
-returns-in-Err-clause-place g c = λ all.
+returns-in-Err-clause-place g c =
     let s = c.loop-count.invariant.0 in
     let e = c.in-Err.ensures in
-    place_refused (g.B.Board.content c.args.board.now) (g.B.Board.content c.loop-count.board) (g.B.Board.content c.serve_next.new.board)
-    (g.D.Door.connections c.args.door.now) (g.D.Door.connections c.loop-count.door) (g.D.Door.connections c.serve_next.new.door)
-    (counts_of (g.D.Door.faults c.args.door.now) (g.D.Door.wants c.args.door.now)) (counts_of (g.D.Door.faults c.serve_next.new.door) (g.D.Door.wants c.serve_next.new.door)) c.loop-count.count c.args.most c.loop-count.wanted c.loop-count.frame c.in-Err.fault c.say_ended-in-Err.result
-    (s.so_far all) e.kept.1 e.kept.0 (omega arith) (λ is. c.say_ended-in-Err.ensures ∙ c.end_by.ensures.failed is) (λ is. c.say_ended-in-Err.ensures ∙ c.end_by.ensures.wanted is)
-    (λ is. rw (← s.no_wants) (e.wanted (ap (λ why. Err why) is)).0)
+    record {
+      owns = s.owns;
+      goes = goes_as (g.B.Board.content c.args.board.now) (g.B.Board.content c.loop-count.board) (g.B.Board.content c.serve_next.new.board) c.loop-count.count c.args.most s.owns s.goes e.kept.1 (omega arith);
+      place = λ all. place_refused (g.B.Board.content c.args.board.now) (g.B.Board.content c.loop-count.board) (g.B.Board.content c.serve_next.new.board)
+          (g.D.Door.connections c.args.door.now) (g.D.Door.connections c.loop-count.door) (g.D.Door.connections c.serve_next.new.door)
+          (counts_of (g.D.Door.faults c.args.door.now) (g.D.Door.wants c.args.door.now)) (counts_of (g.D.Door.faults c.serve_next.new.door) (g.D.Door.wants c.serve_next.new.door)) c.loop-count.count c.args.most c.loop-count.wanted c.loop-count.frame c.in-Err.fault c.say_ended-in-Err.result
+          s.owns (s.so_far all) e.kept.1 e.kept.0 (omega arith) (λ is. c.say_ended-in-Err.ensures ∙ c.end_by.ensures.failed is) (λ is. c.say_ended-in-Err.ensures ∙ c.end_by.ensures.wanted is)
+          (λ is. rw (← s.no_wants) (e.wanted (ap (λ why. Err why) is)).0);
+    }
 
 pub returns-in-Err-clause-ends_by : goal.returns-in-Err-clause-ends_by
 returns-in-Err-clause-ends_by g c =
@@ -70,13 +81,18 @@ returns-in-Err-clause-ends_by g c =
     (λ is. let r = e.failed (ap (λ why. Err why) is) in (rw (← s.no_faults) r.0, r.1 ∙ s.no_wants)) (λ is. let r = e.wanted (ap (λ why. Err why) is) in (rw (← s.no_wants) r.0, r.1 ∙ s.no_faults))
 
 pub returns-clause-place : goal.returns-clause-place
-returns-clause-place g c = λ all.
+returns-clause-place g c =
+    let s = c.loop-count.invariant.0 in
     let whole : c.loop-count.count ≡ c.args.most = omega arith in
     let end = c.say_ended-2.ensures ∙ c.end_of-2.ensures in
-    place_of (g.B.Board.content c.args.board.now) (g.B.Board.content c.loop-count.board) (g.D.Door.connections c.args.door.now) (g.D.Door.connections c.loop-count.door)
-    (counts_of (g.D.Door.faults c.args.door.now) (g.D.Door.wants c.args.door.now)) (counts_of (g.D.Door.faults c.loop-count.door) (g.D.Door.wants c.loop-count.door)) c.loop-count.count c.args.most c.loop-count.wanted c.loop-count.frame c.say_ended-2.result
-    (c.loop-count.invariant.0.so_far all) (omega arith) (λ is. inl whole) (λ is sound. inl whole)
-    (λ is. done_wants c.loop-count.wanted (sym end ∙ is)) (λ is. inr (wanting_wants c.loop-count.wanted (sym end ∙ is)))
+    record {
+      owns = s.owns;
+      goes = goes_most (g.B.Board.content c.args.board.now) (g.B.Board.content c.loop-count.board) c.loop-count.count c.args.most s.owns s.goes (omega arith);
+      place = λ all. place_of (g.B.Board.content c.args.board.now) (g.B.Board.content c.loop-count.board) (g.D.Door.connections c.args.door.now) (g.D.Door.connections c.loop-count.door)
+          (counts_of (g.D.Door.faults c.args.door.now) (g.D.Door.wants c.args.door.now)) (counts_of (g.D.Door.faults c.loop-count.door) (g.D.Door.wants c.loop-count.door)) c.loop-count.count c.args.most c.loop-count.wanted c.loop-count.frame c.say_ended-2.result
+          s.owns (s.so_far all) (omega arith) (λ is. inl whole) (λ is sound. inl whole)
+          (λ is. done_wants c.loop-count.wanted (sym end ∙ is)) (λ is. inr (wanting_wants c.loop-count.wanted (sym end ∙ is)));
+    }
 
 pub returns-clause-ends_by : goal.returns-clause-ends_by
 returns-clause-ends_by g c =

@@ -12,6 +12,6 @@ pub returns : goal.returns
 returns g c =
     let one : length c.args.boards.now ≡ 1 = grind (arith, nat_tests, c.is_empty.ensures, c.if-is_empty.false) in
     first_place g.B.Board.content g.D.Door.connections g.D.Door.faults g.D.Door.wants c.args.most c.args.boards.now c.args.doors.now
-    (get_or c.args.boards.now 0 c.index-boards-0.result) c.serve_place.new.board (get_or c.args.doors.now 0 c.index-doors-0.result) c.serve_place.new.door c.serve_place.result one (omega arith)
+    (get_or c.args.boards.now 0 c.index-boards-0.result) c.serve_place.new.board (get_or c.args.doors.now 0 c.index-doors-0.result) c.serve_place.new.door c.serve_place.ensures.place.owns c.serve_place.result one (omega arith)
     (ap (get_or c.args.boards.now 0) c.index-boards-0.is) (ap (get_or c.args.doors.now 0) c.index-doors-0.is)
-    (record { served = c.serve_place.ensures.place; goes = c.serve_place.ensures.goes; ends_by = c.serve_place.ensures.ends_by })
+    (record { served = c.serve_place.ensures.place.place; goes = c.serve_place.ensures.place.goes; ends_by = c.serve_place.ensures.ends_by })

@@ -11,7 +11,7 @@ returns-in_ok-happen-in-Ok-clause-accepted g c =
     accepts_all_later (map edit_of c.args.edits.items) c.args.self.now c.catch_up.new.self c.happen.new.self c.in-Ok.count c.catch_up.ensures.stays
     (accepted-batch (map edit_of c.args.edits.items) c.catch_up.new.self c.happen.new.self c.in-Ok.next c.in-Ok.count
     (subst (λ (last : StateContent). FollowsBatch (map edit_of c.args.edits.items) last c.in-Ok.next c.in-Ok.count) c.state.ensures.last c.in-Ok.ensures.next)
-    c.in_ok-happen-in-Ok.ensures.went c.happen.ensures.legal)
+    c.in_ok-happen-in-Ok.ensures.went c.happen.ensures.legal c.state-made.ensures.owned)
 
 pub returns-in-Err-clause-refused : goal.returns-in-Err-clause-refused
 returns-in-Err-clause-refused g c =

@@ -11,7 +11,7 @@ returns-in_ok-happen-in-Ok-clause-accepted g c =
     accepts_later (edit_of c.args.edit) c.args.self.now c.catch_up.new.self c.happen.new.self c.in-Ok.accepted c.catch_up.ensures.stays
     (accepted-edit (edit_of c.args.edit) c.catch_up.new.self c.happen.new.self c.in-Ok.next c.in-Ok.accepted
     (subst (λ (last : StateContent). FollowsEdit (edit_of c.args.edit) last c.in-Ok.next c.in-Ok.accepted) c.state.ensures.last c.in-Ok.ensures.next)
-    c.in_ok-happen-in-Ok.ensures.went c.happen.ensures.legal)
+    c.in_ok-happen-in-Ok.ensures.went c.happen.ensures.legal c.state-made.ensures.owned)
 
 pub returns-in-Err-clause-refused : goal.returns-in-Err-clause-refused
 returns-in-Err-clause-refused g c =

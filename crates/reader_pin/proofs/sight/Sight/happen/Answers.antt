@@ -1,5 +1,6 @@
-use Rattle.std.proofs.Common.{subst, ◌∙◌}
+use Rattle.std.proofs.Common.{ℕ, ◌<◌, ap, subst, ◌∙◌}
 use Rattle.shared_history.specs.Histories.{IsSeenHistory}
+use Rattle.reader_pin.specs.Board.{BoardContent}
 use Rattle.reader_pin.specs.Shared.{IsOneSurvey}
 use Rattle.reader_pin.proofs.SightLemmas.{seen_legal, survey_more, step_at}
 use Rattle.reader_pin.proofs.sight.Sight.happen.Goals as goal
@@ -11,6 +12,7 @@ pub append-requires : goal.append-requires
 append-requires g c =
     let all : IsSeenHistory IsOneSurvey c.args.desk.now.newest = subst (IsSeenHistory IsOneSurvey) c.newest.ensures c.last-all.ensures.seen in
     record {
+      seated = subst (λ (n : ℕ). c.self.inside.number < n) (ap (λ (b : BoardContent). b.seat.seats) c.self.view_is ∙ c.requires.seen.seats) c.self.invariant.seated;
       legal = survey_more c.args.desk.now.newest c.args.next all (c.requires.conf ∙ c.requires.seen.conf) (c.requires.opening ∙ c.requires.seen.opening)
           (step_at c.args.desk.now.newest c.args.self.now c.args.next c.requires.seen all c.requires.step);
     }

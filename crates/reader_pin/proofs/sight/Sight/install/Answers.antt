@@ -10,7 +10,7 @@ returns-clause-event g c =
     let last : StateContent = state_in c.args.self.now (last_seen c.args.self.now) in
     let follows : Follows (Publishes c.args.generation.prefix) last c.in_ok-next.next =
     subst (λ (state : StateContent). Follows (Publishes c.args.generation.prefix) state c.in_ok-next.next) c.state.ensures.last c.in_ok-next.ensures in
-    happens (Publishes c.args.generation.prefix) c.args.self.now c.happen.new.self (survey_state c.in_ok-next.next) c.in_ok-happen.ensures.went c.happen.ensures.legal follows.event
+    happens (Publishes c.args.generation.prefix) c.args.self.now c.happen.new.self (survey_state c.in_ok-next.next) c.in_ok-happen.ensures.went c.happen.ensures.legal c.state-made.ensures.owned follows.event
 
 pub returns-clause-edits : goal.returns-clause-edits
 returns-clause-edits g c =

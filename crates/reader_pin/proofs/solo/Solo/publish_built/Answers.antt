@@ -11,7 +11,7 @@ returns-clause-event c =
     let follows : Follows (Publishes (length (state_edits last))) last c.in_ok-next.next =
     subst (λ (state : StateContent). Follows (Publishes (length (state_edits state))) state c.in_ok-next.next) c.last-last.ensures.last c.in_ok-next.ensures in
     happens (Publishes (edit_count (last_seen c.args.self.now))) c.args.self.now c.go_on.new.self (survey_state c.in_ok-next.next)
-    c.in_ok-go_on.ensures.went c.go_on.ensures.legal follows.event
+    c.in_ok-go_on.ensures.went c.go_on.ensures.legal c.last-made.ensures.owned follows.event
 
 pub returns-clause-edits : goal.returns-clause-edits
 returns-clause-edits c =

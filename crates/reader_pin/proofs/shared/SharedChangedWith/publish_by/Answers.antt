@@ -4,7 +4,7 @@ use Rattle.dirty_plan.specs.Dirty.{steps_after}
 use Rattle.reader_pin.specs.Board.{last_seen, state_in}
 use Rattle.reader_pin.specs.Build.{build_work}
 use Rattle.reader_pin.proofs.SharedLemmas.{result_later, steps_of_both}
-use Rattle.reader_pin.proofs.shared.SharedBoard.publish_by.Goals as goal
+use Rattle.reader_pin.proofs.shared.SharedChangedWith.publish_by.Goals as goal
 
 pub returns-in-Ok-clause-published : goal.returns-in-Ok-clause-published
 returns-in-Ok-clause-published g c =

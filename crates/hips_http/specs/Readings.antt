@@ -1,0 +1,24 @@
+-- When a connection is read: only while the bytes that came of it end before or within its next request. So never after a
+-- request that asked to close.
+use Rattle.std.specs.Prelude.{◌≡◌, ◌⊎◌, ℕ, List, Bool, Result, Ok, Err, ⊤}
+use Rattle.http_frame.specs.Next.{NeedsMore, IsCutInBody, IsWhole}
+use Rattle.hips_http.specs.declared.served.SessionEnd.{SessionEnd}
+use Rattle.hips_http.specs.Answers.{Asking}
+use Rattle.hips_http.specs.SessionRun.{AreRequests, GoOn}
+
+-- the bytes end before a request, or within its head or its body
+abbrev pub NeedsRest : ℕ → List ℕ → Type 0
+NeedsRest room bytes = NeedsMore bytes ⊎ IsCutInBody room bytes
+
+-- the bytes that came are requests of which none asked to close, and the beginning of one more
+pub record NeedsNext (room : ℕ) (came : List ℕ) : Type 0 where
+  pub requests : List Asking
+  pub rest : List ℕ
+  pub are_requests : AreRequests room came requests rest
+  pub go_on : GoOn requests
+  pub needs : NeedsRest room rest
+
+-- the bytes are the request that was answered, and then those that are held
+abbrev pub HoldsBehind : ℕ → List ℕ → List ℕ → Result Bool SessionEnd → Type 0
+HoldsBehind room bytes held (Ok closed) = (request : Asking) × IsWhole room bytes request.asked request.path request.body held × (closed ≡ request.asked.close)
+HoldsBehind room bytes held (Err end) = ⊤
