@@ -2,16 +2,17 @@
 # Times reads of earlier states by `hipsd past 8`, and prints each figure beside its goal.
 #
 # Over a full sky of order 3, 768 leaves of 512 by 512 pixels of 16 bits with the orders down to 0, and 200 batches of one edit
-# each: a first read, which makes the generation of the opening leaves; reads of `properties` one edit further each time, beside
-# what `survey_bench generation full` takes for the first generation and for the next one; reads back, below all states that are
-# held, so that each is made anew; and reads of a leaf tile of a state that is held, beside C (session.c). C copies the bytes of
-# the file from one warm buffer to another, and writes them into a pipe. Then over 65,536 leaves of order 11, of 32 by 32, with
-# 10,000 edits in batches of 80: reads of states all over.
+# each: reads of `properties` one edit further each time, beside the next generation in `survey_bench generation full`; reads
+# back, below all states that are held, beside the first generation there; and reads of a leaf tile of a state that is held,
+# beside C (session.c). C copies the bytes of the file from one warm buffer to another, and writes them into a pipe. Then over
+# 65,536 leaves of order 11, of 32 by 32, with 10,000 edits in batches of 80: reads of states all over.
 #
-# Reads that make a state are timed by a client at the other end of two pipes, on the wall, from the record to the end of the
-# answer. Reads of a held state are timed by 20,000 of them, as processor time of the whole process, less that of one read. The
-# wall means something only where nothing else runs. The program is the proved build: one of `rt try` has checks in it, and its
-# times say nothing. To try the script there are HIPSD=PROGRAM and BENCH=PROGRAM, which run those.
+# Reads one edit further are timed by five rounds over the 200 edits, from a file and into /dev/null, so that no client is in it:
+# the whole process on the wall, less one that reads once. Reads back and those of the deep field are timed by a client at the
+# other end of two pipes, on the wall, from the record to the end of the answer. Reads of a held state are timed by 20,000 of
+# them, as processor time of the whole process, less that of one read. The wall means something only where nothing else runs.
+# The program is the proved build: one of `rt try` has checks in it, and its times say nothing. To try the script there are
+# HIPSD=PROGRAM and BENCH=PROGRAM, which run those.
 #
 #   bench/past.sh [RUNS]
 set -u
@@ -110,27 +111,37 @@ PYTHON
 
 make 3 512 768
 batches 512 768 277 200 1 >"$work/batches"
+
+# timed NAME BYTES null|pipe WORD ..: appends a line 'NAME PROCESSOR WALL' of a process that ends with status 0 after BYTES.
+timed() {
+    name=$1 bytes=$2
+    shift 2
+    read -r status came processor wall < <("$work/session" run "$@")
+    if [ "$status $came" != "0 $bytes" ]; then
+        echo "past.sh: $name ended with status $status after $came bytes in place of $bytes"
+        exit 1
+    fi
+    echo "$name $processor $wall" >>"$work/timed"
+}
+rounds=5
+{
+    cat "$work/batches"
+    echo "read 0 properties"
+} >"$work/once"
+{
+    cat "$work/once"
+    for _ in $(seq $rounds); do seq -f 'read %.0f properties' 200; done
+} >"$work/further"
 run=0
 while [ "$run" -lt "$runs" ]; do
-    # shellcheck disable=SC2046 # numbers
-    python3 "$work/client.py" "$hipsd" "$work/batches" 200 $(seq 0 200) >"$work/forward.$run" || exit 1
+    timed once 0 null "$hipsd" past 8 <"$work/once"
+    timed further 0 null "$hipsd" past 8 <"$work/further"
     # shellcheck disable=SC2046 # numbers
     python3 "$work/client.py" "$hipsd" "$work/batches" 200 200 $(seq 199 -10 0) 0 >"$work/back.$run" || exit 1
     "$bench" generation full >>"$work/full" || exit 1
     run=$((run + 1))
 done
 
-# timed NAME BYTES null|pipe WORD ..: appends a line 'NAME PROCESSOR' of a process that ends with status 0 after BYTES.
-timed() {
-    name=$1 bytes=$2
-    shift 2
-    read -r status came processor _ < <("$work/session" run "$@")
-    if [ "$status $came" != "0 $bytes" ]; then
-        echo "past.sh: $name ended with status $status after $came bytes in place of $bytes"
-        exit 1
-    fi
-    echo "$name $processor" >>"$work/held"
-}
 reads=20000
 tile=Norder3/Dir0/Npix77.fits
 cp "$work/batches" "$work/one"
@@ -149,7 +160,7 @@ while [ "$run" -lt "$runs" ]; do
     timed many-piped $((accepted + answer * (reads + 1))) pipe "$hipsd" past 8 <"$work/many"
     timed c-start 0 null "$work/session" write 0
     timed c-piped $((reads * 529920)) pipe "$work/session" write $reads
-    echo "c-copy $("$work/session" copy)" >>"$work/held"
+    echo "c-copy $("$work/session" copy)" >>"$work/timed"
     run=$((run + 1))
 done
 echo "a full sky of order 3, 768 leaves of 512 by 512, 16 bits, 200 edits, $(nproc) processors (best of $runs runs):"
@@ -160,13 +171,13 @@ awk -v reads=$reads '!($1 in least) || $2 < least[$1] { least[$1] = $2 }
         printf "  a read of a leaf of a held state: %.2f microseconds of processor time into /dev/null, %.2f into a pipe\n", held, piped
         printf "  C: a copy of the file %.2f, a write into a pipe %.2f; a read for each copy %.2f (goal: at most 2, as a GET), in a pipe for each write %.2f\n",
             least["c-copy"], written, held / least["c-copy"], piped / written
-    }' "$work/held"
-python3 - "$work" "$runs" <<'PYTHON' || exit 1
+    }' "$work/timed"
+python3 - "$work" "$runs" $((rounds * 200)) <<'PYTHON' || exit 1
 import statistics
 import sys
 from pathlib import Path
 
-work, runs = Path(sys.argv[1]), int(sys.argv[2])
+work, runs, steps = Path(sys.argv[1]), int(sys.argv[2]), int(sys.argv[3])
 
 
 def least(name):
@@ -177,14 +188,15 @@ def least(name):
 
 full = [[float(word) for word in line.split()] for line in (work / "full").read_text().splitlines()]
 start, following = min(row[0] for row in full) / 1e6, min(row[1] for row in full) / 1e6
-forward, back = least("forward"), least("back")
-first = forward[0][1]
-ahead = statistics.median(took for _, took in forward[1:])
-worst = max(back[1:], key=lambda pair: pair[1])
-print(f"  the first state {first:.1f} ms; survey_bench: the first generation {start:.1f}, the next of one edit {following:.2f}")
-print(f"  one edit forward {ahead:.2f} ms (median), for each next generation {ahead / following:.2f} (goal: at most 1.2)")
-print(f"  back, below all that are held: {statistics.median(took for _, took in back[1:]):.1f} ms (median), at most {worst[1]:.1f} (to {worst[0]}); "
-      f"for each first state {worst[1] / first:.2f} (goal: at most 1)")
+walls = [line.split() for line in (work / "timed").read_text().splitlines()]
+once, further = (min(float(row[2]) for row in walls if row[0] == name) / 1000 for name in ("once", "further"))
+ahead = (further - once) / steps
+back = least("back")[1:]
+worst = max(back, key=lambda pair: pair[1])
+print(f"  survey_bench: the first generation {start:.1f} ms, the next of one edit {following:.2f}")
+print(f"  one edit forward {ahead:.2f} ms, for each next generation {ahead / following:.2f} (goal: at most 1.2)")
+print(f"  back, below all that are held: {statistics.median(took for _, took in back):.1f} ms (median), at most {worst[1]:.1f} (to {worst[0]}); "
+      f"for each first generation {worst[1] / start:.2f} (goal: at most 1)")
 PYTHON
 
 # ---- a deep field

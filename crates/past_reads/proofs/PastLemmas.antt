@@ -1,6 +1,6 @@
 -- What stays of past states where more batches come, and which generation another one is made from.
-use Rattle.std.proofs.Common.{◌≡◌, ◌⊎◌, inl, inr, ℕ, ◌≤◌, ◌<◌, true, false, cond, nat_eq, nat_lt, List, [], ◌∷◌, ◌++◌, filter, fold, length, take, Option, Some, None, refl, sym, ap, ◌∙◌, subst}
-use Rattle.std.specs.Prelude.{Contains, IfSome, is_some}
+use Rattle.std.proofs.Common.{◌≡◌, ◌⊎◌, inl, inr, ℕ, ◌≤◌, ◌<◌, true, false, cond, nat_eq, nat_lt, List, [], ◌∷◌, ◌++◌, filter, fold, length, take, Option, Some, None, refl, sym, ap, ◌∙◌, subst, arith}
+use Rattle.std.specs.Prelude.{Contains, IfSome, is_some, option_map}
 use Rattle.std.specs.Borrow.{Bor}
 use Rattle.std.specs.List.{list_any, AllByRecursion}
 use Rattle.std.specs.Map.{keys_of, lookup}
@@ -12,8 +12,8 @@ use Rattle.edit_journal.specs.Journal.{JournalContent}
 use Rattle.survey_conf.specs.Description.{Description}
 use Rattle.generation.specs.Generation.{GenerationContent}
 use Rattle.survey_core.specs.History.{Begins}
-use Rattle.survey_core.specs.HistoryLaws.{edits_of-append, end_within, end_stays, begins_itself}
-use Rattle.past_reads.specs.Past.{past_leaves, PastContent, past_generation, GoesOnFrom, IsHeld, IsKept, FindsNearest, kept_content, journal_of, prefix_by, better_prefix}
+use Rattle.survey_core.specs.HistoryLaws.{edits_of-append, end_within, end_stays, zero_is_end, begins_itself}
+use Rattle.past_reads.specs.Past.{past_leaves, PastContent, past_generation, GoesOnFrom, IsHeld, IsKeptPast, FindsNearest, FindsBase, kept_content, journal_of, prefix_by, better_prefix}
 use Rattle.past_reads.specs.Costs.{greater, nearest, held_after}
 use Rattle.lru.specs.LruCache.{LruCache, put_entries, IsValid}
 use Rattle.past_reads.proofs.HeldLemmas.{all-put, keys-put, any-lookup}
@@ -99,12 +99,45 @@ so_far_all value past k best left none so = record {
   below = so.below;
 }
 
+-- ---- the generation that another one is made from
+
+-- the generation of the opening leaves is that of no edits
+opening_held : {X : Type 0} (value : X → GenerationContent) (past : PastContent) (d : Description) (journal : JournalContent) (held : List ℕ) (room : ℕ) (x : X)
+    → kept_content d journal held room ≡ past → value x ≡ record { conf = d; prefix = 0; leaves = journal.opening } → IsHeld past.conf (journal_of past) (value x).prefix (value x)
+opening_held value past d journal held room x view is =
+    let seen : PastContent = kept_content d journal held room in
+    let whole : Contains (ends journal.batches) 0 = zero_is_end journal.batches in
+    let none : value x ≡ past_generation d journal.opening journal.batches 0 =
+    is ∙ ap (λ (leaves : LeafTiles). record { conf = d; prefix = 0; leaves = leaves }) (sym (none_yet journal.opening (edits_of journal.batches))) in
+    let first : (value x).prefix ≡ 0 = ap (λ (g : GenerationContent). g.prefix) is in
+    subst (λ (p : PastContent). IsHeld p.conf (journal_of p) (value x).prefix (value x)) view
+    (subst (λ (n : ℕ). IsHeld d (journal_of seen) n (value x)) (sym first) (record { whole = whole; is = none }))
+
+pub base_held : {X : Type 0} (value : X → GenerationContent) (past : PastContent) (k : ℕ) (found : Bor X) → FindsNearest value past k (Some found) → FindsBase value past k (Some found)
+base_held value past k found nearest = record {
+  prefix = inl nearest.prefix;
+  held = nearest.held;
+  at_most = omega (arith, nearest.below);
+}
+
+pub base_opening : {X : Type 0} (value : X → GenerationContent) (past : PastContent) (d : Description) (journal : JournalContent) (first : Option X) (pairs : List (ℕ × X)) (cap k : ℕ) (found : Option (Bor X))
+    → kept_content d journal (keys_of pairs) cap ≡ past → IsKeptPast value d journal first pairs cap → FindsNearest value past k None → option_map (λ b. b.now) found ≡ first → FindsBase value past k found
+base_opening value past d journal first pairs cap k None view kept nearest is = record { prefix = inl nearest.prefix; held = tt; at_most = tt }
+base_opening {X} value past d journal first pairs cap k (Some found) view kept nearest is =
+    let opening : value found.now ≡ record { conf = d; prefix = 0; leaves = journal.opening } = subst (λ o. IfSome o (λ x. value x ≡ record { conf = d; prefix = 0; leaves = journal.opening })) (sym is) kept.opening in
+    let none : (value found.now).prefix ≡ 0 = ap (λ (g : GenerationContent). g.prefix) opening in
+    record {
+      prefix = inr (sym nearest.prefix, ap Some none);
+      held = opening_held value past d journal (keys_of pairs) cap found.now view opening;
+      at_most = omega (arith, none);
+    }
+
 -- ---- one generation more
 
-pub kept_put : {X : Type 0} (value : X → GenerationContent) (past : PastContent) (d : Description) (old journal : JournalContent) (c : LruCache ℕ X) (k : ℕ) (v : X) (entries : List (ℕ × X)) (cap : ℕ)
-    → kept_content d old (keys_of c.entries) c.cap ≡ past → IsKept value d old c.entries c.cap → GoesOnFrom past journal → Contains (ends journal.batches) k
-    → value v ≡ past_generation past.conf journal.opening journal.batches k → entries ≡ put_entries nat_eq c k v → cap ≡ c.cap → IsKept value d journal entries cap
-kept_put value past d old journal c k v entries cap view kept goes whole is put same =
+pub kept_put : {X : Type 0} (value : X → GenerationContent) (past : PastContent) (d : Description) (old journal : JournalContent) (first : Option X) (c : LruCache ℕ X) (k : ℕ) (v : X) (entries : List (ℕ × X)) (cap : ℕ)
+    → kept_content d old (keys_of c.entries) c.cap ≡ past → IsKeptPast value d old first c.entries c.cap → GoesOnFrom past journal → Contains (ends journal.batches) k
+    → value v ≡ past_generation past.conf journal.opening journal.batches k → entries ≡ put_entries nat_eq c k v → cap ≡ c.cap → IsKeptPast value d journal first entries cap
+kept_put value past d old journal first c k v entries cap view kept goes whole is put same =
     let conf : d ≡ past.conf = ap (λ (p : PastContent). p.conf) view in
     let opening : old.opening ≡ past.opening = ap (λ (p : PastContent). p.opening) view in
     let batches : old.batches ≡ past.batches = ap (λ (p : PastContent). p.batches) view in
@@ -116,6 +149,7 @@ kept_put value past d old journal c k v entries cap view kept goes whole is put 
     (λ pair. held_stays past old journal shape opening batches goes pair.0 (value pair.1)) c.entries before) in
     record {
       shape = goes.shape ∙ ap (λ (e : Description). e.shape) (sym conf);
+      opening = subst (λ (leaves : LeafTiles). IfSome first (λ x. value x ≡ record { conf = d; prefix = 0; leaves = leaves })) (opening ∙ sym goes.opening) kept.opening;
       held = subst (λ (e : Description). AllByRecursion (λ pair. IsHeld e journal pair.0 (value pair.1)) entries) (sym conf)
           (subst (AllByRecursion (λ pair. IsHeld past.conf journal pair.0 (value pair.1))) (sym put) after);
       most = subst (λ (n : ℕ). n ≤ 8) (sym same) kept.most;
@@ -137,9 +171,9 @@ content_put past d old journal c k v entries cap view valid goes put same =
 
 -- ---- what is kept, as it is seen
 
-pub so_far_begin : {X : Type 0} (value : X → GenerationContent) (past : PastContent) (d : Description) (old : JournalContent) (pairs : List (ℕ × X)) (cap k : ℕ) (left : List (ℕ × X))
-    → kept_content d old (keys_of pairs) cap ≡ past → IsKept value d old pairs cap → left ≡ pairs → NearestSoFar value past k None left
-so_far_begin {X} value past d old pairs cap k left view kept is =
+pub so_far_begin : {X : Type 0} (value : X → GenerationContent) (past : PastContent) (d : Description) (old : JournalContent) (first : Option X) (pairs : List (ℕ × X)) (cap k : ℕ) (left : List (ℕ × X))
+    → kept_content d old (keys_of pairs) cap ≡ past → IsKeptPast value d old first pairs cap → left ≡ pairs → NearestSoFar value past k None left
+so_far_begin {X} value past d old first pairs cap k left view kept is =
     let seen : PastContent = kept_content d old (keys_of pairs) cap in
     let all : AllByRecursion (λ (pair : ℕ × X). IsHeld d (journal_of seen) pair.0 (value pair.1)) pairs =
     all_stay (λ (pair : ℕ × X). IsHeld d old pair.0 (value pair.1)) (λ (pair : ℕ × X). IsHeld d (journal_of seen) pair.0 (value pair.1)) (λ pair held. record { whole = held.whole; is = held.is }) pairs kept.held in
@@ -171,10 +205,10 @@ held_there {X} P k (pair ∷ pairs) x all found =
     one x y some = cc
 
 -- the generation that is found at k is that of the first k edits
-pub found_held : {X : Type 0} (value : X → GenerationContent) (past : PastContent) (d : Description) (old journal : JournalContent) (pairs : List (ℕ × X)) (cap k : ℕ) (x : X)
-    → kept_content d old (keys_of pairs) cap ≡ past → IsKept value d old pairs cap → GoesOnFrom past journal → lookup (nat_eq k) pairs ≡ Some x
+pub found_held : {X : Type 0} (value : X → GenerationContent) (past : PastContent) (d : Description) (old journal : JournalContent) (first : Option X) (pairs : List (ℕ × X)) (cap k : ℕ) (x : X)
+    → kept_content d old (keys_of pairs) cap ≡ past → IsKeptPast value d old first pairs cap → GoesOnFrom past journal → lookup (nat_eq k) pairs ≡ Some x
     → value x ≡ past_generation past.conf journal.opening journal.batches k
-found_held {X} value past d old journal pairs cap k x view kept goes found =
+found_held {X} value past d old journal first pairs cap k x view kept goes found =
     let conf : d ≡ past.conf = ap (λ (p : PastContent). p.conf) view in
     let opening : old.opening ≡ past.opening = ap (λ (p : PastContent). p.opening) view in
     let batches : old.batches ≡ past.batches = ap (λ (p : PastContent). p.batches) view in

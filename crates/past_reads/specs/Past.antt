@@ -1,5 +1,5 @@
 -- A cache of past states as contracts see it, and what it is kept as.
-use Rattle.std.specs.Prelude.{◌≡◌, ℕ, ◌<◌, ◌≤◌, nat_lt, List, length, take, Contains, Option, IfSome, option_map, if◌then◌else◌}
+use Rattle.std.specs.Prelude.{◌≡◌, ◌⊎◌, ℕ, ◌<◌, ◌≤◌, nat_lt, List, length, take, Contains, Option, Some, None, IfSome, option_map, if◌then◌else◌}
 use Rattle.std.specs.Borrow.{Bor}
 use Rattle.past_reads.specs.Costs.{greater, nearest}
 use Rattle.std.specs.List.{AllByRecursion}
@@ -56,9 +56,11 @@ pub record IsHeld (d : Description) (journal : JournalContent) (k : ℕ) (genera
   pub whole : Contains (ends journal.batches) k
   pub is : generation ≡ past_generation d journal.opening journal.batches k
 
--- so is each of the pairs of a prefix and what its generation is kept as
-pub record IsKept {X : Type 0} (value : X → GenerationContent) (d : Description) (journal : JournalContent) (pairs : List (ℕ × X)) (room : ℕ) : Type 0 where
+-- so is each of the pairs of a prefix and what its generation is kept as; that of the opening leaves stands beside them, where
+-- it was given
+pub record IsKeptPast {X : Type 0} (value : X → GenerationContent) (d : Description) (journal : JournalContent) (first : Option X) (pairs : List (ℕ × X)) (room : ℕ) : Type 0 where
   pub shape : journal.shape ≡ d.shape
+  pub opening : IfSome first (λ x. value x ≡ record { conf = d; prefix = 0; leaves = journal.opening })
   pub held : AllByRecursion (λ pair. IsHeld d journal pair.0 (value pair.1)) pairs
   pub most : room ≤ 8
 
@@ -73,6 +75,12 @@ pub record FindsNearest {X : Type 0} (value : X → GenerationContent) (past : P
   pub prefix : prefix_by value found ≡ nearest k past.held
   pub held : IfSome found (λ generation. IsHeld past.conf (journal_of past) (value generation.now).prefix (value generation.now))
   pub below : IfSome found (λ generation. (value generation.now).prefix < k)
+
+-- it is that one, or where there is none, one of no edits, or none
+pub record FindsBase {X : Type 0} (value : X → GenerationContent) (past : PastContent) (k : ℕ) (found : Option (Bor X)) : Type 0 where
+  pub prefix : (prefix_by value found ≡ nearest k past.held) ⊎ ((nearest k past.held ≡ None) × (prefix_by value found ≡ Some 0))
+  pub held : IfSome found (λ generation. IsHeld past.conf (journal_of past) (value generation.now).prefix (value generation.now))
+  pub at_most : IfSome found (λ generation. (value generation.now).prefix ≤ k)
 
 -- of two, the one with more edits, where these are below k
 abbrev pub better_prefix : ℕ → Option ℕ → ℕ → Option ℕ

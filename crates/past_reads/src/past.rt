@@ -3,7 +3,7 @@ ghost use Rattle.std.specs.Prelude.{◌≡◌, ◌≢◌, ◌⊎◌, Some, ◌�
 ghost use Rattle.std.specs.Arc.{arc_value};
 ghost use Rattle.edit_journal.specs.Batches.{edits_of, ends};
 ghost use Rattle.past_reads.specs.declared.refusal.PastRefusal.TheVariants.{OutOfMemory};
-ghost use Rattle.past_reads.specs.Past.{PastContent, GoesOnFrom, past_generation, FindsNearest, TellsPastRefusal, prefix_by, better_prefix};
+ghost use Rattle.past_reads.specs.Past.{PastContent, GoesOnFrom, past_generation, FindsNearest, FindsBase, TellsPastRefusal, prefix_by, better_prefix};
 ghost use Rattle.past_reads.specs.Costs.{held_after, nearest, work_from, work_afresh, past_work};
 
 use crate::refusal::PastRefusal;
@@ -25,24 +25,27 @@ use survey_link::Gate;
 /// The generations of a survey that were asked for last, at most eight of them. Contracts see the survey's description and
 /// opening leaves, the batches of edits that are known, how many generations may be held, and the prefixes of those that are,
 /// the most recently used first.
+///
+/// The generation of the opening leaves stands beside these, where it was given.
 #[derive(Drop)]
 pub struct Past {
     alloc: Global,
     conf: Arc<Conf>,
     journal: Journal,
+    opening: Option<Arc<Generation>>,
     cache: LruCache<u32, Arc<Generation>>,
 }
 
 impl Model for Past {
     ghost use Rattle.std.specs.Map.{keys_of};
     ghost use Rattle.std.specs.Arc.{arc_value};
-    ghost use Rattle.past_reads.specs.Past.{PastContent, kept_content, IsKept};
+    ghost use Rattle.past_reads.specs.Past.{PastContent, kept_content, IsKeptPast};
 
     ghost Value = { PastContent };
 
     ghost view = { λ p. kept_content (arc_value p.conf) p.journal (keys_of p.cache.entries) p.cache.cap };
 
-    ghost invariant = { λ p. IsKept (λ generation. arc_value generation) (arc_value p.conf) p.journal p.cache.entries p.cache.cap };
+    ghost invariant = { λ p. IsKeptPast (λ generation. arc_value generation) (arc_value p.conf) p.journal p.opening p.cache.entries p.cache.cap };
 }
 
 impl Past {
@@ -76,6 +79,46 @@ impl Past {
             alloc,
             conf,
             journal,
+            opening: None,
+            cache,
+        })
+    }
+
+    /// The same of a survey with this generation of its opening leaves, which is kept beside those that are held: a generation
+    /// below which none is held is made from it.
+    ///
+    /// # Errors
+    ///
+    /// As for `new`.
+    #[tactic(auto, using(crate::proofs::PastLemmas::goes_new))]
+    pub fn over(
+        alloc: Global,
+        opening: Arc<Generation>,
+        journal: &Journal,
+        capacity: usize,
+    ) -> Result<Past, AllocError>
+        requires least { 1 ≤ capacity }
+        requires most { capacity ≤ 8 }
+        requires first { (arc_value opening).prefix ≡ 0 }
+        requires shape { journal.now.shape ≡ (arc_value opening).conf.shape }
+        requires leaves { journal.now.opening ≡ (arc_value opening).leaves }
+        ensures made { IfOk result (λ past. past ≡ record {
+          conf = (arc_value opening).conf;
+          opening = journal.now.opening;
+          batches = journal.now.batches;
+          room = capacity;
+          held = [];
+        }) }
+        ensures goes_on { IfOk result (λ past. GoesOnFrom past journal.now) }
+    {
+        let conf = opening.conf().clone()?;
+        let journal = journal.share()?;
+        let cache = LruCache::new(alloc, NonZeroUsize::new(capacity).unwrap())?;
+        Ok(Past {
+            alloc,
+            conf,
+            journal,
+            opening: Some(opening),
             cache,
         })
     }
@@ -175,12 +218,12 @@ impl Past {
         ensures never_falls { steps.old ≤ steps.new }
     {
         let making = Making::begin(rt, steps.count());
-        let from = self.nearest(k);
+        let from = self.base(k);
         let made = match from {
-            Some(held) => held.next(rt, journal, k, gate, steps)?,
+            Some(base) => base.next(rt, journal, k, gate, steps)?,
             None => self.make_afresh(rt, journal, k, gate, steps)?,
         };
-        making.say_made(rt, k, from.map(|held| held.prefix()), steps.count());
+        making.say_made(rt, k, from.map(|base| base.prefix()), steps.count());
         Ok(Arc::new(self.alloc, made)?)
     }
 
@@ -204,6 +247,17 @@ impl Past {
         let leaves = journal.opening().share()?;
         let opening = Generation::start(rt, self.alloc, self.conf.clone()?, leaves, gate, steps)?;
         opening.next(rt, journal, k, gate, steps)
+    }
+
+    // The generation that the one of the first `k` edits is made from: the one held of the greatest prefix below `k`, else that
+    // of the opening leaves, where it is kept.
+    fn base(&self, k: u32) -> Option<&Arc<Generation>>
+        ensures { FindsBase (λ generation. arc_value generation) self.now k result }
+    {
+        match self.nearest(k) {
+            Some(held) => Some(held),
+            None => self.opening.as_ref(),
+        }
     }
 
     // The generation held of the greatest prefix below `k`.

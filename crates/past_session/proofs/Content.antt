@@ -18,7 +18,7 @@ use Rattle.past_frame.specs.Record.{read}
 use Rattle.past_reads.specs.Past.{PastContent, GoesOnFrom}
 use Rattle.past_reads.specs.Costs.{held_after}
 use Rattle.past_session.specs.Answers.{PastState, first_state, state_after, faulty, verdict_by, judged, batch_verdict, batch_text}
-use Rattle.past_session.specs.Session.{SessionContent, kept_content, IsKept}
+use Rattle.past_session.specs.Session.{SessionContent, kept_content, IsKeptSession}
 use Rattle.past_session.specs.Steps.{session_after}
 use Rattle.past_session.proofs.Asked.{found_state, same_state, first_held}
 
@@ -39,8 +39,8 @@ goes_on_more past journal next batch goes shape opening batches = record {
   batches = record { rest = goes.batches.rest ++ batch ∷ []; is = batches ∙ ap (λ bs. bs ++ batch ∷ []) goes.batches.is ∙ append_assoc past.batches goes.batches.rest (batch ∷ []) };
 }
 
-pub kept_more : (d : Description) (past : PastContent) (journal next : JournalContent) (batch : List LeafEdit) → IsKept d journal past → next.shape ≡ journal.shape → next.opening ≡ journal.opening → next.batches ≡ journal.batches ++ batch ∷ []
-    → IsKept d next past
+pub kept_more : (d : Description) (past : PastContent) (journal next : JournalContent) (batch : List LeafEdit) → IsKeptSession d journal past → next.shape ≡ journal.shape → next.opening ≡ journal.opening → next.batches ≡ journal.batches ++ batch ∷ []
+    → IsKeptSession d next past
 kept_more d past journal next batch kept shape opening batches = record {
   conf = kept.conf;
   goes_on = goes_on_more past journal next batch kept.goes_on shape opening batches;
@@ -57,14 +57,14 @@ count_more batches batch =
 
 -- ---- after a read
 
-pub kept_found : (d : Description) (journal : JournalContent) (past past' : PastContent) (k : ℕ) → IsKept d journal past → past' ≡ record past { batches = journal.batches; held = held_after past.room k past.held } → GoesOnFrom past' journal → IsKept d journal past'
+pub kept_found : (d : Description) (journal : JournalContent) (past past' : PastContent) (k : ℕ) → IsKeptSession d journal past → past' ≡ record past { batches = journal.batches; held = held_after past.room k past.held } → GoesOnFrom past' journal → IsKeptSession d journal past'
 kept_found d journal past past' k kept is goes = record {
   conf = ap (λ (p : PastContent). p.conf) is ∙ kept.conf;
   goes_on = goes;
   room = subst (λ n. 1 ≤ n) (sym (ap (λ (p : PastContent). p.room) is)) kept.room;
 }
 
-pub found_after : (d : Description) (journal : JournalContent) (past past' : PastContent) (k : ℕ) (path : List ℕ) → IsKept d journal past → past' ≡ record past { batches = journal.batches; held = held_after past.room k past.held }
+pub found_after : (d : Description) (journal : JournalContent) (past past' : PastContent) (k : ℕ) (path : List ℕ) → IsKeptSession d journal past → past' ≡ record past { batches = journal.batches; held = held_after past.room k past.held }
     → Contains (ends journal.batches) k → kept_content d journal past' ≡ session_after (kept_content d journal past) (read k path)
 found_after d journal past past' k path kept is there =
     let first : slice_get past'.held 0 ≡ Some k = ap (λ (p : PastContent). slice_get p.held 0) is ∙ first_held past.room k past.held kept.room in

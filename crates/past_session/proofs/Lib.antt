@@ -1,6 +1,7 @@
 mod Inputs
 mod Going
 mod Ends
+mod Read
 mod Asked
 mod NoFile
 mod Content

@@ -17,7 +17,7 @@ use Rattle.past_reads.specs.declared.refusal.PastRefusal.{PastRefusal}
 use Rattle.past_reads.specs.declared.refusal.PastRefusal.TheVariants.{TooNew, Split, OutOfMemory}
 use Rattle.past_session.specs.Answers.{PastState, file_text, past_file, refusal_text}
 use Rattle.past_session.specs.Run.{SinkBytes}
-use Rattle.past_session.specs.Session.{SessionContent, kept_content, IsKept}
+use Rattle.past_session.specs.Session.{SessionContent, kept_content, IsKeptSession}
 use Rattle.past_session.specs.Steps.{answer_text, answer_cost, session_after, Sends, FailsToSend}
 use Rattle.past_session.specs.declared.ending.Halt.{Halt}
 use Rattle.past_session.specs.declared.ending.Halt.TheVariants as halt
@@ -36,7 +36,7 @@ wants_none e = cc
 wants_some : (u : Unit {0}) → sent u ≡ failed halt.OutOfMemory → ⊥
 wants_some u e = cc
 
-module _ (d : Description) (journal : JournalContent) (past : PastContent) (k : ℕ) (path : List ℕ) (kept : IsKept d journal past) where
+module _ (d : Description) (journal : JournalContent) (past : PastContent) (k : ℕ) (path : List ℕ) (kept : IsKeptSession d journal past) where
   found_told : (generation : GenerationContent) → generation ≡ past_generation past.conf journal.opening journal.batches k → Contains (ends journal.batches) k
       → file_text (get (files_in generation) path) ≡ answer_text (kept_content d journal past) (read k path)
   found_told generation is there =

@@ -1,5 +1,5 @@
 -- What a session about past states does.
-use Rattle.std.specs.Prelude.{◌≡◌, ℕ, ◌+◌, ◌≤◌, List, [], ◌∷◌, ◌++◌, take, Option, Some}
+use Rattle.std.specs.Prelude.{◌≡◌, ◌⊎◌, ℕ, ◌+◌, ◌≤◌, List, [], ◌∷◌, ◌++◌, take, Option, Some}
 use Rattle.std.specs.Io.KnownBytes.{Appends, Consumes}
 use Rattle.survey_link.specs.Link.{AppendsPrefix}
 use Rattle.survey_conf.specs.Description.{Description}
@@ -19,6 +19,10 @@ pub record SinkBytes : Type 0 where
 abbrev pub HandsOn : List PastRecord → SinkBytes → SinkBytes → Type 0
 HandsOn [] sink sink' = sink' ≡ sink
 HandsOn (_ ∷ _) sink sink' = sink'.handed_on ≡ sink'.held
+
+-- all that the sink holds was handed on, or nothing was touched
+abbrev pub HandsOnAll : SinkBytes → SinkBytes → Type 0
+HandsOnAll sink sink' = (sink'.handed_on ≡ sink'.held) ⊎ (sink' ≡ sink)
 
 -- the sink has gained the answers to these records, and handed them on
 pub record Answered (d : Description) (opening : LeafTiles) (records : List PastRecord) (sink sink' : SinkBytes) : Type 0 where
@@ -69,3 +73,9 @@ PastRun d opening input left' sink sink' steps steps' Done = RunsWhole d opening
 PastRun d opening input left' sink sink' steps steps' Cut = RunsWhole d opening input sink sink' steps steps' Cut
 PastRun d opening input left' sink sink' steps steps' (BadLine at) = RunsWhole d opening input sink sink' steps steps' (BadLine at)
 PastRun d opening input left' sink sink' steps steps' Spent = RunsWhole d opening input sink sink' steps steps' Spent
+
+-- whatever the source tells, the session is one of the bytes that were read, as though the input ended behind them
+pub record RunsOver (d : Description) (opening : LeafTiles) (left left' : Option (List ℕ)) (sink sink' : SinkBytes) (steps steps' : ℕ) (end : PastEnd) : Type 0 where
+  pub came : List ℕ
+  pub consumed : Consumes left left' came
+  pub run : PastRun d opening came (Some []) sink sink' steps steps' end

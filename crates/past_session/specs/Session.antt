@@ -27,7 +27,7 @@ abbrev pub kept_content : Description → JournalContent → PastContent → Ses
 kept_content d journal past = record { conf = d; opening = journal.opening; state = record { batches = journal.batches; last = slice_get past.held 0 } }
 
 -- the cache is of the survey, has room, and knows the first batches of the journal
-pub record IsKept (d : Description) (journal : JournalContent) (past : PastContent) : Type 0 where
+pub record IsKeptSession (d : Description) (journal : JournalContent) (past : PastContent) : Type 0 where
   pub conf : past.conf ≡ d
   pub goes_on : GoesOnFrom past journal
   pub room : 1 ≤ past.room

@@ -33,13 +33,13 @@ pub(crate) struct Session {
 
 impl Model for Session {
     ghost use Rattle.std.specs.Arc.{arc_value};
-    ghost use Rattle.past_session.specs.Session.{SessionContent, kept_content, IsKept};
+    ghost use Rattle.past_session.specs.Session.{SessionContent, kept_content, IsKeptSession};
 
     ghost Value = { SessionContent };
 
     ghost view = { λ s. kept_content (arc_value s.conf) s.journal s.past };
 
-    ghost invariant = { λ s. IsKept (arc_value s.conf) s.journal s.past };
+    ghost invariant = { λ s. IsKeptSession (arc_value s.conf) s.journal s.past };
 }
 
 impl Session {
@@ -50,18 +50,18 @@ impl Session {
     /// `AllocError` where there is no memory for it.
     pub(crate) fn start(
         alloc: Global,
-        opening: &Generation,
+        opening: Arc<Generation>,
         cache: usize,
     ) -> Result<Session, AllocError>
-        requires charge { charge_of opening.now.leaves [] ≤ most_charge }
+        requires first { (arc_value opening).prefix ≡ 0 }
+        requires charge { charge_of (arc_value opening).leaves [] ≤ most_charge }
         requires least { 1 ≤ cache }
         requires most { cache ≤ 8 }
-        ensures { IfOk result (λ session. session ≡ record { conf = opening.now.conf; opening = opening.now.leaves; state = first_state }) }
+        ensures { IfOk result (λ session. session ≡ record { conf = (arc_value opening).conf; opening = (arc_value opening).leaves; state = first_state }) }
     {
-        let conf = opening.conf().clone()?;
         let leaves = opening.leaves().share()?;
-        match Journal::start(alloc, conf.shape(), leaves) {
-            Ok(journal) => Session::over(alloc, conf, journal, cache),
+        match Journal::start(alloc, opening.conf().shape(), leaves) {
+            Ok(journal) => Session::over(alloc, opening, journal, cache),
             Err(_) => Err(AllocError),
         }
     }
@@ -69,17 +69,20 @@ impl Session {
     // A session of a survey without edits.
     fn over(
         alloc: Global,
-        conf: Arc<Conf>,
+        opening: Arc<Generation>,
         journal: Journal,
         cache: usize,
     ) -> Result<Session, AllocError>
-        requires shape { journal.shape ≡ (arc_value conf).shape }
+        requires first { (arc_value opening).prefix ≡ 0 }
+        requires shape { journal.shape ≡ (arc_value opening).conf.shape }
+        requires leaves { journal.opening ≡ (arc_value opening).leaves }
         requires none { journal.batches ≡ [] }
         requires least { 1 ≤ cache }
         requires most { cache ≤ 8 }
-        ensures { IfOk result (λ session. session ≡ record { conf = arc_value conf; opening = journal.opening; state = first_state }) }
+        ensures { IfOk result (λ session. session ≡ record { conf = (arc_value opening).conf; opening = (arc_value opening).leaves; state = first_state }) }
     {
-        let past = Past::new(alloc, conf.clone()?, &journal, cache)?;
+        let conf = opening.conf().clone()?;
+        let past = Past::over(alloc, opening, &journal, cache)?;
         Ok(Session {
             alloc,
             conf,

@@ -1,5 +1,5 @@
 //! A session, whole.
-ghost use Rattle.std.specs.Prelude.{◌≡◌, ◌≤◌, ◌^◌, ℕ, List, [], length, Some, IfErr, OnOk, IsErrOf};
+ghost use Rattle.std.specs.Prelude.{◌≡◌, ◌≢◌, ◌≤◌, ◌^◌, ℕ, List, [], length, Some, IfErr, OnOk, IsErrOf};
 ghost use Rattle.std.specs.Arc.{arc_value};
 ghost use Rattle.survey_link.specs.Link.{Rises};
 ghost use Rattle.edit_journal.specs.Leaves.{charge_of};
@@ -7,7 +7,7 @@ ghost use Rattle.edit_journal.specs.Faults.{most_charge};
 ghost use Rattle.past_frame.specs.Record.{most_line};
 ghost use Rattle.past_session.specs.Answers.{first_state};
 ghost use Rattle.past_session.specs.Records.{room_of};
-ghost use Rattle.past_session.specs.Run.{PastRun};
+ghost use Rattle.past_session.specs.Run.{PastRun, RunsOver, HandsOnAll};
 ghost use Rattle.past_session.specs.Steps.{AnswersNext, EndsAt, EndsBehindAll};
 ghost use Rattle.past_session.specs.declared.ending.PastEnd.TheVariants.{ReadFault, WriteFault};
 
@@ -33,8 +33,8 @@ const MOST_RECORDS: u64 = 65_536;
 /// 2^32; a line has at most 128 bytes with its line feed, numbers are in plain decimals.
 ///
 /// A batch is accepted, and told by the number of edits then, or refused as a whole. A read is answered with the file at the
-/// path of the survey after its first K edits. At most `cache` generations are held, from 1 to 8; besides them nothing but the
-/// edits and one record. A read of as many edits as the last one takes no step.
+/// path of the survey after its first K edits. At most `cache` generations are held, from 1 to 8; besides them and the opening
+/// one nothing but the edits and one record. A read of as many edits as the last one takes no step.
 ///
 /// It ends by the first of these in the input: `Done` between records, `Cut` within one, `BadLine` at one that has no line,
 /// `Spent` where it goes on after 65,536 records. `ReadFault` and `WriteFault` come only where the source's, the sink's count
@@ -56,6 +56,11 @@ pub fn past_session<R: Threads + Sync + Clock + Log, S: Source, K: Sink, G: Gate
     // Where the source tells its bytes, the session is a run of the definition, which knows no cache.
     ensures run { (input : List ℕ) → S.left src.old ≡ Some input → PastRun (arc_value opening).conf (arc_value opening).leaves input (S.left src.new)
         (record { held = K.held sink.old; handed_on = K.handed_on sink.old }) (record { held = K.held sink.new; handed_on = K.handed_on sink.new }) steps.old steps.new result }
+    // Whatever it tells, the session is one of the bytes that were read.
+    ensures over { RunsOver (arc_value opening).conf (arc_value opening).leaves (S.left src.old) (S.left src.new)
+        (record { held = K.held sink.old; handed_on = K.handed_on sink.old }) (record { held = K.held sink.new; handed_on = K.handed_on sink.new }) steps.old steps.new result }
+    ensures handed_on { result ≢ WriteFault
+        → HandsOnAll (record { held = K.held sink.old; handed_on = K.handed_on sink.old }) (record { held = K.held sink.new; handed_on = K.handed_on sink.new }) }
     ensures read_fault { result ≡ ReadFault → Rises (S.faults src.old) (S.faults src.new) }
     ensures write_fault { result ≡ WriteFault → Rises (K.faults sink.old) (K.faults sink.new) }
     ensures source_never_falls { S.faults src.old ≤ S.faults src.new }
@@ -63,7 +68,7 @@ pub fn past_session<R: Threads + Sync + Clock + Log, S: Source, K: Sink, G: Gate
     ensures steps_never_fall { steps.old ≤ steps.new }
 {
     let room = batch_room(opening.conf());
-    match Session::start(alloc, &opening, cache) {
+    match Session::start(alloc, opening, cache) {
         Ok(mut session) => answer_all(rt, alloc, &mut session, room, src, sink, gate, steps),
         Err(_) => PastEnd::OutOfMemory,
     }
@@ -84,6 +89,8 @@ fn answer_all<R: Threads + Sync + Clock + Log, S: Source, K: Sink, G: Gate + Syn
     requires room { room ≡ room_of session.old.conf }
     requires at_most { room ≤ 2 ^ 30 }
     ensures run { (input : List ℕ) → S.left src.old ≡ Some input → PastRun session.old.conf session.old.opening input (S.left src.new)
+        (record { held = K.held sink.old; handed_on = K.handed_on sink.old }) (record { held = K.held sink.new; handed_on = K.handed_on sink.new }) steps.old steps.new result }
+    ensures over { RunsOver session.old.conf session.old.opening (S.left src.old) (S.left src.new)
         (record { held = K.held sink.old; handed_on = K.handed_on sink.old }) (record { held = K.held sink.new; handed_on = K.handed_on sink.new }) steps.old steps.new result }
     ensures read_fault { result ≡ ReadFault → Rises (S.faults src.old) (S.faults src.new) }
     ensures write_fault { result ≡ WriteFault → Rises (K.faults sink.old) (K.faults sink.new) }

@@ -3,6 +3,7 @@ use Rattle.past_session.specs.Records.{room_of}
 use Rattle.past_session.specs.Run.{SinkBytes}
 use Rattle.past_session.proofs.Going.{loop_begins, loop_goes_on}
 use Rattle.past_session.proofs.Ends.{ends_at, ends_behind}
+use Rattle.past_session.proofs.Read.{over_read, over_all}
 use Rattle.past_session.proofs.session.answer_all.Goals as goal
 
 pub loop-at-init : goal.loop-at-init
@@ -36,3 +37,17 @@ returns-clause-run g c = λ input is.
     c.loop-at.inbox.held.items c.loop-at.at c.loop-at.session (record { held = g.K.Sink.held c.args.sink.now; handed_on = g.K.Sink.handed_on c.args.sink.now })
     (record { held = g.K.Sink.held c.loop-at.sink; handed_on = g.K.Sink.handed_on c.loop-at.sink }) (record { held = g.K.Sink.held c.loop-at.sink; handed_on = g.K.Sink.handed_on c.loop-at.sink })
     c.args.steps.now c.loop-at.steps c.loop-at.steps c.loop-at.invariant.going input is (omega (arith, c.loop-at-test.false)) c.end_behind_all.result c.end_behind_all.ensures.ends refl refl
+
+pub returns-in-Err-clause-over : goal.returns-in-Err-clause-over
+returns-in-Err-clause-over g c =
+    over_read c.records_stand.ensures c.args.session.now.conf c.args.session.now.opening (g.S.Source.left c.args.src.now) (g.S.Source.left c.loop-at.src) (g.S.Source.left c.answer_next.new.src)
+    c.loop-at.inbox.held.items c.loop-at.at c.loop-at.session (record { held = g.K.Sink.held c.args.sink.now; handed_on = g.K.Sink.handed_on c.args.sink.now })
+    (record { held = g.K.Sink.held c.loop-at.sink; handed_on = g.K.Sink.handed_on c.loop-at.sink }) (record { held = g.K.Sink.held c.answer_next.new.sink; handed_on = g.K.Sink.handed_on c.answer_next.new.sink })
+    c.args.steps.now c.loop-at.steps c.answer_next.new.steps c.loop-at.invariant.going c.in-Err.end c.loop-at-test.true c.in-Err.ensures.ends
+
+pub returns-clause-over : goal.returns-clause-over
+returns-clause-over g c =
+    over_all c.records_stand.ensures c.args.session.now.conf c.args.session.now.opening (g.S.Source.left c.args.src.now) (g.S.Source.left c.loop-at.src) (g.S.Source.left c.end_behind_all.new.src)
+    c.loop-at.inbox.held.items c.loop-at.at c.loop-at.session (record { held = g.K.Sink.held c.args.sink.now; handed_on = g.K.Sink.handed_on c.args.sink.now })
+    (record { held = g.K.Sink.held c.loop-at.sink; handed_on = g.K.Sink.handed_on c.loop-at.sink }) (record { held = g.K.Sink.held c.loop-at.sink; handed_on = g.K.Sink.handed_on c.loop-at.sink })
+    c.args.steps.now c.loop-at.steps c.loop-at.steps c.loop-at.invariant.going c.end_behind_all.result (omega (arith, c.loop-at-test.false)) c.end_behind_all.ensures.ends refl refl

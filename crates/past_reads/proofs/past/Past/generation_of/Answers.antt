@@ -7,7 +7,7 @@ use Rattle.past_reads.proofs.past.Past.generation_of.Goals as goal
 pub returns-in-Some-clause-found : goal.returns-in-Some-clause-found
 returns-in-Some-clause-found g c =
     let there : lookup (nat_eq c.args.k) c.self.inside.cache.entries ≡ Some c.in-Some.held.now = search rules in
-    let found = found_held (λ generation. arc_value generation) c.args.self.now (arc_value c.self.inside.conf) c.self.inside.journal c.args.journal.now c.self.inside.cache.entries c.self.inside.cache.cap c.args.k c.in-Some.held.now
+    let found = found_held (λ generation. arc_value generation) c.args.self.now (arc_value c.self.inside.conf) c.self.inside.journal c.args.journal.now c.self.inside.opening c.self.inside.cache.entries c.self.inside.cache.cap c.args.k c.in-Some.held.now
     c.self.view_is c.self.invariant c.requires.journal there in
     search (rules, found)
 

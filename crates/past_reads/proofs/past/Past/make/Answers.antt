@@ -9,6 +9,6 @@ next-requires-clause-known g c κs within = end_within c.args.journal.now.batche
 
 pub next-requires-clause-holds : goal.next-requires-clause-holds
 next-requires-clause-holds g c κs within =
-    let held = rw c.in-Some.is at c.nearest-from.ensures.held in
-    let same : c.deref.result.now ≡ arc_value c.in-Some.held.now = search rules in
-    rw same (from_held c.args.self.now c.args.journal.now (arc_value c.in-Some.held.now) c.requires.journal held)
+    let held = rw c.in-Some.is at c.base-from.ensures.held in
+    let same : c.deref.result.now ≡ arc_value c.in-Some.base.now = search rules in
+    rw same (from_held c.args.self.now c.args.journal.now (arc_value c.in-Some.base.now) c.requires.journal held)
