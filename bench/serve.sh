@@ -10,12 +10,14 @@
 # --equal that is all that is done; it takes two and a half minutes.
 #
 # What the log costs at `info` is timed by pairs of runs against a second hipsd, which says nothing: requests a second of both, and
-# the middle of the pairs' ratios. Then, where valgrind is installed, the instructions of a request at either level, which no other
-# program changes. With --log that is all that is done; it takes two minutes.
+# the processor time that each server took for a request. Of the pairs' differences the middle is printed, and the interval in which
+# the true middle lies in 95 of 100 such measurements (by ranks: nothing is supposed of how the noise is spread). Then, where
+# valgrind is installed, the instructions of a request at either level, which no other program changes. With --log that is all that
+# is done; it takes five minutes.
 #
 # wrk takes processors too: on a machine with few of them all three share. PROGRAM is the proved build; one of `rt try` has checks
 # in it, and its times say nothing. Best of RUNS, each of SECONDS, 3 of 3 if not said; at one rate the middle of RUNS, 5 of 7; of the
-# log the middle of RUNS pairs, 9 of 2.
+# log RUNS pairs, 41 of 1.
 #
 #   bench/serve.sh [RUNS [SECONDS]]         (HIPSD=PROGRAM: another program than crates/hipsd/out/hipsd)
 #   bench/serve.sh --equal [RUNS [SECONDS]]
@@ -28,8 +30,8 @@ runs=${1:-3}
 seconds=${2:-3}
 equal_runs=${1:-5}
 equal_seconds=${2:-7}
-log_runs=9 log_seconds=2
-[ "$only" = --log ] && log_runs=${1:-9} log_seconds=${2:-2}
+log_runs=41 log_seconds=1
+[ "$only" = --log ] && log_runs=${1:-41} log_seconds=${2:-1}
 for tool in wrk nginx curl gcc; do
     command -v "$tool" >/dev/null 2>&1 || { echo "serve.sh: there is no $tool here, so there is nothing to time with"; exit 0; }
 done
@@ -179,23 +181,35 @@ equal_rates() {
 
 # ---- what the log costs, by pairs
 
-# rate PORT PATH CONNECTIONS
+# ticks PROCESS: the processor time that it has taken, in hundredths of a second.
+ticks() {
+    awk '{ print $14 + $15 }' "/proc/$1/stat"
+}
+# rate PORT PROCESS PATH CONNECTIONS: requests a second, and the microseconds of processor time that the server took for each.
 rate() {
-    seconds=$log_seconds
-    load "$@" | cut -d ' ' -f 1
+    before=$(ticks "$2")
+    wrk -t "$(($4 > 4 ? 4 : $4))" -c "$4" -d "${log_seconds}s" "http://127.0.0.1:$1/$3" >"$work/out" 2>&1
+    awk -v taken=$(($(ticks "$2") - before)) '/Non-2xx/ { print "serve.sh:", $0 > "/dev/stderr" } / requests in / { all = $1 } /Requests\/sec/ { print $2, taken * 10000 / all }' "$work/out"
+}
+# spread COLUMN FILE: the middle of a column, and the interval in which the true middle lies in 95 of 100 measurements: by the
+# ranks that a sum of so many throws of a coin stays between.
+spread() {
+    cut -d ' ' -f "$1" "$2" | sort -g | awk '{ at[NR] = $1 } END {
+        low = int((NR - 1.96 * sqrt(NR)) / 2); if (low < 1) low = 1
+        printf "%.2f in 100 (%.2f to %.2f)", at[int((NR + 1) / 2)], at[low], at[NR + 1 - low]
+    }'
 }
 # log_costs NAME PATH CONNECTIONS: the server that says nothing goes first in every other pair.
 log_costs() {
     : >"$work/pairs"
     for turn in $(seq "$log_runs"); do
-        [ $((turn % 2)) = 0 ] && info=$(rate "$port" "$2" "$3")
-        off=$(rate "$quiet" "$2" "$3")
-        [ $((turn % 2)) = 1 ] && info=$(rate "$port" "$2" "$3")
-        echo "$off $info $(echo "scale=6; 100 - 100 * $info / $off" | bc)" >>"$work/pairs"
+        [ $((turn % 2)) = 0 ] && read -r info info_time < <(rate "$port" "$server" "$2" "$3")
+        read -r off off_time < <(rate "$quiet" "$quiet_server" "$2" "$3")
+        [ $((turn % 2)) = 1 ] && read -r info info_time < <(rate "$port" "$server" "$2" "$3")
+        echo "$off $info $(echo "scale=6; 100 - 100 * $info / $off; 100 * $info_time / $off_time - 100" | bc | paste -sd ' ')" >>"$work/pairs"
     done
-    printf '%-28s %3d  off   %9.0f  info  %9.0f  the log costs %.2f in 100 (%.2f to %.2f)\n' "$1" "$3" "$(middle 1 "$work/pairs")" \
-        "$(middle 2 "$work/pairs")" "$(middle 3 "$work/pairs")" \
-        "$(cut -d ' ' -f 3 "$work/pairs" | sort -n | head -n 1)" "$(cut -d ' ' -f 3 "$work/pairs" | sort -n | tail -n 1)"
+    printf '%-20s %3d  off %9.0f  info %9.0f  fewer requests: %s  more processor time: %s\n' "$1" "$3" "$(middle 1 "$work/pairs")" \
+        "$(middle 2 "$work/pairs")" "$(spread 3 "$work/pairs")" "$(spread 4 "$work/pairs")"
 }
 # publishes PORT ..: a leaf is put and published each second at each of them.
 publishes() {

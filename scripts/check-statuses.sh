@@ -120,6 +120,13 @@ holds Norder0/Dir0/Npix0.tsv
 holds Norder1/Dir0/Npix0.tsv
 check 0 'verified 2\n' '' verify
 
+# A copy of a peer: words that are no row of the table, and an address where nobody listens; the folder stays.
+check 1 "$usage" '' mirror
+check 1 "$usage" '' mirror 127.0.0.1:1 1
+check 6 '' '' mirror 127.0.0.1:1
+check 6 '' '' mirror nowhere.invalid:1
+check 0 'verified 2\n' '' verify
+
 # 65,536 requests are answered, the last of them with `Connection: close`, and no more.
 yes "$(printf 'HEAD /Moc.fits HTTP/1.1\r\nHost: a\r\n\r')" | head -n 196611 >"$folder/input"
 "$program" session <"$folder/input" >"$folder/output" 2>"$folder/errors"

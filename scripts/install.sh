@@ -3,8 +3,8 @@
 #
 #     scripts/install.sh [--remove] [PREFIX]
 #
-# PREFIX is /usr/local if none is named. It gets bin/hipsd, share/man/man1/hipsd.1, lib/systemd/system/hipsd.service,
-# lib/sysusers.d/hipsd.conf and share/doc/hipsd with the examples and FORMATS.md; systemd finds those of /usr/local and /usr. The
+# PREFIX is /usr/local if none is named. It gets bin/hipsd, share/man/man1/hipsd.1, lib/systemd/system/hipsd.service with
+# hipsd-backup.service and hipsd-backup.timer, lib/sysusers.d/hipsd.conf and share/doc/hipsd with the examples and FORMATS.md; systemd finds those of /usr/local and /usr. The
 # program is crates/hipsd/out/hipsd, or the one in the environment variable PROGRAM. With DESTDIR all goes below that folder, as a
 # package wants it. Nothing is started, no user is made, and /etc and the survey's folder stay as they are.
 set -eu
@@ -53,7 +53,7 @@ named() {
 filled() {
     revision=$(git rev-parse --short HEAD 2>/dev/null) || revision='an unknown revision'
     sed -e "s#@PREFIX@#$prefix#g" -e "s#@VERSION@#$(named VERSION)#g" -e "s#@REVISION@#$revision#g" -e "s#@TOOLCHAIN@#$(named TOOLCHAIN)#g" \
-        -e "s#^ExecStart=/usr/local/bin/#ExecStart=$prefix/bin/#" "$1"
+        -e "s#=/usr/local/\(bin\|share\)/#=$prefix/\1/#g" "$1"
 }
 
 # examples: the files below examples/.
@@ -69,12 +69,15 @@ install_all() {
     work=$(mktemp -d)
     trap 'rm -rf "$work"' EXIT
     filled examples/hipsd.service >"$work/unit"
+    filled examples/hipsd-backup.service >"$work/backup"
     filled docs/hipsd.1 >"$work/manual"
     [ ! -e "$list" ] || take_away
     mkdir -p "$doc"
     put 755 "$program" bin/hipsd
     put 644 "$work/manual" share/man/man1/hipsd.1
     put 644 "$work/unit" lib/systemd/system/hipsd.service
+    put 644 "$work/backup" lib/systemd/system/hipsd-backup.service
+    put 644 examples/hipsd-backup.timer lib/systemd/system/hipsd-backup.timer
     put 644 examples/hipsd.sysusers lib/sysusers.d/hipsd.conf
     put 644 docs/FORMATS.md share/doc/hipsd/FORMATS.md
     for name in $(examples); do

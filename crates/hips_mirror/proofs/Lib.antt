@@ -6,3 +6,6 @@ pub mod CompareLemmas
 pub mod CopyLemmas
 pub mod StepsLemmas
 pub mod MirrorLemmas
+pub mod HeadLemmas
+pub mod OnceLemmas
+pub mod PeerLemmas

@@ -1,2 +1,5 @@
 pub mod Mirror
 pub mod Stages
+pub mod Peer
+pub mod Laws
+pub mod Texts

@@ -75,14 +75,14 @@ fn leaves_covered(alloc: Global, conf: &Conf, body: &[u8]) -> Result<Vec<u64>, M
 {
     let shape = conf.shape();
     match Cover::decode(alloc, shape.top, body) {
-        Ok(cover) => leaves_of(alloc, shape, &cover),
+        Ok(cover) => bounded_leaves(alloc, shape, &cover),
         Err(CoverRefusal::NotCover) => Err(MirrorRefusal::Cover),
         Err(CoverRefusal::OutOfMemory) => Err(MirrorRefusal::OutOfMemory),
     }
 }
 
 // The leaves of a cover, where they aren't too many.
-fn leaves_of(alloc: Global, shape: Shape, cover: &Cover) -> Result<Vec<u64>, MirrorRefusal>
+fn bounded_leaves(alloc: Global, shape: Shape, cover: &Cover) -> Result<Vec<u64>, MirrorRefusal>
     requires top { shape.top ≡ cover.now.top }
     ensures leaves { IfOk result (λ numbers. numbers.items ≡ leaves_under shape.top cover.now.rows) }
     ensures fits { IfOk result (λ numbers. is_too_large shape (length numbers.items) ≡ false) }

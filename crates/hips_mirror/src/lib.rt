@@ -10,8 +10,10 @@ mod comparing;
 mod copying;
 mod cover;
 mod description;
+pub mod laws;
 mod leaves;
 mod refusal;
+mod text;
 
 pub use copying::mirror;
 pub use refusal::MirrorRefusal;

@@ -1,6 +1,7 @@
 //! What a peer sends that serves a survey in order.
 use generation::{Body, Generation};
 use healpix_nested::Cell;
+use http_frame::{Allow, Kind, Number, Reply, write_reply};
 use log::Log;
 use parent_rule::Steps;
 use shelf_io::load;
@@ -9,7 +10,7 @@ use std::alloc::Global;
 use std::test::Fail;
 use std::thread::Threads;
 use std::time::Clock;
-use survey_link::{MemShelf, OpenGate, Shelf};
+use survey_link::{MemShelf, MemSink, OpenGate, Shelf};
 use tile_path::Path;
 
 // The header of a tile of the survey, one card a line.
@@ -20,49 +21,56 @@ NAXIS1  =                    2
 NAXIS2  =                    2
 END";
 
-// Appends a reply of the state with seven edits.
-pub(crate) fn push_reply(alloc: Global, sent: &mut Vec<u8>, body: &[u8]) -> Result<(), Fail> {
-    let len = body.len();
-    let head = format!(in alloc;
-        "HTTP/1.1 200 OK\r\nContent-Length: {len}\r\nSurvey-Prefix: 7\r\n\r\n"
-    )?;
-    sent.extend_from_slice(head.as_bytes())?;
-    sent.extend_from_slice(body)?;
-    Ok(())
+// Writes a reply with a body of that kind, of the state with seven edits or of none.
+fn write(
+    sent: &mut MemSink,
+    kind: Kind,
+    number: Number,
+    body: &[u8],
+    close: bool,
+) -> Result<(), Fail> {
+    let reply = Reply {
+        code: 200,
+        allow: Allow::Absent,
+        kind,
+        number,
+        length: body.len() as u64,
+        close,
+    };
+    Ok(write_reply(sent, &reply, body)?)
 }
 
-// Appends the reply with the file at a path.
-fn push_file(
+// Writes the reply with the file at a path.
+fn write_file(
     alloc: Global,
-    sent: &mut Vec<u8>,
+    sent: &mut MemSink,
     survey: &Generation,
     path: &Path,
+    kind: Kind,
 ) -> Result<(), Fail> {
     let mut room = Vec::new(alloc);
     room.resize(survey.room(), 0)?;
     match survey.file(path, &mut room).ok_or("no file")? {
-        Body::Written(count) => push_reply(alloc, sent, &room[..count]),
-        Body::Kept(bytes) => push_reply(alloc, sent, bytes),
+        Body::Written(count) => write(sent, kind, Number::Prefix(7), &room[..count], false),
+        Body::Kept(bytes) => write(sent, kind, Number::Prefix(7), bytes, false),
     }
 }
 
-// The replies to the requests of a whole copy.
-fn replies_of(alloc: Global, survey: &Generation) -> Result<Vec<u8>, Fail> {
-    let mut sent = Vec::new(alloc);
-    push_reply(alloc, &mut sent, b"pinned 7\n")?;
-    push_file(alloc, &mut sent, survey, &Path::Properties)?;
-    push_file(alloc, &mut sent, survey, &Path::Moc)?;
+// Writes the replies to the requests of a whole copy, as a server does.
+fn write_replies(alloc: Global, sent: &mut MemSink, survey: &Generation) -> Result<(), Fail> {
+    write(sent, Kind::Text, Number::Prefix(7), b"pinned 7\n", false)?;
+    write_file(alloc, sent, survey, &Path::Properties, Kind::Text)?;
+    write_file(alloc, sent, survey, &Path::Moc, Kind::Fits)?;
     for leaf in 0..12 {
         if survey.leaves().get(leaf).is_some() {
             let cell = Cell::new(4, leaf).ok_or("no cell")?;
-            push_file(alloc, &mut sent, survey, &Path::Tile(cell))?;
+            write_file(alloc, sent, survey, &Path::Tile(cell), Kind::Fits)?;
         }
     }
     if survey.leaves().len() > 0 {
-        push_file(alloc, &mut sent, survey, &Path::Allsky)?;
+        write_file(alloc, sent, survey, &Path::Allsky, Kind::Fits)?;
     }
-    push_reply(alloc, &mut sent, b"released\n")?;
-    Ok(sent)
+    write(sent, Kind::Text, Number::Absent, b"released\n", true)
 }
 
 // The generation of the survey with leaves 0 to `count` - 1.
@@ -88,5 +96,9 @@ pub(crate) fn replies<R: Threads + Sync + Clock + Log>(
     count: u64,
 ) -> Result<Vec<u8>, Fail> {
     let survey = opened(rt, alloc, count)?;
-    replies_of(alloc, &survey)
+    let mut sent = MemSink::new(alloc, 100_000, Vec::new(alloc))?;
+    write_replies(alloc, &mut sent, &survey)?;
+    let mut bytes = Vec::new(alloc);
+    bytes.extend_from_slice(sent.bytes())?;
+    Ok(bytes)
 }

@@ -3,7 +3,7 @@ use Rattle.std.proofs.Common.{ℕ, ◌≤◌, List, arith}
 use Rattle.hipsd_run.specs.Command.{Asks, IsCommand, IsCommandFor, doors_of}
 use Rattle.survey_commands.specs.Serve.{IsServe}
 use Rattle.hipsd_run.specs.declared.command.Command.{Command}
-use Rattle.hipsd_run.specs.declared.command.Command.TheVariants.{Probe as ProbeCommand, Session, Export, Verify, Make, Serve, Past, Catalog}
+use Rattle.hipsd_run.specs.declared.command.Command.TheVariants.{Probe as ProbeCommand, Session, Export, Verify, Make, Serve, Past, Catalog, Mirror}
 
 -- words that ask for nothing ask for nothing, however many doors there are
 pub none_for : (words : List (List ℕ)) (doors : ℕ) → ¬ IsCommand words → ¬ IsCommandFor doors words
@@ -17,6 +17,7 @@ few_doors words Verify asks = omega arith
 few_doors words (Make n m) asks = omega arith
 few_doors words (Past n) asks = omega arith
 few_doors words (Catalog k n) asks = omega arith
+few_doors words Mirror asks = omega arith
 few_doors words (Serve n m) asks = let range : IsServe n m = asks.in_range in omega arith
 
 pub none_at_all : (words : List (List ℕ)) (doors : ℕ) → 64 ≤ doors → ¬ IsCommandFor doors words → ¬ IsCommand words

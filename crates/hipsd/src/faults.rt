@@ -36,3 +36,19 @@ pub(crate) fn say_fault<R: Log, S, K, F>(
         _ => {}
     }
 }
+
+/// Says which end failed where a copy of the survey at this address ended with this status. Why nobody could be called there was
+/// said when it was tried.
+pub(crate) fn say_peer_fault<R: Log, F>(rt: &R, status: u8, address: &str, shelf: &FolderShelf<F>) {
+    match status {
+        INPUT =>
+            error!(rt; "can't read what {address} sends: the connection broke off, or it was silent for too long"),
+        OUTPUT => error!(rt; "can't send requests to {address}"),
+        FOLDER => {
+            if let Some(fault) = shelf.last_fault() {
+                error!(rt; "{fault}");
+            }
+        }
+        _ => {}
+    }
+}

@@ -1,7 +1,7 @@
 //! `hipsd`: a server for HiPS sky maps.
 //!
 //! `run` of the crate `hipsd_run` is the whole program over the ends that it is given; `main` makes the real ones and calls it.
-//! The commands of today are `probe`, `session`, `serve`, `export`, `verify`, `make`, `past` and `catalog`.
+//! The commands of today are `probe`, `session`, `serve`, `export`, `verify`, `make`, `past`, `catalog` and `mirror`.
 #![tactic(auto)]
 
 ghost use Rattle.std.specs.Prelude.{◌≡◌, ◌⊎◌, ◌≤◌, IfOk, MatchResult};
@@ -13,12 +13,12 @@ ghost use Rattle.hipsd_run.specs.Command.{texts, Asks, IsCommand};
 
 mod faults;
 
-use faults::say_fault;
-use hipsd_run::{Command, command_for, run, say_version, words};
+use faults::{say_fault, say_peer_fault};
+use hipsd_run::{Command, address_of, command_for, run, say_version, second_word, words};
 use log::sink::Console;
 use log::{LevelFilter, Log, Logged, error, warn};
 use parent_rule::Steps;
-use std::alloc::{AllocError, Global};
+use std::alloc::AllocError;
 use std::env::VarError;
 use std::io::{BufReader, BufWriter};
 use std::net::{Net, SocketAddr, TcpListener, TcpStream};
@@ -26,9 +26,10 @@ use std::process::ExitCode;
 use std::rt::{Env, Runtime};
 use std::sync::Wait;
 use std::thread::Threads;
+use std::time::Clock;
 use std::{env, io};
-use survey_link::{FolderShelf, OpenGate, StreamSink, StreamSource};
-use tcp_link::{Trial, tcp_doors, try_address};
+use survey_link::{FolderShelf, OpenGate, Sink, Source, StreamSink, StreamSource};
+use tcp_link::{DialIn, DialOut, Trial, dial, tcp_doors, try_address};
 
 /// The status where there is no memory for the words or the ends.
 const NO_MEMORY: u8 = 11;
@@ -39,8 +40,69 @@ const DOORS: usize = 64;
 /// The environment variable that names a level of the log.
 const LOG: &str = "HIPSD_LOG";
 
-// Runs the words over standard input and output and the current folder, and passes the status on. Names are looked up by `net`.
-fn run_words<R, N>(rt: &R, net: &N, words: &[String]) -> io::Result<u8>
+// What it takes to have the words of the command line, and to call a peer.
+trait Caller: Net<Listener = TcpListener, Stream = TcpStream>
+    + Clock
+    + Env
+    + Log
+    + AllocGlobal
+    + Clone
+    + Drop {}
+
+impl<N> Caller for N
+where
+    N: Net<Listener = TcpListener, Stream = TcpStream>
+        + Clock
+        + Env
+        + Log
+        + AllocGlobal
+        + Clone
+        + Drop,
+{}
+
+// Runs the words, and passes the status on: `mirror` over the connection to its peer, all others over standard input and output.
+// Names are looked up by `net`.
+fn run_words<R, N, S, K>(rt: &R, net: &N, words: &[String], peer: (S, K)) -> io::Result<u8>
+where
+    R: Runtime + AllocGlobal + Threads + Wait + Log + Send + Sync + Clone + Drop,
+    R: Net<Listener = TcpListener, Stream = TcpStream>,
+    R::Reader: Drop,
+    N: Net,
+    S: Source + Drop,
+    K: Sink + Drop,
+    ensures usage { ¬ IsCommand (texts words.now) → IfOk result (λ status. (status ≡ 1) ⊎ (status ≡ 6)) }
+    ensures usage_only { IfOk result (λ status. status ≡ 1 → ¬ IsCommand (texts words.now)) }
+    ensures probe_range { (asked : AskedProbe) → Asks (texts words.now) (ProbeCommand asked)
+        → cell_count asked.order ≤ asked.npix → IfOk result (λ status. status ≡ 13) }
+{
+    match command_for(words, DOORS) {
+        Some(Command::Mirror) => run_with_peer(rt, net, words, peer),
+        _ => run_with_streams(rt, net, words),
+    }
+}
+
+// Runs the words over a connection to a peer.
+fn run_with_peer<R, N, S, K>(rt: &R, net: &N, words: &[String], peer: (S, K)) -> io::Result<u8>
+where
+    R: Runtime + AllocGlobal + Threads + Wait + Log + Send + Sync + Clone + Drop,
+    R: Net<Listener = TcpListener, Stream = TcpStream>,
+    N: Net,
+    S: Source + Drop,
+    K: Sink + Drop,
+    ensures usage { ¬ IsCommand (texts words.now) → IfOk result (λ status. (status ≡ 1) ⊎ (status ≡ 6)) }
+    ensures usage_only { IfOk result (λ status. status ≡ 1 → ¬ IsCommand (texts words.now)) }
+    ensures probe_range { (asked : AskedProbe) → Asks (texts words.now) (ProbeCommand asked)
+        → cell_count asked.order ≤ asked.npix → IfOk result (λ status. status ≡ 13) }
+{
+    let (mut source, mut sink) = peer;
+    let mut shelf = FolderShelf::here(rt.clone()?);
+    let status = run_over(rt, net, words, &mut source, &mut sink, &mut shelf)?;
+    say_peer_fault(rt, status, second_word(words), &shelf);
+    Ok(status)
+}
+
+// Runs the words over standard input and output.
+fn run_with_streams<R, N>(rt: &R, net: &N, words: &[String]) -> io::Result<u8>
 where
     R: Runtime + AllocGlobal + Threads + Wait + Log + Send + Sync + Clone + Drop,
     R: Net<Listener = TcpListener, Stream = TcpStream>,
@@ -55,41 +117,48 @@ where
     let mut source = StreamSource::new(BufReader::new(alloc, rt.reader())?);
     let mut sink = StreamSink::new(BufWriter::new(alloc, io::writer(rt))?);
     let mut shelf = FolderShelf::here(rt.clone()?);
-    let address = address_of(rt, net, words)?;
-    let mut doors = tcp_doors(rt, address.as_str(), DOORS)?;
-    let gate = OpenGate::new();
-    let mut steps = Steps::new();
-    let status = run(
-        rt,
-        words,
-        &mut source,
-        &mut sink,
-        &mut shelf,
-        &mut doors,
-        &gate,
-        &mut steps,
-    );
+    let status = run_over(rt, net, words, &mut source, &mut sink, &mut shelf)?;
     say_fault(rt, status, &source, &sink, &shelf);
     Ok(status)
 }
 
-// The address of the doors: the second word; where it is a server's, its place, which is tried before the survey is loaded.
-fn address_of<R, N>(rt: &R, net: &N, words: &[String]) -> Result<String, AllocError>
+// Runs the words over these ends and doors of their address, and answers the status.
+fn run_over<R, N, S, K>(
+    rt: &R,
+    net: &N,
+    words: &[String],
+    source: &mut S,
+    sink: &mut K,
+    shelf: &mut FolderShelf<R>,
+) -> Result<u8, AllocError>
 where
-    R: AllocGlobal + Log,
+    R: Runtime + AllocGlobal + Threads + Wait + Log + Send + Sync + Clone + Drop,
+    R: Net<Listener = TcpListener, Stream = TcpStream>,
     N: Net,
+    S: Source,
+    K: Sink,
+    ensures usage { ¬ IsCommand (texts words.now) → IfOk result (λ status. (status ≡ 1) ⊎ (status ≡ 6)) }
+    ensures usage_only { IfOk result (λ status. status ≡ 1 → ¬ IsCommand (texts words.now)) }
+    ensures probe_range { (asked : AskedProbe) → Asks (texts words.now) (ProbeCommand asked)
+        → cell_count asked.order ≤ asked.npix → IfOk result (λ status. status ≡ 13) }
 {
-    let word = words.get(1).map_or("", |word| word.as_str());
-    let place = match command_for(words, DOORS) {
+    let address = address_of(rt.alloc(), words, try_place(rt, net, words))?;
+    let mut doors = tcp_doors(rt, address.as_str(), DOORS)?;
+    let gate = OpenGate::new();
+    let mut steps = Steps::new();
+    Ok(run(
+        rt, words, source, sink, shelf, &mut doors, &gate, &mut steps,
+    ))
+}
+
+// The place of a server's address, which is tried before the survey is loaded.
+fn try_place<R: Log, N: Net>(rt: &R, net: &N, words: &[String]) -> Option<SocketAddr> {
+    match command_for(words, DOORS) {
         Some(Command::Serve { .. }) => {
             say_version(rt);
-            place_of(rt, net, word)
+            place_of(rt, net, second_word(words))
         }
         _ => None,
-    };
-    match place {
-        Some(place) => format!(in rt.alloc(); "{place}"),
-        None => String::from_str(rt.alloc(), word),
     }
 }
 
@@ -108,16 +177,11 @@ fn place_of<R: Log, N: Net>(rt: &R, net: &N, address: &str) -> Option<SocketAddr
     }
 }
 
-// Runs the command line.
-fn run_here<R, N>(rt: &R, net: &N) -> io::Result<u8>
-where
-    R: Runtime + AllocGlobal + Threads + Wait + Log + Send + Sync + Clone + Drop,
-    R: Net<Listener = TcpListener, Stream = TcpStream>,
-    R::Reader: Drop,
-    N: Net,
-{
-    say_level(rt);
-    run_words(rt, net, &words(rt.alloc(), env::args(rt))?)
+// The words of the command line, and a connection to the peer that they may name, which nobody has called yet.
+fn read_line<N: Caller>(net: &N) -> io::Result<(Vec<String>, (DialIn<N>, DialOut<N>))> {
+    let words = words(net.alloc(), env::args(net))?;
+    let peer = dial(net, second_word(&words))?;
+    Ok((words, peer))
 }
 
 // The exit status of a run: the run's own, and 11 where there was no memory for the words or the ends.
@@ -152,5 +216,10 @@ fn say_level<R: AllocGlobal + Env + Log>(rt: &R) {
 }
 
 fn main(rt: HostRuntime) -> ExitCode {
-    exit_code(run_here(&Logged::new(rt, log_level(&rt), Console(rt)), &rt))
+    let logged = Logged::new(rt, log_level(&rt), Console(rt));
+    say_level(&logged);
+    exit_code(match read_line(&rt) {
+        Ok((words, peer)) => run_words(&logged, &rt, &words, peer),
+        Err(error) => Err(error),
+    })
 }

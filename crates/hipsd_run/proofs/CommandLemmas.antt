@@ -15,7 +15,7 @@ use Rattle.survey_commands.specs.Make.{IsMake}
 use Rattle.survey_commands.specs.Serve.{IsServe}
 use Rattle.survey_commands.specs.Past.{IsPast}
 use Rattle.hipsd_run.specs.declared.command.Command.{Command}
-use Rattle.hipsd_run.specs.declared.command.Command.TheVariants.{Probe as ProbeCommand, Session, Export, Verify, Make, Serve, Past, Catalog}
+use Rattle.hipsd_run.specs.declared.command.Command.TheVariants.{Probe as ProbeCommand, Session, Export, Verify, Make, Serve, Past, Catalog, Mirror}
 
 own : IsNumeralModel (AllDigits 10) (digits_value 10)
 own = numerals_by_value (AllDigits 10) tells_digits
@@ -87,6 +87,7 @@ no_command top n order npix none (Make number edits, asks) = let e = asks.spelle
 no_command top n order npix none (Serve connections places, asks) = let e = asks.spelled in cc
 no_command top n order npix none (Past cache, asks) = let e = asks.spelled in cc
 no_command top n order npix none (Catalog top' per_tile, asks) = let e = asks.spelled in cc
+no_command top n order npix none (Mirror, asks) = let e = asks.spelled in cc
 
 -- words that begin with `make` and ask for no made survey ask for nothing
 pub no_make : (number edits : List ℕ)
@@ -100,6 +101,7 @@ no_make number edits none (Make n m, asks) = none n m asks
 no_make number edits none (Serve connections places, asks) = let e = asks.spelled in cc
 no_make number edits none (Past cache, asks) = let e = asks.spelled in cc
 no_make number edits none (Catalog top' per_tile, asks) = let e = asks.spelled in cc
+no_make number edits none (Mirror, asks) = let e = asks.spelled in cc
 
 pub no_make_command : (found : Option Command) (number edits : List ℕ)
     → IfNone found ((n m : ℕ) → ¬ Asks (codes "make" ∷ number ∷ edits ∷ []) (Make n m))
@@ -119,6 +121,7 @@ no_serve address connections places none (Make number edits, asks) = let e = ask
 no_serve address connections places none (Serve n m, asks) = none n m asks
 no_serve address connections places none (Past cache, asks) = let e = asks.spelled in cc
 no_serve address connections places none (Catalog top' per_tile, asks) = let e = asks.spelled in cc
+no_serve address connections places none (Mirror, asks) = let e = asks.spelled in cc
 
 no_serve_command : (found : Option Command) (address connections places : List ℕ)
     → IfNone found ((n m : ℕ) → ¬ Asks (codes "serve" ∷ address ∷ connections ∷ places ∷ []) (Serve n m))
@@ -136,6 +139,7 @@ no_past cache none (Make number edits, asks) = let e = asks.spelled in cc
 no_past cache none (Serve connections places, asks) = let e = asks.spelled in cc
 no_past cache none (Past n, asks) = none n asks
 no_past cache none (Catalog top per_tile, asks) = let e = asks.spelled in cc
+no_past cache none (Mirror, asks) = let e = asks.spelled in cc
 
 pub no_past_command : (found : Option Command) (cache : List ℕ)
     → IfNone found ((n : ℕ) → ¬ Asks (codes "past" ∷ cache ∷ []) (Past n)) → IfNone found (¬ IsCommand (codes "past" ∷ cache ∷ []))
@@ -153,6 +157,7 @@ no_catalog top per_tile none (Make number edits, asks) = let e = asks.spelled in
 no_catalog top per_tile none (Serve connections places, asks) = let e = asks.spelled in cc
 no_catalog top per_tile none (Past cache, asks) = let e = asks.spelled in cc
 no_catalog top per_tile none (Catalog k n, asks) = none k n asks
+no_catalog top per_tile none (Mirror, asks) = let e = asks.spelled in cc
 
 pub no_catalog_command : (found : Option Command) (top per_tile : List ℕ)
     → IfNone found ((k n : ℕ) → ¬ Asks (codes "catalog" ∷ top ∷ per_tile ∷ []) (Catalog k n))
@@ -229,6 +234,7 @@ sign_for (Make number edits) = 2109
 sign_for (Serve connections places) = 3115
 sign_for (Past cache) = 1112
 sign_for (Catalog top per_tile) = 2099
+sign_for Mirror = 1109
 
 sign-words_of : (address : List ℕ) (command : Command) → sign_of (words_of address command) ≡ sign_for command
 sign-words_of address (ProbeCommand asked) = refl
@@ -239,6 +245,7 @@ sign-words_of address (Make number edits) = refl
 sign-words_of address (Serve connections places) = refl
 sign-words_of address (Past cache) = refl
 sign-words_of address (Catalog top per_tile) = refl
+sign-words_of address Mirror = refl
 
 -- commands of the same words have the same sign
 same_sign : (words : List (List ℕ)) (a b : Command) → Asks words a → Asks words b → sign_for a ≡ sign_for b
@@ -261,6 +268,7 @@ same_command words (Past n) (Past n') asks_a asks_b = ap (λ p. Past p) (same_pa
 same_command words (Catalog k n) (Catalog k' n') asks_a asks_b =
     let same = same_catalog words k n k' n' asks_a asks_b in
     λ i. Catalog (same.0 i) (same.1 i)
+same_command words Mirror Mirror asks_a asks_b = refl
 same_command words a b asks_a asks_b = let e : sign_for a ≡ sign_for b = same_sign words a b asks_a asks_b in absurd (omega arith)
 
 -- a command that needs more doors than there are: the words ask for no other

@@ -6,13 +6,19 @@ use Rattle.survey_commands.specs.Make.{IsMake}
 use Rattle.survey_commands.specs.Serve.{IsServe}
 use Rattle.survey_commands.specs.Past.{IsPast}
 use Rattle.hipsd_run.specs.declared.command.Command.{Command}
-use Rattle.hipsd_run.specs.declared.command.Command.TheVariants.{Probe as ProbeCommand, Session, Export, Verify, Make, Serve, Past, Catalog}
+use Rattle.hipsd_run.specs.declared.command.Command.TheVariants.{Probe as ProbeCommand, Session, Export, Verify, Make, Serve, Past, Catalog, Mirror}
 
 -- the bytes of each word
 abbrev pub texts : List (String Global) → List (List ℕ)
 texts words = map string_bytes words
 
--- the words that ask for a command, where this is the address at which connections come in
+-- the second word, and nothing where there is none
+abbrev pub second_word : List (List ℕ) → List ℕ
+second_word [] = []
+second_word (name ∷ []) = []
+second_word (name ∷ word ∷ words) = word
+
+-- the words that ask for a command, where this is the address at which connections come in, or that of the peer
 abbrev pub words_of : List ℕ → Command → List (List ℕ)
 words_of address (ProbeCommand asked) = codes "probe" ∷ decimal asked.top ∷ decimal asked.n ∷ decimal asked.order ∷ decimal asked.npix ∷ []
 words_of address Session = codes "session" ∷ []
@@ -22,6 +28,7 @@ words_of address (Make number edits) = codes "make" ∷ decimal number ∷ decim
 words_of address (Serve connections places) = codes "serve" ∷ address ∷ decimal connections ∷ decimal places ∷ []
 words_of address (Past cache) = codes "past" ∷ decimal cache ∷ []
 words_of address (Catalog top per_tile) = codes "catalog" ∷ decimal top ∷ decimal per_tile ∷ []
+words_of address Mirror = codes "mirror" ∷ address ∷ []
 
 abbrev pub IsInRange : Command → Type 0
 IsInRange (ProbeCommand asked) = IsProbe asked
@@ -32,6 +39,7 @@ IsInRange (Make number edits) = IsMake number edits
 IsInRange (Serve connections places) = IsServe connections places
 IsInRange (Past cache) = IsPast cache
 IsInRange (Catalog top per_tile) = (top ≤ 11) × (1 ≤ per_tile) × (per_tile ≤ 4096)
+IsInRange Mirror = ⊤
 
 -- the words ask for this command; any word may be the address
 pub record Asks (words : List (List ℕ)) (command : Command) : Type 0 where
@@ -53,6 +61,7 @@ doors_of (Make number edits) = 0
 doors_of (Serve connections places) = places
 doors_of (Past cache) = 0
 doors_of (Catalog top per_tile) = 0
+doors_of Mirror = 0
 
 -- they are a row of it where there are so many doors
 abbrev pub IsCommandFor : ℕ → List (List ℕ) → Type 0
@@ -69,6 +78,7 @@ reads_source (Make number edits) = false
 reads_source (Serve connections places) = false
 reads_source (Past cache) = true
 reads_source (Catalog top per_tile) = true
+reads_source Mirror = true
 
 abbrev pub opens_shelf : Command → Bool
 opens_shelf (ProbeCommand asked) = false
@@ -79,8 +89,9 @@ opens_shelf (Make number edits) = false
 opens_shelf (Serve connections places) = true
 opens_shelf (Past cache) = true
 opens_shelf (Catalog top per_tile) = true
+opens_shelf Mirror = true
 
--- only `export` and `catalog` write files
+-- only `export`, `catalog` and `mirror` write files
 abbrev pub writes_files : Command → Bool
 writes_files (ProbeCommand asked) = false
 writes_files Session = false
@@ -90,6 +101,7 @@ writes_files (Make number edits) = false
 writes_files (Serve connections places) = false
 writes_files (Past cache) = false
 writes_files (Catalog top per_tile) = true
+writes_files Mirror = true
 
 -- only `serve` takes connections
 abbrev pub opens_doors : Command → Bool
@@ -101,3 +113,4 @@ opens_doors (Make number edits) = false
 opens_doors (Serve connections places) = true
 opens_doors (Past cache) = false
 opens_doors (Catalog top per_tile) = false
+opens_doors Mirror = false

@@ -1,5 +1,8 @@
 //! The words of a command line, from the arguments of the program.
-use std::alloc::Global;
+ghost use Rattle.std.specs.Prelude.{◌≡◌, ◌++◌, [], drop, IfOk, MatchResult};
+ghost use Rattle.std.specs.Vec.Iter.{into_iter_items};
+
+use std::alloc::{AllocError, Global};
 use std::env;
 use std::io::{self, ErrorKind};
 
@@ -8,16 +11,26 @@ use std::io::{self, ErrorKind};
 /// # Errors
 ///
 /// Where there is no memory for the words, or the arguments can't be had for another cause.
-pub fn words(alloc: Global, args: io::Result<env::Args>) -> io::Result<Vec<String>> {
-    let mut words = Vec::new(alloc);
+pub fn words(alloc: Global, args: io::Result<env::Args>) -> io::Result<Vec<String>>
+    ensures { MatchResult args (λ args. IfOk result (λ words. words.items ≡ drop 1 (into_iter_items args)))
+        (λ _. IfOk result (λ words. words.items ≡ [])) }
+{
     match args {
-        Ok(args) => {
-            for word in args.skip(1) {
-                words.push(word)?;
-            }
-        }
-        Err(error) if error.kind() == ErrorKind::InvalidData => {}
-        Err(error) => return Err(error),
+        Ok(args) => Ok(but_first(alloc, args)?),
+        Err(error) if error.kind() == ErrorKind::InvalidData => Ok(Vec::new(alloc)),
+        Err(error) => Err(error),
+    }
+}
+
+// All but the first of them.
+fn but_first(alloc: Global, args: env::Args) -> Result<Vec<String>, AllocError>
+    ensures { IfOk result (λ words. words.items ≡ drop 1 (into_iter_items args)) }
+{
+    let mut args = args;
+    let _name = args.next();
+    let mut words = Vec::new(alloc);
+    for word in args {
+        words.push(word)?;
     }
     Ok(words)
 }

@@ -44,6 +44,8 @@ pub enum Command {
         /// How many rows a tile above them holds at most.
         per_tile: u32,
     },
+    /// A peer's survey is copied.
+    Mirror,
 }
 
 impl Command {
@@ -113,6 +115,7 @@ fn read_one(name: &str, word: &str) -> Option<Command>
 {
     match name {
         "past" => read_past(word),
+        "mirror" => Some(Command::Mirror),
         _ => None,
     }
 }

@@ -4,7 +4,7 @@ use decimal_scale::plain_decimal;
 use log::{Log, error};
 
 // The name of a command, the words after it, and what these may be.
-static COMMANDS: [(&str, &str, &str); 8] = [
+static COMMANDS: [(&str, &str, &str); 9] = [
     (
         "serve",
         "ADDRESS CONNECTIONS PLACES",
@@ -23,6 +23,11 @@ static COMMANDS: [(&str, &str, &str); 8] = [
         "catalog",
         "K N",
         "K 0 to 11, 1 to 4096 rows a tile above order K",
+    ),
+    (
+        "mirror",
+        "ADDRESS",
+        "an IP address or a host's name with a port",
     ),
     (
         "probe",

@@ -5,7 +5,7 @@ ghost use Rattle.survey_link.specs.Link.{Rises, AppendsPrefix};
 ghost use Rattle.healpix_nested.specs.Cells.{cell_count};
 ghost use Rattle.leaf_probe.specs.declared.asked.Probe.{Probe as AskedProbe};
 ghost use Rattle.hipsd_run.specs.declared.command.Command.{Command as AskedCommand};
-ghost use Rattle.hipsd_run.specs.declared.command.Command.TheVariants.{Probe as ProbeCommand, Session, Export, Verify, Make, Serve, Past, Catalog};
+ghost use Rattle.hipsd_run.specs.declared.command.Command.TheVariants.{Probe as ProbeCommand, Session, Export, Verify, Make, Serve, Past, Catalog, Mirror};
 ghost use Rattle.hipsd_run.specs.Command.{texts, Asks, IsCommandFor, reads_source, opens_shelf, writes_files, opens_doors};
 ghost use Rattle.leaf_probe.specs.Probe.{IsProbe, probe_answer, probe_steps};
 ghost use Rattle.leaf_probe.specs.Merging.{steps_after};
@@ -16,7 +16,8 @@ ghost use Rattle.survey_commands.specs.Session.{RunsSession, ends_of};
 ghost use Rattle.survey_commands.specs.Make.{RunsMake};
 ghost use Rattle.hips_place.specs.Place.{SomeRises};
 ghost use Rattle.survey_commands.specs.Serve.{RunsServe};
-ghost use Rattle.survey_commands.specs.Past.{RunsPast};
+ghost use Rattle.survey_commands.specs.Past.{RunsPast, RunsPastOver, HandsOnPast};
+ghost use Rattle.survey_commands.specs.Mirror.{RunsMirror, copying_of};
 ghost use Rattle.catalog_command.specs.Run.{RunsCatalog};
 
 use crate::command::{Command, command_for};
@@ -29,7 +30,9 @@ use std::alloc::Global;
 use std::sync::Wait;
 use std::thread::Threads;
 use std::time::Clock;
-use survey_commands::{run_export, run_make, run_past, run_serve, run_session, run_verify};
+use survey_commands::{
+    run_export, run_make, run_mirror, run_past, run_serve, run_session, run_verify,
+};
 use survey_link::{Door, Gate, Shelf, Sink, Source};
 
 /// Runs the command that the words ask for, over these ends, and answers its status.
@@ -40,7 +43,7 @@ use survey_link::{Door, Gate, Shelf, Sink, Source};
 /// | 1 | the words are no row of the table of commands; `usage: hipsd COMMAND` and LF are written |
 /// | 2 | the shelf has no `survey.conf`, and `conf absent` and LF are written; or this has a fault: `conf LINE KIND` and LF |
 /// | 3 | the file of a leaf is refused: `tile PATH FAULT` and LF are written; or there are too many: `leaves N` and LF |
-/// | 4 | `probe`, `past`: the input ends within a record; `session`: within a request; `catalog`: within a line |
+/// | 4 | `probe`, `past`: the input ends within a record; `session`: within a request; `catalog`: within a line; `mirror`: within a reply |
 /// | 5, 6, 7 | the source's, the sink's, the shelf's count of faults rose |
 /// | 8 | `serve`: a door's count of faults rose; the other places went on to their ends |
 /// | 9 | `verify`: the shelf differs from the survey |
@@ -51,8 +54,12 @@ use survey_link::{Door, Gate, Shelf, Sink, Source};
 /// | 14 | `session`: the framing of a request is refused |
 /// | 16 | `catalog`: a line has a fault, and `row LINE KIND` and LF are written |
 /// | 17 | `past`: a record has no line of its form |
+/// | 21 to 26 | `mirror`: a reply isn't in form; the properties, the coverage are refused; there are too many leaves; a leaf is refused; the properties or the mosaic aren't those of the leaves |
 ///
 /// Of a tile nothing is written with a status but 0 and 6.
+///
+/// It has the right to wait for the sake of `serve` alone, whose places share a lock. Each other command is a function without
+/// that right.
 pub fn run<R, S, K, H, D, G>(
     rt: &R,
     words: &[String],
@@ -126,7 +133,16 @@ where
         → RunsPast (H.files shelf.old) input
         (ends_of (S.left source.old) (K.held sink.old) (K.handed_on sink.old) (S.faults source.old) (K.faults sink.old))
         (ends_of (S.left source.new) (K.held sink.new) (K.handed_on sink.new) (S.faults source.new) (K.faults sink.new))
-        result }
+        steps.old steps.new result }
+
+    // The same whatever the source tells: of the bytes that were read.
+    ensures past_over { (cache : ℕ) → Asks (texts words.now) (Past cache) → RunsPastOver (H.files shelf.old)
+        (ends_of (S.left source.old) (K.held sink.old) (K.handed_on sink.old) (S.faults source.old) (K.faults sink.old))
+        (ends_of (S.left source.new) (K.held sink.new) (K.handed_on sink.new) (S.faults source.new) (K.faults sink.new))
+        steps.old steps.new result }
+    ensures past_handed_on { (cache : ℕ) → Asks (texts words.now) (Past cache) → HandsOnPast result
+        (ends_of (S.left source.old) (K.held sink.old) (K.handed_on sink.old) (S.faults source.old) (K.faults sink.old))
+        (ends_of (S.left source.new) (K.held sink.new) (K.handed_on sink.new) (S.faults source.new) (K.faults sink.new)) }
     ensures past_unread { (cache : ℕ) → Asks (texts words.now) (Past cache) → (result ≡ 2) ⊎ (result ≡ 3) → source.new ≡ source.old }
 
     // A catalogue, where the source tells its input.
@@ -135,6 +151,12 @@ where
         (K.held sink.old) (K.held sink.new) (K.handed_on sink.old) (K.handed_on sink.new) }
     ensures catalog_end { (top : ℕ) (per_tile : ℕ) → Asks (texts words.now) (Catalog top per_tile)
         → result ≡ 0 → IsAtEnd (S.left source.new) }
+
+    // A copy of a peer's survey, whatever the source tells.
+    ensures mirror { Asks (texts words.now) Mirror → RunsMirror (copying_of
+        (ends_of (S.left source.old) (K.held sink.old) (K.handed_on sink.old) (S.faults source.old) (K.faults sink.old))
+        (ends_of (S.left source.new) (K.held sink.new) (K.handed_on sink.new) (S.faults source.new) (K.faults sink.new))
+        (H.files shelf.old) (H.files shelf.new) steps.old steps.new) result }
 
     // A made survey.
     ensures make { (number : ℕ) (edits : ℕ) → Asks (texts words.now) (Make number edits) → RunsMake number edits result
@@ -182,6 +204,7 @@ where
             Command::Catalog { top, per_tile } => {
                 run_catalog(rt, top, per_tile, source, sink, shelf)
             }
+            Command::Mirror => run_mirror(rt, source, sink, shelf, gate, steps),
         },
     }
 }

@@ -7,6 +7,8 @@ mod lines;
 #[cfg(test)]
 mod make;
 #[cfg(test)]
+mod mirror;
+#[cfg(test)]
 mod probe;
 #[cfg(test)]
 mod runs;

@@ -50,8 +50,8 @@ fn put_leaves(alloc: Global, shelf: &mut MemShelf, order: &str, count: u64) -> R
     Ok(())
 }
 
-// Whether a command ends so over the shelf: by the status, with the line written, or nothing where it is empty.
-fn ends<R: AllocGlobal + Threads + Wait + Sync + Clock + Log>(
+/// Whether a command ends so over the shelf: by the status, with the line written, or nothing where it is empty.
+pub(crate) fn ends<R: AllocGlobal + Threads + Wait + Sync + Clock + Log>(
     rt: &R,
     word: &str,
     shelf: &mut MemShelf,

@@ -1,7 +1,8 @@
 //! The words of a command line, as tables. A row has a blank between two words.
-use hipsd_run::{Command, read_command};
+use hipsd_run::{Command, address_of, read_command, words};
 use leaf_probe::Probe;
 use std::alloc::Global;
+use std::net::SocketAddr;
 use std::test::Fail;
 
 // The command that the words of a row ask for.
@@ -57,6 +58,8 @@ fn reads_names_of_commands(rt: HostRuntime) -> Result<(), Fail> {
     assert!(rt; read(alloc, "catalog 0 4096")? == Some(Command::Catalog { top, per_tile }));
     let (top, per_tile) = (11, 1);
     assert!(rt; read(alloc, "catalog 11 1")? == Some(Command::Catalog { top, per_tile }));
+    assert!(rt; read(alloc, "mirror 127.0.0.1:8080")? == Some(Command::Mirror));
+    assert!(rt; read(alloc, "mirror x")? == Some(Command::Mirror));
     Ok(())
 }
 
@@ -100,6 +103,9 @@ catalog 01 1
 catalog 0 0
 catalog 0 4097
 catalog 1 1 1
+mirror
+mirror a b
+Mirror a
 ";
 
 #[test]
@@ -109,5 +115,26 @@ fn refuses_what_is_no_row_of_the_table(rt: HostRuntime) -> Result<(), Fail> {
     for row in NONE.lines() {
         assert!(rt; read(alloc, row)? == None, "{row}");
     }
+    Ok(())
+}
+
+// The words are those behind the program's name; the address is the second of them, or the place that was found for it.
+#[test]
+fn words_are_handed_on(rt: HostRuntime) -> Result<(), Fail> {
+    let alloc = rt.alloc();
+    let mut given = Vec::new(alloc);
+    for word in ["hipsd", "mirror", "peer:80"] {
+        given.push(String::from_str(alloc, word)?)?;
+    }
+    let words = words(alloc, Ok(given.into_iter()))?;
+    assert_eq!(rt; words.len(), 2);
+    assert_eq!(rt; words[0].as_str(), "mirror");
+    assert_eq!(rt; address_of(alloc, &words, None)?.as_str(), "peer:80");
+    let place = "127.0.0.1:81".parse::<SocketAddr>()?;
+    assert_eq!(rt;
+        address_of(alloc, &words, Some(place))?.as_str(),
+        "127.0.0.1:81"
+    );
+    assert_eq!(rt; address_of(alloc, &words[..1], None)?.as_str(), "");
     Ok(())
 }

@@ -1,3 +1,4 @@
 pub mod MakeLemmas
 pub mod ShelfLemmas
 pub mod ServeLemmas
+pub mod PastLemmas

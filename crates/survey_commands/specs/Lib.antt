@@ -3,3 +3,4 @@ pub mod Session
 pub mod Make
 pub mod Serve
 pub mod Past
+pub mod Mirror

@@ -10,6 +10,7 @@ use Rattle.shelf_io.specs.Opening.{OpenedSurvey, opening, IsRefusedBy}
 use Rattle.shelf_io.specs.declared.refusal.LoadRefusal.{LoadRefusal}
 use Rattle.survey_core.specs.History.{SurveyState, opening_state}
 use Rattle.reader_pin.specs.Board.{BoardContent}
+use Rattle.reader_pin.specs.Solo.{only_seat}
 use Rattle.hips_http.specs.declared.served.SessionEnd.{SessionEnd}
 use Rattle.hips_http.specs.declared.served.SessionEnd.TheVariants.{Closed, Asked, Refused, Cut, Spent, ReadFault, WriteFault, OutOfMemory}
 use Rattle.hips_http.specs.SessionRun.{Exchange, SessionRun, HandsOn, input_of}
@@ -19,7 +20,7 @@ use Rattle.survey_commands.specs.Survey.{SaysWhy}
 
 -- the board of a survey with no edit
 abbrev pub board_of : OpenedSurvey → BoardContent
-board_of survey = record { conf = survey.conf; opening = survey.leaves; history = opening_state ∷ []; own = []; held = None }
+board_of survey = record { conf = survey.conf; opening = survey.leaves; history = opening_state ∷ []; owners = []; seat = only_seat; own = []; held = None }
 
 -- a connection from the first state of the survey on, of which these are all states: each step from one to the next is an
 -- event of its own. So it is answered at the newest state each time

@@ -2,12 +2,13 @@
 //!
 //! `run_export` and `run_verify` open a shelf as a survey, and put its files there or compare them; `run_session` serves one
 //! connection of it over a source and a sink, `run_serve` the connections of many doors; `run_past` answers records about its
-//! past states over a source and a sink; `run_make` makes a survey of its own.
+//! past states over a source and a sink; `run_mirror` copies a peer's survey onto a shelf; `run_make` makes a survey of its own.
 //! Each is the whole command over the ends that it is given: it writes what there is to say, and answers the exit status.
 #![tactic(auto)]
 
 mod export;
 mod make;
+mod mirror;
 mod output;
 mod past;
 mod refusing;
@@ -18,6 +19,7 @@ mod verify;
 
 pub use export::run_export;
 pub use make::run_make;
+pub use mirror::run_mirror;
 pub use past::run_past;
 pub use serve::run_serve;
 pub use session::run_session;

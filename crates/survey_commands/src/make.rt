@@ -15,7 +15,7 @@ use log::Log;
 use parent_rule::Steps;
 use reader_pin::{Board, Solo};
 use std::alloc::AllocError;
-use std::sync::{Arc, Wait};
+use std::sync::Arc;
 use std::thread::Threads;
 use std::time::Clock;
 use survey_link::{Gate, NullSink, Sink, SureSource};
@@ -37,7 +37,7 @@ pub fn run_make<R, K, G>(
     steps: &mut Steps,
 ) -> u8
 where
-    R: AllocGlobal + Threads + Wait + Sync + Clock + Log,
+    R: AllocGlobal + Threads + Sync + Clock + Log,
     K: Sink,
     G: Gate + Sync,
     requires { IsMake number edits }
@@ -64,7 +64,7 @@ fn make_survey<R, G>(
     steps: &mut Steps,
 ) -> Result<Summary, AllocError>
 where
-    R: AllocGlobal + Threads + Wait + Sync + Clock + Log,
+    R: AllocGlobal + Threads + Sync + Clock + Log,
     G: Gate + Sync,
     requires { IsMake number edits }
     ensures made { IfOk result (IsMade number edits) }
@@ -100,7 +100,7 @@ fn serve_script<R, G>(
     steps: &mut Steps,
 ) -> Result<(), AllocError>
 where
-    R: AllocGlobal + Threads + Wait + Sync + Clock + Log,
+    R: AllocGlobal + Threads + Sync + Clock + Log,
     G: Gate + Sync,
     ensures conf { board.new.conf ≡ board.old.conf }
     ensures opening { board.new.opening ≡ board.old.opening }

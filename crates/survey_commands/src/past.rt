@@ -1,12 +1,14 @@
 //! The command `past`: records about past states over the source and the sink.
-ghost use Rattle.std.specs.Prelude.{◌≡◌, ◌≢◌, ◌⊎◌, ℕ, ◌≤◌, List, Some, [], IfOk, IfErr, IsErrOf};
+ghost use Rattle.std.specs.Prelude.{◌≡◌, ◌≢◌, ◌⊎◌, ℕ, ◌+◌, ◌≤◌, List, Some, [], IfSome, IfOk, IfErr, IsErrOf};
 ghost use Rattle.std.specs.Arc.{arc_value};
 ghost use Rattle.survey_link.specs.Link.{Rises};
 ghost use Rattle.edit_journal.specs.Leaves.{charge_of};
 ghost use Rattle.edit_journal.specs.Faults.{most_charge};
-ghost use Rattle.shelf_io.specs.Opening.{OpenedSurvey};
+ghost use Rattle.past_session.specs.Run.{RunsOver};
+ghost use Rattle.past_session.specs.declared.ending.PastEnd.{PastEnd as Ending};
+ghost use Rattle.shelf_io.specs.Opening.{OpenedSurvey, opening_steps};
 ghost use Rattle.survey_commands.specs.Session.{OpensAs, OpensNot, ends_of};
-ghost use Rattle.survey_commands.specs.Past.{IsPast, RunsPast, AnswersPast, past_status};
+ghost use Rattle.survey_commands.specs.Past.{IsPast, RunsPast, RunsPastOver, HandsOnPast, AnswersPast, opened_cost, past_status};
 
 use crate::refusing::say_why;
 use generation::Generation;
@@ -51,7 +53,14 @@ where
     ensures run { (input : List ℕ) → S.left source.old ≡ Some input → RunsPast (H.files shelf.old) input
         (ends_of (S.left source.old) (K.held sink.old) (K.handed_on sink.old) (S.faults source.old) (K.faults sink.old))
         (ends_of (S.left source.new) (K.held sink.new) (K.handed_on sink.new) (S.faults source.new) (K.faults sink.new))
-        result }
+        steps.old steps.new result }
+    ensures over { RunsPastOver (H.files shelf.old)
+        (ends_of (S.left source.old) (K.held sink.old) (K.handed_on sink.old) (S.faults source.old) (K.faults sink.old))
+        (ends_of (S.left source.new) (K.held sink.new) (K.handed_on sink.new) (S.faults source.new) (K.faults sink.new))
+        steps.old steps.new result }
+    ensures handed_on { HandsOnPast result
+        (ends_of (S.left source.old) (K.held sink.old) (K.handed_on sink.old) (S.faults source.old) (K.faults sink.old))
+        (ends_of (S.left source.new) (K.held sink.new) (K.handed_on sink.new) (S.faults source.new) (K.faults sink.new)) }
     ensures kept { H.files shelf.new ≡ H.files shelf.old }
     ensures unread { (result ≡ 2) ⊎ (result ≡ 3) → source.new ≡ source.old }
     ensures not_usage { result ≢ 1 }
@@ -84,6 +93,8 @@ where
     ensures refused { IfErr result (OpensNot (H.files shelf.old)) }
     ensures kept { H.files shelf.new ≡ H.files shelf.old }
     ensures failed { IsErrOf result LoadRefusal.ShelfFault → Rises (H.faults shelf.old) (H.faults shelf.new) }
+    ensures steps { IfOk result (λ made. steps.new ≤ steps.old + opened_cost (record { conf = (arc_value made).conf; leaves = (arc_value made).leaves })) }
+    ensures steps_told { IfSome (H.files shelf.old) (λ files. steps.new ≤ steps.old + opening_steps files) }
     ensures steps_never_fall { steps.old ≤ steps.new }
 {
     let generation = load(rt, rt.alloc(), shelf, gate, steps)?;
@@ -119,7 +130,13 @@ where
         → AnswersPast (record { conf = (arc_value opening).conf; leaves = (arc_value opening).leaves }) input
         (ends_of (S.left source.old) (K.held sink.old) (K.handed_on sink.old) (S.faults source.old) (K.faults sink.old))
         (ends_of (S.left source.new) (K.held sink.new) (K.handed_on sink.new) (S.faults source.new) (K.faults sink.new))
-        result }
+        steps.old steps.new result }
+    ensures over { (end : Ending) × RunsOver (arc_value opening).conf (arc_value opening).leaves (S.left source.old) (S.left source.new)
+        (record { held = K.held sink.old; handed_on = K.handed_on sink.old }) (record { held = K.held sink.new; handed_on = K.handed_on sink.new }) steps.old steps.new end
+        × (result ≡ past_status end) }
+    ensures handed_on { HandsOnPast result
+        (ends_of (S.left source.old) (K.held sink.old) (K.handed_on sink.old) (S.faults source.old) (K.faults sink.old))
+        (ends_of (S.left source.new) (K.held sink.new) (K.handed_on sink.new) (S.faults source.new) (K.faults sink.new)) }
     ensures no_refusal { (result ≢ 1) × (result ≢ 2) × (result ≢ 3) × (result ≢ 7) × (result ≢ 8) }
     ensures read_fault { result ≡ 5 → Rises (S.faults source.old) (S.faults source.new) }
     ensures write_fault { result ≡ 6 → Rises (K.faults sink.old) (K.faults sink.new) }

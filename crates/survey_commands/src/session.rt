@@ -16,7 +16,7 @@ use parent_rule::Steps;
 use reader_pin::{Board, Solo};
 use shelf_io::{LoadRefusal, load};
 use std::alloc::{AllocError, Global};
-use std::sync::{Arc, Wait};
+use std::sync::Arc;
 use std::thread::Threads;
 use std::time::Clock;
 use survey_core::State;
@@ -42,7 +42,7 @@ pub fn run_session<R, S, K, H, G>(
     steps: &mut Steps,
 ) -> u8
 where
-    R: AllocGlobal + Threads + Wait + Sync + Clock + Log,
+    R: AllocGlobal + Threads + Sync + Clock + Log,
     S: Source,
     K: Sink,
     H: Shelf,
@@ -127,7 +127,7 @@ fn serve_source<R, S, K, G>(
     steps: &mut Steps,
 ) -> u8
 where
-    R: AllocGlobal + Threads + Wait + Sync + Clock + Log,
+    R: AllocGlobal + Threads + Sync + Clock + Log,
     S: Source,
     K: Sink,
     G: Gate + Sync,

@@ -1,11 +1,63 @@
-use Rattle.std.proofs.Common.{refl, Ok, Err}
+use Rattle.std.proofs.Common.{refl, [], Ok, Err}
 use Rattle.std.specs.Arc.{arc_value}
+use Rattle.survey_commands.proofs.PastLemmas.{consumes_none, says_hands}
 use Rattle.survey_commands.proofs.past.run_past.Goals as goal
 
 pub returns-in-Ok-clause-run : goal.returns-in-Ok-clause-run
 returns-in-Ok-clause-run g c = λ input e.
+    let opening = arc_value c.in-Ok.opening in (
+      Ok (record { conf = opening.conf; leaves = opening.leaves }),
+      record {
+        opens = c.in-Ok.ensures.opened;
+        steps_then = _;
+        cost = c.in-Ok.ensures.steps;
+        answers = c.answer_source.ensures.answered input e;
+      },
+    )
+
+pub returns-in-Ok-clause-over : goal.returns-in-Ok-clause-over
+returns-in-Ok-clause-over g c =
     let opening = arc_value c.in-Ok.opening in
-    (Ok (record { conf = opening.conf; leaves = opening.leaves }), (c.in-Ok.ensures.opened, c.answer_source.ensures.answered input e))
+    let over = c.answer_source.ensures.over in
+    record {
+      came = over.1.came;
+      consumed = over.1.consumed;
+      run = (
+        Ok (record { conf = opening.conf; leaves = opening.leaves }),
+        record {
+          opens = c.in-Ok.ensures.opened;
+          steps_then = _;
+          cost = c.in-Ok.ensures.steps;
+          answers = record { end = over.0; run = over.1.run; status_is = over.2 };
+        },
+      );
+    }
 
 pub returns-in-Err-clause-run : goal.returns-in-Err-clause-run
-returns-in-Err-clause-run g c = λ input e. (Err c.in-Err.refusal, (c.in-Err.ensures.refused, refl, c.say_why.ensures.said))
+returns-in-Err-clause-run g c = λ input e. (
+  Err c.in-Err.refusal,
+  record {
+    opens_not = c.in-Err.ensures.refused;
+    unread = refl;
+    says = c.say_why.ensures.said;
+    cost = c.open_survey.ensures.steps_told;
+  },
+)
+
+pub returns-in-Err-clause-over : goal.returns-in-Err-clause-over
+returns-in-Err-clause-over g c = record {
+  came = [];
+  consumed = consumes_none _;
+  run = (
+    Err c.in-Err.refusal,
+    record {
+      opens_not = c.in-Err.ensures.refused;
+      unread = refl;
+      says = c.say_why.ensures.said;
+      cost = c.open_survey.ensures.steps_told;
+    },
+  );
+}
+
+pub returns-in-Err-clause-handed_on : goal.returns-in-Err-clause-handed_on
+returns-in-Err-clause-handed_on g c = λ other. says_hands c.say_why.result _ _ _ _ other c.in-Err.refusal c.say_why.ensures.said

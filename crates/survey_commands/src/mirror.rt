@@ -1,0 +1,136 @@
+//! The command `mirror`: a copy of a peer's survey.
+ghost use Rattle.std.specs.Prelude.{◌≡◌, ◌≢◌, ◌≤◌};
+ghost use Rattle.survey_link.specs.Link.{Rises};
+ghost use Rattle.hips_mirror.specs.declared.refusal.MirrorRefusal.TheVariants.{ReadFault, WriteFault, ShelfFault};
+ghost use Rattle.survey_commands.specs.Session.{ends_of};
+ghost use Rattle.survey_commands.specs.Mirror.{RunsMirror, copying_of, refusal_status};
+
+use hips_mirror::{MirrorRefusal, mirror};
+use log::{Log, error, info};
+use parent_rule::Steps;
+use std::thread::Threads;
+use std::time::Clock;
+use survey_link::{Gate, Shelf, Sink, Source};
+use tile_path::Path;
+
+// How many requests come before those of the leaves.
+const FIRST_LEAF: u32 = 3;
+
+/// Copies one published state of a peer's survey onto the shelf, and answers the status. The peer is asked over the sink, and
+/// its replies come from the source. The log gets how many files there are, or why there is no copy.
+///
+/// | Status | Where |
+/// |---|---|
+/// | 0 | the shelf's files of a survey are those of the copy |
+/// | 4 | the input ends within a reply |
+/// | 5, 6, 7 | the source's, the sink's, the shelf's count of faults rose |
+/// | 11 | there was no memory |
+/// | 21 | a reply isn't in form |
+/// | 22, 23, 25 | what was sent as the properties, as the coverage, as a leaf is refused |
+/// | 24 | there are more than 65,000 leaves, or they are charged with more than 2^29 bytes |
+/// | 26 | the properties, or else the mosaic, isn't that of the leaves |
+///
+/// Of 4 and 21 to 26 the first is answered, by the order of the requests, and the shelf stays.
+pub fn run_mirror<R, S, K, H, G>(
+    rt: &R,
+    source: &mut S,
+    sink: &mut K,
+    shelf: &mut H,
+    gate: &G,
+    steps: &mut Steps,
+) -> u8
+where
+    R: AllocGlobal + Threads + Sync + Clock + Log,
+    S: Source,
+    K: Sink,
+    H: Shelf,
+    G: Gate + Sync,
+    ensures run { RunsMirror (copying_of
+        (ends_of (S.left source.old) (K.held sink.old) (K.handed_on sink.old) (S.faults source.old) (K.faults sink.old))
+        (ends_of (S.left source.new) (K.held sink.new) (K.handed_on sink.new) (S.faults source.new) (K.faults sink.new))
+        (H.files shelf.old) (H.files shelf.new) steps.old steps.new) result }
+    ensures not_usage { result ≢ 1 }
+    ensures not_opened { (result ≢ 2) × (result ≢ 3) }
+    ensures not_door { result ≢ 8 }
+    ensures read_fault { result ≡ 5 → Rises (S.faults source.old) (S.faults source.new) }
+    ensures write_fault { result ≡ 6 → Rises (K.faults sink.old) (K.faults sink.new) }
+    ensures shelf_fault { result ≡ 7 → Rises (H.faults shelf.old) (H.faults shelf.new) }
+    ensures steps_never_fall { steps.old ≤ steps.new }
+{
+    match mirror(rt, rt.alloc(), source, sink, shelf, gate, steps) {
+        Ok(count) => {
+            say_copied(rt, count);
+            0
+        }
+        Err(refusal) => {
+            say_refusal(rt, &refusal);
+            refusal_status(&refusal)
+        }
+    }
+}
+
+// The status of a copy that was refused so.
+fn refusal_status(refusal: &MirrorRefusal) -> u8
+    ensures status { result ≡ refusal_status refusal.now }
+    ensures others { (result ≢ 0) × (result ≢ 1) × (result ≢ 2) × (result ≢ 3) × (result ≢ 8) }
+    ensures read_fault { result ≡ 5 → refusal.now ≡ ReadFault }
+    ensures write_fault { result ≡ 6 → refusal.now ≡ WriteFault }
+    ensures shelf_fault { result ≡ 7 → refusal.now ≡ ShelfFault }
+{
+    match refusal {
+        MirrorRefusal::Reply { .. } => 21,
+        MirrorRefusal::Properties => 22,
+        MirrorRefusal::Cover => 23,
+        MirrorRefusal::TooLarge { .. } => 24,
+        MirrorRefusal::Leaf { .. } => 25,
+        MirrorRefusal::Differs { .. } => 26,
+        MirrorRefusal::Cut => 4,
+        MirrorRefusal::ReadFault => 5,
+        MirrorRefusal::WriteFault => 6,
+        MirrorRefusal::ShelfFault => 7,
+        MirrorRefusal::OutOfMemory => 11,
+    }
+}
+
+// Says how many files the copy has.
+fn say_copied<R: Log>(rt: &R, count: u64) {
+    info!(rt; "{count} files are those of the copy");
+}
+
+// Says why there is no copy, where that lies in what the peer sent.
+fn say_refusal<R: Log>(rt: &R, refusal: &MirrorRefusal) {
+    match refusal {
+        MirrorRefusal::Reply { request } => say_reply(rt, *request),
+        MirrorRefusal::Properties =>
+            error!(rt; "GET /properties (request 1): the body isn't the properties file of a survey that this program reads"),
+        MirrorRefusal::Cover =>
+            error!(rt; "GET /Moc.fits (request 2): the body isn't the coverage file of leaves of the survey's order"),
+        MirrorRefusal::TooLarge { leaves } =>
+            error!(rt; "GET /Moc.fits (request 2): {leaves} leaves are more than 65000, or are charged with more than 2^29 bytes"),
+        MirrorRefusal::Leaf { cell, fault } =>
+            error!(rt; "GET /{}: the body is no tile of the survey: {fault}", Path::Tile(*cell)),
+        MirrorRefusal::Differs { path } =>
+            error!(rt; "GET /{path}: the body isn't the file that the leaves make"),
+        MirrorRefusal::Cut => error!(rt; "the peer's bytes end within a reply"),
+        MirrorRefusal::ReadFault
+        | MirrorRefusal::WriteFault
+        | MirrorRefusal::ShelfFault
+        | MirrorRefusal::OutOfMemory => {}
+    }
+}
+
+// Says which reply isn't in form, and what it would have to be.
+fn say_reply<R: Log>(rt: &R, request: u32) {
+    let form =
+        "it is 200 of HTTP/1.1, with one Content-Length, and the Survey-Prefix of the state that is held";
+    match request {
+        0 =>
+            error!(rt; "POST /pin (request 0): the reply isn't in form: {form}; its body is `pinned K`"),
+        1 => error!(rt; "GET /properties (request 1): the reply isn't in form: {form}"),
+        2 => error!(rt; "GET /Moc.fits (request 2): the reply isn't in form: {form}"),
+        _ => {
+            let leaf = request - FIRST_LEAF;
+            error!(rt; "the reply to request {request} isn't in form: {form}. It is that of the leaf with {leaf} before it in the cover; behind the leaves, that of Norder3/Allsky.fits, and then of POST /unpin");
+        }
+    }
+}
