@@ -1,0 +1,142 @@
+#!/usr/bin/env python3
+"""time-gate.py [NAME=VALUE ..] [COMMAND ..]: runs the command, `rt ci` if none is given, with these variables set, at the top of the repository.
+time-gate.py --pid NUMBER: watches an `rt` that runs already, until it ends.
+
+In the end it prints the table of CONTRIBUTING.md: by crate, the seconds of processor that its proof, its tests and its edits
+took. Each process below the command is looked at twice a second, so what it did right before its end is missing: how much that
+is stands below the table. What a crate's proof, tests and edits are is told by rattle's own words and by the folder it runs in.
+"""
+
+import os
+import re
+import resource
+import signal
+import subprocess
+import sys
+import time
+from collections import Counter
+from pathlib import Path
+
+ROOT = Path(__file__).resolve().parent.parent
+EVERY = 0.5
+TICKS = os.sysconf("SC_CLK_TCK")
+ROW = re.compile(r"^\| `(\w+)`[^|]*\|[^|]*\| *(`\w+`|none|)", re.M)
+
+
+def processes():
+    """Each process that can be read: its parent, when it started, and the seconds of processor that it has had."""
+    found = {}
+    for name in os.listdir("/proc"):
+        if name.isdigit():
+            try:
+                stat = Path(f"/proc/{name}/stat").read_text(errors="replace").rpartition(")")[2].split()
+            except OSError:
+                continue
+            found[int(name)] = (int(stat[1]), stat[19], (int(stat[11]) + int(stat[12])) / TICKS)
+    return found
+
+
+def below(found, top):
+    """The processes that stand below the top one, those nearer to it first."""
+    children = {}
+    for pid, (parent, *_) in found.items():
+        children.setdefault(parent, []).append(pid)
+    order = [top]
+    for pid in order:
+        order += children.get(pid, [])
+    return order[1:]
+
+
+def purpose(pid):
+    """What a process works at, as crate and phase, if it tells."""
+    try:
+        words = Path(f"/proc/{pid}/cmdline").read_text(errors="replace").split("\0")
+        folder = os.readlink(f"/proc/{pid}/cwd")
+    except OSError:
+        return None
+    if "--crate-name" in words[:-1] and os.path.basename(words[0]).startswith("rattle"):
+        is_edit = "/rt-edit-" in folder
+        return words[words.index("--crate-name") + 1], "edits" if is_edit else "tests" if "--test" in words else "proof"
+    ran = next((word for word in words if "/rt-run-" in word), None)
+    return (os.path.basename(ran), "runs") if ran else None
+
+
+class Sampler:
+    """What every process below the top one has been seen to take."""
+
+    def __init__(self, top):
+        self.top, self.purposes, self.seconds = top, {}, {}
+
+    def look(self):
+        found = processes()
+        for pid in below(found, self.top):
+            parent, started, seconds = found[pid]
+            key = pid, started
+            if not self.purposes.get(key):
+                # Whoever tells nothing of itself, as a compiler that rattle calls, works for its parent.
+                above = self.purposes.get((parent, found[parent][1])) if parent in found else None
+                self.purposes[key] = purpose(pid) or above
+            self.seconds[key] = seconds
+
+    def sums(self):
+        sums = Counter()
+        for key, seconds in self.seconds.items():
+            sums[self.purposes[key] or ("rt", "itself")] += seconds
+        return sums
+
+
+def rows(sums):
+    """The rows of the table, in the order of crates.txt; where a crate's tests stand is as CONTRIBUTING.md has it."""
+    places = dict(ROW.findall((ROOT / "CONTRIBUTING.md").read_text()))
+    yield "| Crate | Proof | Tests | Edits |"
+    yield "|---|---|---|---|"
+    for name in re.findall(r"^(\w+)[^:\n]*:", (ROOT / "crates.txt").read_text(), re.M):
+        proof, tests, edits = (sums[name, phase] for phase in ("proof", "tests", "edits"))
+        if not proof + tests + edits:
+            continue
+        count = len(list((ROOT / "crates" / name / "must-fail").glob("*.edit")))
+        shown = f"{count} edits, {edits:.0f}" if edits else "none"
+        if name.endswith("_tests"):
+            yield f"| `{name}` | | {proof + tests:.0f} | {shown} |"
+        else:
+            place = f"{tests:.0f}" if tests else places.get(name) or "none"
+            yield f"| `{name}` | {proof:.0f} | {place} | {shown} |"
+
+
+def report(sums, minutes, whole):
+    print("\n".join(rows(sums)))
+    phase = lambda wanted: sum(seconds for (_, it), seconds in sums.items() if it == wanted)
+    tests = phase("tests") + sum(seconds for (name, it), seconds in sums.items() if it == "proof" and name.endswith("_tests"))
+    proofs = phase("proof") + phase("tests") - tests
+    print(f"\nCrates {proofs:.0f}, tests {tests:.0f}, edits {phase('edits'):.0f}, programs and tests as they ran {phase('runs'):.0f}, the rest {sums['rt', 'itself']:.0f}.")
+    seen = sum(sums.values())
+    if whole is None:
+        print(f"{seen:.0f} processor seconds seen in {minutes:.1f} minutes.")
+        return
+    print(f"{whole:.0f} processor seconds in {minutes:.1f} minutes, {whole / minutes / 60:.2f} processors; {whole - seen:.0f} of them were not seen.")
+
+
+def main(words):
+    begun = time.monotonic()
+    if words[:1] == ["--pid"]:
+        command, sampler = None, Sampler(int(words[1]))
+        is_there = Path(f"/proc/{words[1]}").exists
+    else:
+        given = [word for word in words if re.match(r"[A-Z_]+=", word)]
+        settings = dict(word.split("=", 1) for word in given)
+        command = subprocess.Popen([word for word in words if word not in given] or ["rt", "ci"], cwd=None if words[len(given):] else ROOT, env={**os.environ, **settings})
+        # What is asked to end lets the command end first, so that the table comes in any case.
+        for ending in (signal.SIGINT, signal.SIGTERM):
+            signal.signal(ending, lambda number, _: command.send_signal(number))
+        # The command is counted with what stands below it.
+        sampler, is_there = Sampler(os.getpid()), lambda: command.poll() is None
+    while is_there():
+        sampler.look()
+        time.sleep(EVERY)
+    used = resource.getrusage(resource.RUSAGE_CHILDREN)
+    report(sampler.sums(), (time.monotonic() - begun) / 60, used.ru_utime + used.ru_stime if command else None)
+    return command.returncode if command else 0
+
+
+if __name__ == "__main__":
+    sys.exit(main(sys.argv[1:]))
