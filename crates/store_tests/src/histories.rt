@@ -56,8 +56,7 @@ fn appended<J: Naming, R: Wait + Abort>(
     seat: Seat<u64, Numbers, J>,
 ) -> Result<(), Fail> {
     let (number, mut window, first) = seat.into_parts();
-    assert_eq!(rt; number, 1);
-    assert_eq!(rt; seen(&first), (1, 7));
+    assert!(rt; number == 1 && seen(&first) == (1, 7));
     check_first(rt, history, &mut window, &first)
 }
 
@@ -84,7 +83,7 @@ fn check_second<J: Naming, R: Wait + Abort>(
     first: &Shown<u64, Numbers, J>,
     second: &Shown<u64, Numbers, J>,
 ) -> Result<(), Fail> {
-    assert_eq!(rt; seen(second), (2, 9));
+    assert!(rt; seen(second) == (2, 9));
     add(rt, history, 0, 8)?;
     if first.seats() != 2 {
         return Err("not two seats".into());
@@ -102,9 +101,9 @@ fn check_third<J: Naming>(
     second: &Shown<u64, Numbers, J>,
     third: &Shown<u64, Numbers, J>,
 ) -> Result<(), Fail> {
-    assert_eq!(rt; seen(third), (3, 8));
-    assert_eq!(rt; more(first, second, 1)?, Some((2, 9)));
-    assert_eq!(rt; more(third, third, 0)?, None);
+    assert!(rt; seen(third) == (3, 8));
+    assert!(rt; more(first, second, 1)? == Some((2, 9)));
+    assert!(rt; more(third, third, 0)?.is_none());
     assert!(rt; more(third, second, 1).is_err());
     assert!(rt; more(first, third, 0).is_err());
     Ok(())
@@ -135,8 +134,7 @@ fn opened<J: Naming, R: Wait + Abort>(
 // Once the history has ended its window finds nothing, however often one looks, though less was seen than was shown.
 fn ended<J: Naming>(rt: &impl Abort, seat: Seat<u64, Numbers, J>) -> Result<(), Fail> {
     let (number, mut window, first) = seat.into_parts();
-    assert_eq!(rt; number, 0);
-    assert_eq!(rt; seen(&first), (1, 7));
+    assert!(rt; number == 0 && seen(&first) == (1, 7));
     assert!(rt; window.look(&first, number).is_none());
     assert!(rt; window.look(&first, number).is_none());
     Ok(())

@@ -23,7 +23,7 @@ fn change(
 }
 
 // A key, the value that is put at it or none where it is taken out, its old value, and the pairs after the change.
-const CHANGES: [(u64, Option<u8>, Option<u8>, &str); 8] = [
+static CHANGES: [(u64, Option<u8>, Option<u8>, &str); 8] = [
     (5, None, None, "{}"),
     (9, Some(1), None, "{9: 1}"),
     (4, Some(2), None, "{4: 2, 9: 1}"),
@@ -39,12 +39,19 @@ const CHANGES: [(u64, Option<u8>, Option<u8>, &str); 8] = [
     (0, Some(6), None, "{0: 6, 4: 5, 18446744073709551615: 3}"),
 ];
 
+// Whether the store is shown so.
+fn is_shown(alloc: Global, store: &Store<u8>, pairs: &str) -> Result<bool, AllocError> {
+    let shown = format!(in alloc; "{store:?}")?;
+    Ok(shown.as_str() == pairs)
+}
+
 #[test]
 fn a_change_is_of_one_key(rt: HostRuntime) -> Result<(), Fail> {
     let mut store = Store::new(rt.alloc());
-    for (key, value, old, pairs) in CHANGES {
-        assert_eq!(rt; change(rt.alloc(), &mut store, key, value)?, old, "{pairs}");
-        assert_eq!(rt; format!(in rt.alloc(); "{store:?}")?.as_str(), pairs);
+    for (key, value, old, pairs) in &CHANGES {
+        let found = change(rt.alloc(), &mut store, *key, *value)?;
+        assert!(rt; found == *old, "the old value before {pairs}");
+        assert!(rt; is_shown(rt.alloc(), &store, pairs)?, "{pairs}");
     }
     Ok(())
 }
@@ -67,9 +74,7 @@ fn check_pairs(rt: &impl Abort, store: &Store<u8>) {
         assert!(rt; pair_at(store, i) == Some((*key, *value)), "pair {i}");
         assert!(rt; value_of(store, *key) == Some(*value), "key {key}");
     }
-    assert!(rt; store.at(3).is_none());
-    assert!(rt; store.get(5).is_none());
-    assert_eq!(rt; store.len(), 3);
+    assert!(rt; store.at(3).is_none() && store.get(5).is_none() && store.len() == 3);
 }
 
 // From which key to below which other one there is one.
@@ -124,18 +129,16 @@ fn a_shared_store_changes_alone(rt: HostRuntime) -> Result<(), Fail> {
     let store = last_digits(rt.alloc())?;
     let mut other = store.share()?;
     let taken = change(rt.alloc(), &mut other, 500, None)?;
-    assert_eq!(rt; taken, Some(0));
+    assert!(rt; taken == Some(0));
     let _ = change(rt.alloc(), &mut other, 1000, Some(7))?;
     check_shares(&rt, &store, &other);
     Ok(())
 }
 
 fn check_shares(rt: &impl Abort, store: &Store<u8>, other: &Store<u8>) {
-    assert_eq!(rt; store.len(), 1000);
-    assert_eq!(rt; value_of(store, 500), Some(0));
-    assert_eq!(rt; other.len(), 1000);
-    assert_eq!(rt; value_of(other, 500), None);
-    assert_eq!(rt; pair_at(other, 999), Some((1000, 7)));
+    assert!(rt; store.len() == 1000 && value_of(store, 500) == Some(0));
+    assert!(rt; other.len() == 1000 && value_of(other, 500).is_none());
+    assert!(rt; pair_at(other, 999) == Some((1000, 7)));
 }
 
 // Numbers that look like chance, and are the same at each run.
@@ -168,6 +171,15 @@ impl Chance {
     }
 }
 
+// Whether both are the same value, or neither is there.
+fn are_same(pages: &Option<Arc<u64>>, plain: &Option<Arc<u64>>) -> bool {
+    match (pages, plain) {
+        (Some(pages), Some(plain)) => **pages == **plain,
+        (None, None) => true,
+        _ => false,
+    }
+}
+
 // A store and the plain one, to which the same is done.
 #[derive(Drop)]
 struct Both {
@@ -184,15 +196,24 @@ impl Both {
 
     // Puts the value at the key, or takes the key out where no value is given, and answers whether both answer the same.
     fn change(&mut self, alloc: Global, key: u64, value: Option<u64>) -> Result<bool, AllocError> {
-        let (old, plain) = match value {
-            Some(value) => {
-                let shared = Arc::new(alloc, value)?;
-                let plain = self.plain.put(key, shared.clone()?)?;
-                (self.pages.put(key, shared)?, plain)
-            }
-            None => (self.pages.remove(key)?, self.plain.remove(key)?),
-        };
-        Ok(old.map(|shared| *shared) == plain.map(|shared| *shared))
+        match value {
+            Some(value) => self.put(key, Arc::new(alloc, value)?),
+            None => self.remove(key),
+        }
+    }
+
+    // Puts the value at the key, and answers whether both had the same one there.
+    fn put(&mut self, key: u64, shared: Arc<u64>) -> Result<bool, AllocError> {
+        let plain = self.plain.put(key, shared.clone()?)?;
+        let pages = self.pages.put(key, shared)?;
+        Ok(are_same(&pages, &plain))
+    }
+
+    // Takes the key out, and answers whether both had the same value there.
+    fn remove(&mut self, key: u64) -> Result<bool, AllocError> {
+        let plain = self.plain.remove(key)?;
+        let pages = self.pages.remove(key)?;
+        Ok(are_same(&pages, &plain))
     }
 
     // Whether a key from `low` to below `high` is in both, or in neither.
