@@ -116,9 +116,10 @@ fn other_answer(texts: &str, fault: BadReal) -> Option<&str> {
 
 #[test]
 fn refuses_other_texts(rt: HostRuntime) {
-    assert_eq!(rt; other_answer(NO_NUMBERS, BadReal::NotANumber), None);
-    assert_eq!(rt; other_answer(LONG_NUMBERS, BadReal::TooLong), None);
-    assert_eq!(rt; other_answer(FAR_NUMBERS, BadReal::Exponent), None);
+    let other = other_answer(NO_NUMBERS, BadReal::NotANumber)
+        .or(other_answer(LONG_NUMBERS, BadReal::TooLong))
+        .or(other_answer(FAR_NUMBERS, BadReal::Exponent));
+    assert!(rt; other.is_none(), "{other:?}");
 }
 
 // Zeros, and what stands before and after them.
@@ -179,17 +180,11 @@ fn writes_at_the_front_and_leaves_the_rest(rt: HostRuntime) -> Result<(), Fail> 
         .ok()
         .ok_or("no number")?;
     let mut out = [b'#'; 30];
-    assert_eq!(rt; number.text_into(&mut out), 26);
-    assert_eq!(rt;
-        out.as_slice(),
-        b"-999999999999999999.0E-400####".as_slice()
-    );
+    assert!(rt; number.text_into(&mut out) == 26);
+    assert!(rt; out.as_slice() == b"-999999999999999999.0E-400####".as_slice());
     let zero = Decimal::read(b"-0.0").ok().ok_or("no number")?;
-    assert_eq!(rt; zero.text_into(&mut out[..26]), 5);
-    assert_eq!(rt;
-        out.as_slice(),
-        b"0.0E099999999999999.0E-400####".as_slice()
-    );
+    assert!(rt; zero.text_into(&mut out[..26]) == 5);
+    assert!(rt; out.as_slice() == b"0.0E099999999999999.0E-400####".as_slice());
     Ok(())
 }
 
@@ -202,9 +197,9 @@ fn prints_numbers_and_faults(rt: HostRuntime) -> Result<(), Fail> {
         BadReal::TooLong,
         BadReal::Exponent
     )?;
-    assert_eq!(rt;
-        text.as_str(),
-        "-25.0E-5: not a real number, more than 18 significant digits, an exponent below -400 or above 400"
+    assert!(rt;
+        text.as_str()
+            == "-25.0E-5: not a real number, more than 18 significant digits, an exponent below -400 or above 400"
     );
     Ok(())
 }
@@ -248,6 +243,20 @@ fn shown(alloc: Global, number: Option<i128>) -> Result<String, AllocError> {
     }
 }
 
+// Whether a number is shown so.
+fn is_shown(alloc: Global, number: Option<i128>, text: &str) -> Result<bool, AllocError> {
+    Ok(shown(alloc, number)?.as_str() == text)
+}
+
+// The number in plain decimals of a text, and its whole number.
+fn plain_in(text: &[u8]) -> Option<i128> {
+    Some(i128::from(plain_decimal(text)?))
+}
+
+fn whole_in(text: &[u8]) -> Option<i128> {
+    Some(i128::from(whole_number(text)?))
+}
+
 // The part of a row of whole numbers at a place.
 fn part(row: &str, at: usize) -> &str {
     row.split('|').nth(at).unwrap_or("")
@@ -256,9 +265,10 @@ fn part(row: &str, at: usize) -> &str {
 // Whether both numbers of the row's text are those that it says.
 fn has_numbers(alloc: Global, row: &str) -> Result<bool, AllocError> {
     let text = part(row, 0).as_bytes();
-    let plain = shown(alloc, plain_decimal(text).map(i128::from))?;
-    let whole = shown(alloc, whole_number(text).map(i128::from))?;
-    Ok(plain.as_str() == part(row, 1) && whole.as_str() == part(row, 2))
+    Ok(
+        is_shown(alloc, plain_in(text), part(row, 1))?
+            && is_shown(alloc, whole_in(text), part(row, 2))?,
+    )
 }
 
 #[test]
