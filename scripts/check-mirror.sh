@@ -4,6 +4,7 @@
 #
 # - Twenty copies of a server that two editors edit and publish all the while, each of which `hipsd verify` reads again; each is of
 #   one published state, whose files survey_files.py makes of the edits, and all its files are these.
+# - A copy of a slow peer says how far it is, at most once a second.
 # - A copy that fails, or that verify refuses, leaves the link and what it shows as they were. So many copies stay as are told.
 # - A server is renewed while eight clients read through nginx and an editor edits. No request fails, and each reply is the file of
 #   the state that its Survey-Prefix names; no accepted edit is lost. Where a step fails the first server goes on.
@@ -110,6 +111,20 @@ kept=$(find "$folder" -maxdepth 1 -type d -name 'kept.[0-9]*Z' | wc -l)
 [ "$kept" = "$copies" ] || blame "$kept copies stay in place of $copies"
 [ "$(readlink "$folder/kept")" = "$(find "$folder" -maxdepth 1 -type d -name 'kept.[0-9]*Z' -printf '%f\n' | sort | tail -n 1)" ] || blame "the link doesn't show the last copy"
 "$client" copies "$folder/journal.1,$folder/journal.2" "$folder"/kept.[0-9]*Z || blame "copies of a running server"
+
+# ---- how far a copy is, at most once a second: each reply comes late
+slow=$(free_port)
+"$client" slow "127.0.0.1:$port" "$slow" 0.4 2>"$folder/refused" &
+slower=$!
+started="$started $slower"
+listens "$slow" "$slower" || blame "mirror-client.py slow: $(cat "$folder/refused")"
+mkdir "$folder/late" && cd "$folder/late" || exit 1
+SECONDS=0
+HIPSD_LOG=info "$program" mirror "127.0.0.1:$slow" 2>"$folder/body" || blame "a copy of a slow peer: $(cat "$folder/body")"
+took=$SECONDS
+cd "$folder" || exit 1
+told=$(grep -c ' leaves copied: [1-9][0-9]* of [1-9][0-9]*, 0 MB$' "$folder/body")
+{ [ "$told" -ge 1 ] && [ "$told" -le "$took" ]; } || blame "in $took seconds a copy says $told times how far it is: $(cat "$folder/body")"
 
 # ---- copies that fail
 refused "127.0.0.1:$(free_port)" "$folder/kept"

@@ -8,6 +8,7 @@ it. What the files of a state are comes from survey_files.py, which has nothing 
     mirror-client.py last JOURNAL COPY
     mirror-client.py read PROXY REPLIES STOP
     mirror-client.py judge JOURNAL REPLIES ..
+    mirror-client.py slow ADDRESS PORT SECONDS
 
 `edit` puts and removes leaves in batches of two, and publishes, until the file STOP is there; NAME is 1 or 2, and each tile that it
 puts has a number of its own. Where edits are paused (503) it tries again, with a batch of one edit at first: so the prefixes of a
@@ -18,13 +19,17 @@ server, its number there, the leaf, and its number or `-`.
 takes the last state alone. `read` reads some
 files in turn by a connection each, and REPLIES gets a line for each: its prefix, its path, a sum of its body. A request that fails
 ends it with status 1. `judge` says whether each of these is the file of that prefix.
+
+`slow` passes connections to PORT on to ADDRESS, and holds back for SECONDS what is sent back, until it is killed.
 """
 
 import base64
 import hashlib
 import http.client
+import socket
 import struct
 import sys
+import threading
 import time
 from pathlib import Path
 
@@ -208,5 +213,22 @@ def describe(folder):
     Path(folder, "survey.conf").write_bytes(SURVEY.description())
 
 
-COMMANDS = {"describe": describe, "edit": edit, "copies": copies, "last": last, "read": read, "judge": judge}
+def pass_on(source, sink, seconds):
+    while came := source.recv(65536):
+        time.sleep(seconds)
+        sink.sendall(came)
+    sink.shutdown(socket.SHUT_WR)
+
+
+def slow(address, port, seconds):
+    host, _, number = address.partition(":")
+    with socket.create_server(("127.0.0.1", int(port))) as server:
+        while True:
+            client, _ = server.accept()
+            peer = socket.create_connection((host, int(number)))
+            for ends in (client, peer, 0), (peer, client, float(seconds)):
+                threading.Thread(target=pass_on, args=ends, daemon=True).start()
+
+
+COMMANDS = {"describe": describe, "edit": edit, "copies": copies, "last": last, "read": read, "judge": judge, "slow": slow}
 COMMANDS[sys.argv[1]](*sys.argv[2:])

@@ -11,7 +11,9 @@ ghost use Rattle.hips_mirror.specs.Mirror.{RefusesReply};
 ghost use Rattle.hips_mirror.specs.Stages.{Told, of_stop};
 
 use crate::refusal::MirrorRefusal;
+use crate::saying::{Request, say_refusal};
 use leaf_store::Store;
+use log::Log;
 use mirror_frame::{Ask, Due, Inbox, Stop, read_reply, send};
 use survey_link::{Failed, Sink, Source};
 use tile_pixels::Tile;
@@ -27,13 +29,15 @@ pub(crate) fn request_behind(leaves: &Store<Tile>) -> u32
     FIRST_LEAF + leaves.len() as u32
 }
 
-/// Sends a request, and reads its reply: its body is then that of the inbox. It answers the reply's Survey-Prefix.
+/// Sends a request, and reads its reply: its body is then that of the inbox. It answers the reply's Survey-Prefix. The log gets
+/// which reply isn't in form or is cut.
 ///
 /// # Errors
 ///
 /// `Reply` with the number of the request exactly where the reply isn't in form; `Cut` exactly where the input ends within it;
 /// `ReadFault` and `WriteFault` only where that count rose; `OutOfMemory`.
-pub(crate) fn request_file<S: Source, K: Sink>(
+pub(crate) fn request_file<R: Log, S: Source, K: Sink>(
+    rt: &R,
     src: &mut S,
     sink: &mut K,
     inbox: &mut Inbox,
@@ -60,7 +64,11 @@ pub(crate) fn request_file<S: Source, K: Sink>(
     match send(sink, ask) {
         Ok(()) => match read_reply(src, inbox, due) {
             Ok(prefix) => Ok(prefix),
-            Err(stop) => Err(refusal_of(stop, request)),
+            Err(stop) => {
+                let refusal = refusal_of(stop, request);
+                say_refusal(rt, Request::new(request, *ask), &refusal);
+                Err(refusal)
+            }
         },
         Err(Failed) => Err(MirrorRefusal::WriteFault),
     }

@@ -24,8 +24,10 @@ ghost use Rattle.hips_mirror.specs.Stages.{Told, Counts, RefusedBy, sent};
 use crate::asking::{request_behind, request_file};
 use crate::description::Survey;
 use crate::refusal::MirrorRefusal;
+use crate::saying::{Request, say_refused};
 use generation::{Body, Generation};
 use leaf_store::Store;
+use log::Log;
 use mirror_frame::{Ask, Due, Inbox};
 use parent_rule::Steps;
 use std::alloc::{AllocError, Global};
@@ -44,7 +46,7 @@ use tile_pixels::Tile;
 ///
 /// As `request_file`; `Differs` with the path of the properties exactly where these differ, and else with that of the mosaic
 /// exactly where this differs.
-pub(crate) fn compare<R: Threads + Sync, S: Source, K: Sink, G: Gate + Sync>(
+pub(crate) fn compare<R: Threads + Sync + Log, S: Source, K: Sink, G: Gate + Sync>(
     rt: &R,
     alloc: Global,
     src: &mut S,
@@ -76,12 +78,19 @@ pub(crate) fn compare<R: Threads + Sync, S: Source, K: Sink, G: Gate + Sync>(
     ensures steps_never_fall { steps.old ≤ steps.new }
 {
     if leaves.len() == 0 {
-        return build(rt, alloc, survey, leaves, gate, steps);
+        let built = build(rt, alloc, survey, leaves, gate, steps);
+        say_refused(rt, Request::properties(), &built);
+        return built;
     }
     let request = request_behind(&leaves);
     let ask = Ask::File(Path::Allsky);
-    match request_file(src, sink, inbox, request, &ask, Due::Survey(survey.pinned)) {
-        Ok(_) => build_and_compare(rt, alloc, &inbox.body, survey, leaves, gate, steps),
+    let due = Due::Survey(survey.pinned);
+    match request_file(rt, src, sink, inbox, request, &ask, due) {
+        Ok(_) => {
+            let built = build_and_compare(rt, alloc, &inbox.body, survey, leaves, gate, steps);
+            say_refused(rt, Request::new(request, ask), &built);
+            built
+        }
         Err(refusal) => Err(refusal),
     }
 }

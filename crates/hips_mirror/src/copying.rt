@@ -44,7 +44,8 @@ const FIRST_LEAF: u32 = 3;
 /// Copies one published state of a peer's survey onto the shelf, and answers how many files these are. It has the peer's newest
 /// state held, reads its description, its coverage, its leaves one after another, and its mosaic, builds all files of the leaves
 /// itself, and compares. Then the state is let go, and the shelf's files of a survey become those of the copy; all other files
-/// stay. The steps rise by one for each leaf and each tile that exists above them, at most.
+/// stay. The steps rise by one for each leaf and each tile that exists above them, at most. The log gets how far it is, and what
+/// is wrong with what the peer sends.
 ///
 /// # Errors
 ///
@@ -106,7 +107,7 @@ fn put_files<R: Clock + Log, H: Shelf>(
 }
 
 // The generation of the state that the peer holds, once the last reply was read.
-fn copy<R: Threads + Sync, S: Source, K: Sink, G: Gate + Sync>(
+fn copy<R: Threads + Sync + Clock + Log, S: Source, K: Sink, G: Gate + Sync>(
     rt: &R,
     alloc: Global,
     src: &mut S,
@@ -129,14 +130,14 @@ fn copy<R: Threads + Sync, S: Source, K: Sink, G: Gate + Sync>(
     ensures steps_never_fall { steps.old ≤ steps.new }
 {
     let mut inbox = Inbox::new(alloc);
-    match read_description(alloc, src, sink, &mut inbox) {
+    match read_description(rt, alloc, src, sink, &mut inbox) {
         Ok(survey) => copy_survey(rt, alloc, src, sink, &mut inbox, survey, gate, steps),
         Err(refusal) => Err(refusal),
     }
 }
 
 // The same, once the description was read.
-fn copy_survey<R: Threads + Sync, S: Source, K: Sink, G: Gate + Sync>(
+fn copy_survey<R: Threads + Sync + Clock + Log, S: Source, K: Sink, G: Gate + Sync>(
     rt: &R,
     alloc: Global,
     src: &mut S,
@@ -164,14 +165,14 @@ fn copy_survey<R: Threads + Sync, S: Source, K: Sink, G: Gate + Sync>(
     ensures writes_never_fall { K.faults sink.old ≤ K.faults sink.new }
     ensures steps_never_fall { steps.old ≤ steps.new }
 {
-    match read_cover(alloc, src, sink, inbox, &survey) {
+    match read_cover(rt, alloc, src, sink, inbox, &survey) {
         Ok(numbers) => copy_leaves(rt, alloc, src, sink, inbox, survey, &numbers, gate, steps),
         Err(refusal) => Err(refusal),
     }
 }
 
 // The same, once the cover was read: these are the leaves.
-fn copy_leaves<R: Threads + Sync, S: Source, K: Sink, G: Gate + Sync>(
+fn copy_leaves<R: Threads + Sync + Clock + Log, S: Source, K: Sink, G: Gate + Sync>(
     rt: &R,
     alloc: Global,
     src: &mut S,
@@ -200,14 +201,14 @@ fn copy_leaves<R: Threads + Sync, S: Source, K: Sink, G: Gate + Sync>(
     ensures writes_never_fall { K.faults sink.old ≤ K.faults sink.new }
     ensures steps_never_fall { steps.old ≤ steps.new }
 {
-    match read_leaves(alloc, src, sink, inbox, &survey, numbers, steps) {
+    match read_leaves(rt, alloc, src, sink, inbox, &survey, numbers, steps) {
         Ok(leaves) => copy_files(rt, alloc, src, sink, inbox, survey, leaves, gate, steps),
         Err(refusal) => Err(refusal),
     }
 }
 
 // The same, once the leaves were read.
-fn copy_files<R: Threads + Sync, S: Source, K: Sink, G: Gate + Sync>(
+fn copy_files<R: Threads + Sync + Log, S: Source, K: Sink, G: Gate + Sync>(
     rt: &R,
     alloc: Global,
     src: &mut S,
@@ -236,13 +237,14 @@ fn copy_files<R: Threads + Sync, S: Source, K: Sink, G: Gate + Sync>(
 {
     let count = leaves.len();
     match compare(rt, alloc, src, sink, inbox, survey, leaves, gate, steps) {
-        Ok(generation) => unpin(src, sink, inbox, count, generation),
+        Ok(generation) => unpin(rt, src, sink, inbox, count, generation),
         Err(refusal) => Err(refusal),
     }
 }
 
 // Has the state let go, and the connection closed, after the requests of so many leaves. It hands the generation on.
-fn unpin<S: Source, K: Sink>(
+fn unpin<R: Log, S: Source, K: Sink>(
+    rt: &R,
     src: &mut S,
     sink: &mut K,
     inbox: &mut Inbox,
@@ -265,7 +267,7 @@ fn unpin<S: Source, K: Sink>(
     ensures writes_never_fall { K.faults sink.old ≤ K.faults sink.new }
 {
     let request = unpin_request(count);
-    match request_file(src, sink, inbox, request, &Ask::Unpin, Due::Any) {
+    match request_file(rt, src, sink, inbox, request, &Ask::Unpin, Due::Any) {
         Ok(_) => Ok(generation),
         Err(refusal) => Err(refusal),
     }

@@ -17,8 +17,10 @@ ghost use Rattle.hips_mirror.specs.Stages.{Told, TellsCover, RefusedBy};
 use crate::asking::request_file;
 use crate::description::Survey;
 use crate::refusal::MirrorRefusal;
+use crate::saying::{Request, say_refused};
 use coverage_moc::{Cover, CoverRefusal};
 use edit_journal::{MOST_CHARGE, leaf_charge};
+use log::Log;
 use mirror_frame::{Ask, Due, Inbox};
 use pyramid_model::Shape;
 use std::alloc::Global;
@@ -35,7 +37,8 @@ const MOST_LEAVES: u64 = 65_000;
 ///
 /// As `request_file`; `Cover` exactly where what was sent isn't the coverage file of leaves of the survey's order; `TooLarge`
 /// exactly where these are more than 65,000, or are charged with more than 2^29 bytes.
-pub(crate) fn read_cover<S: Source, K: Sink>(
+pub(crate) fn read_cover<R: Log, S: Source, K: Sink>(
+    rt: &R,
     alloc: Global,
     src: &mut S,
     sink: &mut K,
@@ -59,8 +62,12 @@ pub(crate) fn read_cover<S: Source, K: Sink>(
     ensures few { length inbox.new.held.items ≤ most_head }
 {
     let ask = Ask::File(Path::Moc);
-    match request_file(src, sink, inbox, 2, &ask, Due::Survey(survey.pinned)) {
-        Ok(_) => leaves_covered(alloc, &survey.conf, &inbox.body),
+    match request_file(rt, src, sink, inbox, 2, &ask, Due::Survey(survey.pinned)) {
+        Ok(_) => {
+            let numbers = leaves_covered(alloc, &survey.conf, &inbox.body);
+            say_refused(rt, Request::new(2, ask), &numbers);
+            numbers
+        }
         Err(refusal) => Err(refusal),
     }
 }

@@ -15,8 +15,10 @@ ghost use Rattle.hips_mirror.specs.Stages.{Told, TellsSurvey, Counts, RefusedBy}
 
 use crate::asking::request_file;
 use crate::refusal::MirrorRefusal;
+use crate::saying::{say_fault, say_no_count};
 use decimal_scale::plain_decimal;
 use http_frame::digits;
+use log::Log;
 use memchr::memrchr;
 use mirror_frame::{Ask, Due, Inbox};
 use std::alloc::{AllocError, Global};
@@ -40,7 +42,8 @@ pub(crate) struct Survey {
 /// # Errors
 ///
 /// As `request_file`; `Properties` exactly where what was sent isn't a properties file whose description is accepted.
-pub(crate) fn read_description<S: Source, K: Sink>(
+pub(crate) fn read_description<R: Log, S: Source, K: Sink>(
+    rt: &R,
     alloc: Global,
     src: &mut S,
     sink: &mut K,
@@ -58,14 +61,15 @@ pub(crate) fn read_description<S: Source, K: Sink>(
     ensures writes_never_fall { K.faults sink.old ≤ K.faults sink.new }
     ensures few { length inbox.new.held.items ≤ most_head }
 {
-    match pin(src, sink, inbox) {
-        Ok(pinned) => read_properties(alloc, src, sink, inbox, pinned),
+    match pin(rt, src, sink, inbox) {
+        Ok(pinned) => read_properties(rt, alloc, src, sink, inbox, pinned),
         Err(refusal) => Err(refusal),
     }
 }
 
 // Has the newest state held, and answers how many edits are published in it.
-fn pin<S: Source, K: Sink>(
+fn pin<R: Log, S: Source, K: Sink>(
+    rt: &R,
     src: &mut S,
     sink: &mut K,
     inbox: &mut Inbox,
@@ -83,14 +87,15 @@ fn pin<S: Source, K: Sink>(
     ensures writes_never_fall { K.faults sink.old ≤ K.faults sink.new }
     ensures few { length inbox.new.held.items ≤ most_head }
 {
-    match request_file(src, sink, inbox, 0, &Ask::Pin, Due::Pinned) {
+    match request_file(rt, src, sink, inbox, 0, &Ask::Pin, Due::Pinned) {
         Ok(prefix) => Ok(prefix.unwrap()),
         Err(refusal) => Err(refusal),
     }
 }
 
 // Reads the description of the state that is held.
-fn read_properties<S: Source, K: Sink>(
+fn read_properties<R: Log, S: Source, K: Sink>(
+    rt: &R,
     alloc: Global,
     src: &mut S,
     sink: &mut K,
@@ -114,14 +119,19 @@ fn read_properties<S: Source, K: Sink>(
     ensures few { length inbox.new.held.items ≤ most_head }
 {
     let ask = Ask::File(Path::Properties);
-    match request_file(src, sink, inbox, 1, &ask, Due::Survey(pinned)) {
-        Ok(_) => describe(alloc, &inbox.body, pinned),
+    match request_file(rt, src, sink, inbox, 1, &ask, Due::Survey(pinned)) {
+        Ok(_) => describe(rt, alloc, &inbox.body, pinned),
         Err(refusal) => Err(refusal),
     }
 }
 
-// The survey that the properties file describes.
-fn describe(alloc: Global, body: &[u8], pinned: u32) -> Result<Survey, MirrorRefusal>
+// The survey that the properties file describes. The log gets what is wrong with it.
+fn describe<R: Log>(
+    rt: &R,
+    alloc: Global,
+    body: &[u8],
+    pinned: u32,
+) -> Result<Survey, MirrorRefusal>
     ensures pinned { IfOk result (λ survey. survey.pinned ≡ pinned) }
     ensures described { IfOk result (λ survey. IsProperties body.now survey.conf) }
     ensures counts { IfOk result (λ survey. Counts survey.conf body.now survey.counted) }
@@ -129,13 +139,17 @@ fn describe(alloc: Global, body: &[u8], pinned: u32) -> Result<Survey, MirrorRef
     ensures no_fault { (result ≢ Err MirrorRefusal.ReadFault) × (result ≢ Err MirrorRefusal.WriteFault) × (result ≢ Err MirrorRefusal.ShelfFault) }
 {
     match split_properties(body) {
-        Some((text, digits)) => describe_by(alloc, body, text, digits, pinned),
-        None => Err(MirrorRefusal::Properties),
+        Some((text, digits)) => describe_by(rt, alloc, body, text, digits, pinned),
+        None => {
+            say_no_count(rt);
+            Err(MirrorRefusal::Properties)
+        }
     }
 }
 
 // The survey that the properties file describes by this text, where its last line tells these digits.
-fn describe_by(
+fn describe_by<R: Log>(
+    rt: &R,
     alloc: Global,
     body: &[u8],
     text: &[u8],
@@ -158,7 +172,10 @@ fn describe_by(
                 counted,
             })
         }
-        Err(ConfRefusal::Fault(_)) => Err(MirrorRefusal::Properties),
+        Err(ConfRefusal::Fault(fault)) => {
+            say_fault(rt, text, fault);
+            Err(MirrorRefusal::Properties)
+        }
         Err(ConfRefusal::OutOfMemory) => Err(MirrorRefusal::OutOfMemory),
     }
 }

@@ -20,26 +20,31 @@ ghost use Rattle.hips_mirror.specs.Stages.{Told, TellsLeaf, PutsLeaf, RefusedBy,
 
 use crate::asking::{request_behind, request_file};
 use crate::description::Survey;
+use crate::progress::Progress;
 use crate::refusal::MirrorRefusal;
+use crate::saying::{Request, say_refused};
 use fits_tile::{TileRefusal, decode};
 use healpix_nested::Cell;
 use leaf_store::Store;
+use log::Log;
 use mirror_frame::{Ask, Due, Inbox};
 use parent_rule::Steps;
 use std::alloc::{AllocError, Global};
 use std::sync::Arc;
+use std::time::Clock;
 use survey_conf::Conf;
 use survey_link::{Sink, Source};
 use tile_path::Path;
 use tile_pixels::Tile;
 
 /// Reads the tiles of these leaves, one after another; each is decoded before the next is asked for. The steps rise by one for
-/// each tile.
+/// each tile. How many are read is logged, at most once a second.
 ///
 /// # Errors
 ///
 /// As `request_file`; `Leaf` exactly where what was sent as a leaf is refused, for the first such leaf.
-pub(crate) fn read_leaves<S: Source, K: Sink>(
+pub(crate) fn read_leaves<R: Clock + Log, S: Source, K: Sink>(
+    rt: &R,
     alloc: Global,
     src: &mut S,
     sink: &mut K,
@@ -71,14 +76,19 @@ pub(crate) fn read_leaves<S: Source, K: Sink>(
     // For the prover: a count fits 64 bits.
     let _count = steps.count();
     let mut tiles = Store::new(alloc);
+    let mut progress = Progress::begin(rt, numbers.len());
     for number in numbers {
-        read_leaf(alloc, src, sink, inbox, survey, *number, steps, &mut tiles)?;
+        read_leaf(
+            rt, alloc, src, sink, inbox, survey, *number, steps, &mut tiles,
+        )?;
+        progress.leaf_read(rt, inbox.body.len());
     }
     Ok(tiles)
 }
 
 // Reads the tile of a leaf, and puts it behind those of leaves with lower numbers.
-fn read_leaf<S: Source, K: Sink>(
+fn read_leaf<R: Log, S: Source, K: Sink>(
+    rt: &R,
     alloc: Global,
     src: &mut S,
     sink: &mut K,
@@ -113,8 +123,13 @@ fn read_leaf<S: Source, K: Sink>(
 {
     let request = request_behind(tiles);
     let ask = leaf_ask(&survey.conf, number);
-    match request_file(src, sink, inbox, request, &ask, Due::Survey(survey.pinned)) {
-        Ok(_) => take_leaf(alloc, &inbox.body, &survey.conf, number, steps, tiles),
+    let due = Due::Survey(survey.pinned);
+    match request_file(rt, src, sink, inbox, request, &ask, due) {
+        Ok(_) => {
+            let taken = take_leaf(alloc, &inbox.body, &survey.conf, number, steps, tiles);
+            say_refused(rt, Request::new(request, ask), &taken);
+            taken
+        }
         Err(refusal) => Err(refusal),
     }
 }

@@ -12,7 +12,9 @@ mod cover;
 mod description;
 pub mod laws;
 mod leaves;
+mod progress;
 mod refusal;
+mod saying;
 mod text;
 
 pub use copying::mirror;

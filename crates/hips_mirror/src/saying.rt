@@ -1,0 +1,101 @@
+//! Why there is no copy, in words for the log: which request, which path, and what is wrong with what came.
+use crate::refusal::MirrorRefusal;
+use log::{Log, error};
+use mirror_frame::Ask;
+use std::fmt;
+use survey_conf::{ConfFault, FaultWords};
+use tile_path::Path;
+
+// What a reply has to be.
+const FORM: &str =
+    "it is 200 of HTTP/1.1, with one Content-Length, and the Survey-Prefix of the state that is held";
+
+/// A request of a copy, which is shown as in `GET /properties (request 1)`.
+#[derive(Clone, Copy)]
+pub(crate) struct Request {
+    number: u32,
+    ask: Ask,
+}
+
+impl Request {
+    /// The request with this number.
+    pub(crate) fn new(number: u32, ask: Ask) -> Request {
+        Request { number, ask }
+    }
+
+    /// That of the properties.
+    pub(crate) fn properties() -> Request {
+        Request::new(1, Ask::File(Path::Properties))
+    }
+}
+
+impl fmt::Display for Request {
+    fn fmt<W: fmt::Write>(&self, f: &mut fmt::Formatter<W>) -> fmt::Result {
+        match self.ask {
+            Ask::Pin => f.write_str("POST /pin")?,
+            Ask::File(path) => write!(f, "GET /{path}")?,
+            Ask::Unpin => f.write_str("POST /unpin")?,
+        }
+        write!(f, " (request {})", self.number)
+    }
+}
+
+/// Says why what came for a request was refused, where it was.
+pub(crate) fn say_refused<R: Log, T>(rt: &R, request: Request, answer: &Result<T, MirrorRefusal>) {
+    if let Err(refusal) = answer {
+        say_refusal(rt, request, refusal);
+    }
+}
+
+/// Says why what came for a request is refused. Nothing is said of faults and want of memory, and of the properties where they
+/// are read.
+pub(crate) fn say_refusal<R: Log>(rt: &R, request: Request, refusal: &MirrorRefusal) {
+    match refusal {
+        MirrorRefusal::Reply { .. } => say_form(rt, request),
+        MirrorRefusal::Cut => error!(rt; "{request}: the peer's bytes end within the reply"),
+        MirrorRefusal::Cover =>
+            error!(rt; "{request}: the body isn't the coverage file of leaves of the survey's order"),
+        MirrorRefusal::TooLarge { leaves } =>
+            error!(rt; "{request}: {leaves} leaves are more than 65000, or are charged with more than 2^29 bytes"),
+        MirrorRefusal::Leaf { fault, .. } =>
+            error!(rt; "{request}: the body is no tile of the survey: {fault}"),
+        MirrorRefusal::Differs { path } => say_differs(rt, request, *path),
+        MirrorRefusal::Properties
+        | MirrorRefusal::ReadFault
+        | MirrorRefusal::WriteFault
+        | MirrorRefusal::ShelfFault
+        | MirrorRefusal::OutOfMemory => {}
+    }
+}
+
+// Says that a reply isn't in form, and what it would have to be.
+fn say_form<R: Log>(rt: &R, request: Request) {
+    match request.ask {
+        Ask::Pin =>
+            error!(rt; "{request}: the reply isn't in form: {FORM}; its body is `pinned K`"),
+        Ask::File(_) => error!(rt; "{request}: the reply isn't in form: {FORM}"),
+        Ask::Unpin =>
+            error!(rt; "{request}: the reply isn't in form: it is 200 of HTTP/1.1, with one Content-Length"),
+    }
+}
+
+// Says that one of the two files differs that are compared once the mosaic has come.
+fn say_differs<R: Log>(rt: &R, request: Request, path: Path) {
+    let request = match path {
+        Path::Properties => Request::properties(),
+        _ => request,
+    };
+    error!(rt; "{request}: the body isn't the file that the leaves make");
+}
+
+/// Says that the last line of the properties tells no number of leaves.
+pub(crate) fn say_no_count<R: Log>(rt: &R) {
+    let request = Request::properties();
+    error!(rt; "{request}: the last line isn't `survey_leaves = N`, with N in plain decimals");
+}
+
+/// Says which fault the description in the properties has.
+pub(crate) fn say_fault<R: Log>(rt: &R, text: &[u8], fault: ConfFault) {
+    let request = Request::properties();
+    error!(rt; "{request}: {}", FaultWords::new(text, fault));
+}
