@@ -6,18 +6,14 @@ ghost use Rattle.survey_commands.specs.Session.{ends_of};
 ghost use Rattle.survey_commands.specs.Mirror.{RunsMirror, copying_of, refusal_status};
 
 use hips_mirror::{MirrorRefusal, mirror};
-use log::{Log, error, info};
+use log::{Log, info};
 use parent_rule::Steps;
 use std::thread::Threads;
 use std::time::Clock;
 use survey_link::{Gate, Shelf, Sink, Source};
-use tile_path::Path;
-
-// How many requests come before those of the leaves.
-const FIRST_LEAF: u32 = 3;
 
 /// Copies one published state of a peer's survey onto the shelf, and answers the status. The peer is asked over the sink, and
-/// its replies come from the source. The log gets how many files there are, or why there is no copy.
+/// its replies come from the source. The log gets how many files there are; `mirror` says why there is no copy.
 ///
 /// | Status | Where |
 /// |---|---|
@@ -62,10 +58,7 @@ where
             say_copied(rt, count);
             0
         }
-        Err(refusal) => {
-            say_refusal(rt, &refusal);
-            refusal_status(&refusal)
-        }
+        Err(refusal) => refusal_status(&refusal),
     }
 }
 
@@ -95,42 +88,4 @@ fn refusal_status(refusal: &MirrorRefusal) -> u8
 // Says how many files the copy has.
 fn say_copied<R: Log>(rt: &R, count: u64) {
     info!(rt; "{count} files are those of the copy");
-}
-
-// Says why there is no copy, where that lies in what the peer sent.
-fn say_refusal<R: Log>(rt: &R, refusal: &MirrorRefusal) {
-    match refusal {
-        MirrorRefusal::Reply { request } => say_reply(rt, *request),
-        MirrorRefusal::Properties =>
-            error!(rt; "GET /properties (request 1): the body isn't the properties file of a survey that this program reads"),
-        MirrorRefusal::Cover =>
-            error!(rt; "GET /Moc.fits (request 2): the body isn't the coverage file of leaves of the survey's order"),
-        MirrorRefusal::TooLarge { leaves } =>
-            error!(rt; "GET /Moc.fits (request 2): {leaves} leaves are more than 65000, or are charged with more than 2^29 bytes"),
-        MirrorRefusal::Leaf { cell, fault } =>
-            error!(rt; "GET /{}: the body is no tile of the survey: {fault}", Path::Tile(*cell)),
-        MirrorRefusal::Differs { path } =>
-            error!(rt; "GET /{path}: the body isn't the file that the leaves make"),
-        MirrorRefusal::Cut => error!(rt; "the peer's bytes end within a reply"),
-        MirrorRefusal::ReadFault
-        | MirrorRefusal::WriteFault
-        | MirrorRefusal::ShelfFault
-        | MirrorRefusal::OutOfMemory => {}
-    }
-}
-
-// Says which reply isn't in form, and what it would have to be.
-fn say_reply<R: Log>(rt: &R, request: u32) {
-    let form =
-        "it is 200 of HTTP/1.1, with one Content-Length, and the Survey-Prefix of the state that is held";
-    match request {
-        0 =>
-            error!(rt; "POST /pin (request 0): the reply isn't in form: {form}; its body is `pinned K`"),
-        1 => error!(rt; "GET /properties (request 1): the reply isn't in form: {form}"),
-        2 => error!(rt; "GET /Moc.fits (request 2): the reply isn't in form: {form}"),
-        _ => {
-            let leaf = request - FIRST_LEAF;
-            error!(rt; "the reply to request {request} isn't in form: {form}. It is that of the leaf with {leaf} before it in the cover; behind the leaves, that of Norder3/Allsky.fits, and then of POST /unpin");
-        }
-    }
 }
