@@ -2,7 +2,8 @@
 use crate::copies::copied;
 use crate::peers::replies;
 use hips_mirror::MirrorRefusal;
-use log::Log;
+use log::sink::{Discard, Locked};
+use log::{Level, LevelFilter, Log, Logged};
 use std::alloc::Global;
 use std::test::Fail;
 use std::thread::Threads;
@@ -11,31 +12,49 @@ use survey_link::{MemShelf, MemSink, Shelf};
 use tile_path::Path;
 
 // What is changed in the replies of a peer with so many leaves: the first place of a text becomes another. The refusal is told
-// by its number, with the request, the number of leaves, the leaf, or 1 for the mosaic.
+// by its number, with the request, the number of leaves, the leaf, or 1 for the mosaic; and how its line in the log begins.
 struct Lie {
     leaves: u64,
     changes: [&'static str; 6],
     told: (u8, u64),
+    said: &'static str,
 }
 
-static LIES: [Lie; 13] = [
+static LIES: [Lie; 14] = [
     // Another state than the one that was pinned.
     Lie {
         leaves: 4,
         changes: ["pinned 7", "pinned 8", "", "", "", ""],
         told: (1, 0),
+        said: "POST /pin (request 0): the reply isn't in form",
     },
     // A length of nine digits.
     Lie {
         leaves: 0,
         changes: ["Length: 9\r\n", "Length: 000000009\r\n", "", "", "", ""],
         told: (1, 0),
+        said: "POST /pin (request 0): the reply isn't in form",
     },
     // The cover of another state.
     Lie {
         leaves: 4,
         changes: ["7\r\n\r\nSIMPLE", "8\r\n\r\nSIMPLE", "", "", "", ""],
         told: (1, 2),
+        said: "GET /Moc.fits (request 2): the reply isn't in form",
+    },
+    // The first leaf of another state.
+    Lie {
+        leaves: 4,
+        changes: [
+            "Length: 5760\r\nSurvey-Prefix: 7",
+            "Length: 5760\r\nSurvey-Prefix: 8",
+            "",
+            "",
+            "",
+            "",
+        ],
+        told: (1, 3),
+        said: "GET /Norder4/Dir0/Npix0.fits (request 3): the reply isn't in form",
     },
     // The last reply without success.
     Lie {
@@ -49,24 +68,28 @@ static LIES: [Lie; 13] = [
             "",
         ],
         told: (1, 8),
+        said: "POST /unpin (request 8): the reply isn't in form",
     },
     // A sign before the number of leaves.
     Lie {
         leaves: 0,
         changes: ["survey_leaves = 0", "survey_leaves =+0", "", "", "", ""],
         told: (2, 0),
+        said: "GET /properties (request 1): the last line isn't `survey_leaves = N`",
     },
     // A key that there isn't.
     Lie {
         leaves: 0,
         changes: ["hips_order = 4", "hips_ardor = 4", "", "", "", ""],
         told: (2, 0),
+        said: "GET /properties (request 1): hips_order is missing",
     },
     // Another card.
     Lie {
         leaves: 4,
         changes: ["GCOUNT  ", "XCOUNT  ", "", "", "", ""],
         told: (3, 0),
+        said: "GET /Moc.fits (request 2): the body isn't the coverage file",
     },
     // A whole base cell of order 9: 262,144 leaves.
     Lie {
@@ -80,6 +103,7 @@ static LIES: [Lie; 13] = [
             "\0\0\0\0\0\0\0\x04",
         ],
         told: (4, 262_144),
+        said: "GET /Moc.fits (request 2): 262144 leaves are more than 65000",
     },
     // A tile of three columns; that of leaf 0 comes first.
     Lie {
@@ -93,12 +117,14 @@ static LIES: [Lie; 13] = [
             "",
         ],
         told: (5, 0),
+        said: "GET /Norder4/Dir0/Npix0.fits (request 3): the body is no tile of the survey: 5 width 1 3",
     },
     // One leaf more than there are.
     Lie {
         leaves: 0,
         changes: ["survey_leaves = 0", "survey_leaves = 1", "", "", "", ""],
         told: (6, 0),
+        said: "GET /properties (request 1): the body isn't the file that the leaves make",
     },
     // Another number in the mosaic's header.
     Lie {
@@ -112,6 +138,7 @@ static LIES: [Lie; 13] = [
             "",
         ],
         told: (6, 1),
+        said: "GET /Norder3/Allsky.fits (request 7): the body isn't the file that the leaves make",
     },
     // The tile of leaf 0 after another edit, under the number of the state that was pinned.
     Lie {
@@ -125,6 +152,7 @@ static LIES: [Lie; 13] = [
             "",
         ],
         told: (6, 1),
+        said: "GET /Norder3/Allsky.fits (request 7): the body isn't the file that the leaves make",
     },
     // A body that is longer than all that follows.
     Lie {
@@ -138,6 +166,7 @@ static LIES: [Lie; 13] = [
             "",
         ],
         told: (7, 0),
+        said: "POST /unpin (request 3): the peer's bytes end within the reply",
     },
 ];
 
@@ -226,10 +255,27 @@ fn refuses_lie<R: Threads + Sync + Clock + Log>(
     refuses(rt, alloc, bytes, lie.told)
 }
 
+// Whether the log is one line, of the level `error`, that begins so.
+fn is_line(log: &[u8], said: &str) -> bool {
+    match log.strip_prefix(b"[ERROR hips_mirror::saying] ") {
+        Some(text) => text.starts_with(said.as_bytes())
+            && text.iter().filter(|b| **b == b'\n').count() == 1,
+        None => false,
+    }
+}
+
 #[test]
 fn a_peer_that_lies_is_refused(rt: HostRuntime) -> Result<(), Fail> {
     for at in 0..LIES.len() {
-        assert!(rt; refuses_lie(&rt, rt.alloc(), &LIES[at])?, "lie {at}");
+        let log = Locked::new(rt, Vec::new(rt.alloc()));
+        let refused = refuses_lie(&Logged::new(rt, Level::Error, &log), rt.alloc(), &LIES[at])?;
+        let lines = log.into_inner();
+        assert!(rt; refused, "lie {at}");
+        assert!(rt;
+            is_line(&lines, LIES[at].said),
+            "lie {at}: {}",
+            lines.escape_ascii()
+        );
     }
     Ok(())
 }
@@ -270,7 +316,8 @@ fn first_uncut<R: Threads + Sync + Clock + Log>(
 #[test]
 fn a_copy_that_is_cut_changes_nothing(rt: HostRuntime) -> Result<(), Fail> {
     let bytes = replies(&rt, rt.alloc(), 0)?;
-    assert!(rt; first_uncut(&rt, rt.alloc(), &bytes)? == bytes.len());
+    let quiet = Logged::new(rt, LevelFilter::Off, Discard);
+    assert!(rt; first_uncut(&quiet, rt.alloc(), &bytes)? == bytes.len());
     Ok(())
 }
 
@@ -287,7 +334,8 @@ fn cuts_bodies<R: Threads + Sync + Clock + Log>(rt: &R, alloc: Global) -> Result
 
 #[test]
 fn a_copy_that_is_cut_in_a_body_changes_nothing(rt: HostRuntime) -> Result<(), Fail> {
-    assert!(rt; cuts_bodies(&rt, rt.alloc())?);
+    let quiet = Logged::new(rt, LevelFilter::Off, Discard);
+    assert!(rt; cuts_bodies(&quiet, rt.alloc())?);
     Ok(())
 }
 
