@@ -1,5 +1,5 @@
 -- How many tiles are read and merged.
-use Rattle.std.specs.Prelude.{ℕ, ◌+◌, nat_eq, nat_lt, not, List, ◌∷◌, filter, fold, max, take, Option, Some, None, if◌then◌else◌}
+use Rattle.std.specs.Prelude.{ℕ, ◌+◌, Bool, nat_eq, nat_lt, not, List, ◌∷◌, filter, fold, max, take, Option, Some, None, if◌then◌else◌}
 use Rattle.std.specs.List.{list_any}
 use Rattle.survey_conf.specs.Description.{Description}
 use Rattle.dirty_plan.specs.Dirty.{work}
@@ -17,9 +17,10 @@ abbrev pub greater : Option ℕ → ℕ → Option ℕ
 greater None j = Some j
 greater (Some best) j = Some (max best j)
 
--- the greatest held prefix below k
-abbrev pub nearest : ℕ → List ℕ → Option ℕ
-nearest k held = fold greater None (filter (λ j. nat_lt j k) held)
+-- the prefix whose generation k's is made from: the greatest held one below k; where there is none, 0 if the generation of the
+-- opening leaves is kept
+abbrev pub base : Bool → ℕ → List ℕ → Option ℕ
+base opened k held = fold greater (if opened then Some 0 else None) (filter (λ j. nat_lt j k) held)
 
 -- the tiles above the leaves under which the edits from j to k touched one
 abbrev pub work_between : Description → List LeafEdit → ℕ → ℕ → ℕ
@@ -33,6 +34,6 @@ abbrev pub work_from : Description → LeafTiles → List LeafEdit → ℕ → O
 work_from d opening edits k (Some j) = work_between d edits j k
 work_from d opening edits k None = work_afresh d opening edits k
 
--- the most steps of asking for k: none where it is held; else from the greatest held prefix below it, or afresh
-abbrev pub past_work : Description → LeafTiles → List LeafEdit → List ℕ → ℕ → ℕ
-past_work d opening edits held k = if list_any (nat_eq k) held then 0 else work_from d opening edits k (nearest k held)
+-- the most steps of asking for k: none where it is held; else from its base, or afresh
+abbrev pub past_work : Description → LeafTiles → Bool → List LeafEdit → List ℕ → ℕ → ℕ
+past_work d opening opened edits held k = if list_any (nat_eq k) held then 0 else work_from d opening edits k (base opened k held)

@@ -1,7 +1,7 @@
 -- A cache of past states as contracts see it, and what it is kept as.
-use Rattle.std.specs.Prelude.{◌≡◌, ◌⊎◌, ℕ, ◌<◌, ◌≤◌, nat_lt, List, length, take, Contains, Option, Some, None, IfSome, option_map, if◌then◌else◌}
+use Rattle.std.specs.Prelude.{◌≡◌, ℕ, ◌<◌, ◌≤◌, Bool, nat_lt, List, length, take, Contains, Option, Some, None, IfSome, option_map, if◌then◌else◌}
 use Rattle.std.specs.Borrow.{Bor}
-use Rattle.past_reads.specs.Costs.{greater, nearest}
+use Rattle.past_reads.specs.Costs.{greater, base}
 use Rattle.std.specs.List.{AllByRecursion}
 use Rattle.survey_conf.specs.Description.{Description}
 use Rattle.edit_journal.specs.Edit.{LeafEdit}
@@ -13,11 +13,12 @@ use Rattle.survey_core.specs.History.{Begins}
 use Rattle.past_reads.specs.declared.refusal.PastRefusal.{PastRefusal}
 use Rattle.past_reads.specs.declared.refusal.PastRefusal.TheVariants.{TooNew, Split, OutOfMemory}
 
--- the survey's description and its opening leaves, the batches that are known, how many generations may be held, and the
--- prefixes of those that are, the most recently used first
+-- the survey's description and its opening leaves, whether the generation of these is kept, the batches that are known, how
+-- many generations may be held beside it, and the prefixes of those that are, the most recently used first
 pub record PastContent : Type 0 where
   pub conf : Description
   pub opening : LeafTiles
+  pub opened : Bool
   pub batches : List (List LeafEdit)
   pub room : ℕ
   pub held : List ℕ
@@ -48,8 +49,8 @@ journal_of past = record { shape = past.conf.shape; opening = past.opening; batc
 
 -- ---- how it is kept: by the survey's description, a journal, and the generations with their prefixes
 
-abbrev pub kept_content : Description → JournalContent → List ℕ → ℕ → PastContent
-kept_content d journal held room = record { conf = d; opening = journal.opening; batches = journal.batches; room = room; held = held }
+abbrev pub kept_content : Description → Bool → JournalContent → List ℕ → ℕ → PastContent
+kept_content d opened journal held room = record { conf = d; opening = journal.opening; opened = opened; batches = journal.batches; room = room; held = held }
 
 -- a generation is that of its prefix, an end of the batches
 pub record IsHeld (d : Description) (journal : JournalContent) (k : ℕ) (generation : GenerationContent) : Type 0 where
@@ -70,15 +71,9 @@ pub record IsKeptPast {X : Type 0} (value : X → GenerationContent) (d : Descri
 abbrev pub prefix_by : {X : Type 0} → (X → GenerationContent) → Option (Bor X) → Option ℕ
 prefix_by value found = option_map (λ generation. (value generation.now).prefix) found
 
--- it is the one held of the greatest prefix below k
-pub record FindsNearest {X : Type 0} (value : X → GenerationContent) (past : PastContent) (k : ℕ) (found : Option (Bor X)) : Type 0 where
-  pub prefix : prefix_by value found ≡ nearest k past.held
-  pub held : IfSome found (λ generation. IsHeld past.conf (journal_of past) (value generation.now).prefix (value generation.now))
-  pub below : IfSome found (λ generation. (value generation.now).prefix < k)
-
--- it is that one, or where there is none, one of no edits, or none
+-- it is that of the base of k
 pub record FindsBase {X : Type 0} (value : X → GenerationContent) (past : PastContent) (k : ℕ) (found : Option (Bor X)) : Type 0 where
-  pub prefix : (prefix_by value found ≡ nearest k past.held) ⊎ ((nearest k past.held ≡ None) × (prefix_by value found ≡ Some 0))
+  pub prefix : prefix_by value found ≡ base past.opened k past.held
   pub held : IfSome found (λ generation. IsHeld past.conf (journal_of past) (value generation.now).prefix (value generation.now))
   pub at_most : IfSome found (λ generation. (value generation.now).prefix ≤ k)
 

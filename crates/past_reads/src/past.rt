@@ -1,10 +1,10 @@
 //! A few past states of a survey, and the making of others.
-ghost use Rattle.std.specs.Prelude.{◌≡◌, ◌≢◌, ◌⊎◌, Some, ◌≤◌, ◌<◌, ◌+◌, [], length, slice_get, Contains, IfOk, IfErr, OnOk, OnErr};
+ghost use Rattle.std.specs.Prelude.{◌≡◌, ◌≢◌, ◌⊎◌, true, false, Some, ◌≤◌, ◌<◌, ◌+◌, [], length, slice_get, Contains, IfOk, IfErr, OnOk, OnErr};
 ghost use Rattle.std.specs.Arc.{arc_value};
 ghost use Rattle.edit_journal.specs.Batches.{edits_of, ends};
 ghost use Rattle.past_reads.specs.declared.refusal.PastRefusal.TheVariants.{OutOfMemory};
-ghost use Rattle.past_reads.specs.Past.{PastContent, GoesOnFrom, past_generation, FindsNearest, FindsBase, TellsPastRefusal, prefix_by, better_prefix};
-ghost use Rattle.past_reads.specs.Costs.{held_after, nearest, work_from, work_afresh, past_work};
+ghost use Rattle.past_reads.specs.Past.{PastContent, GoesOnFrom, past_generation, FindsBase, TellsPastRefusal, prefix_by, better_prefix};
+ghost use Rattle.past_reads.specs.Costs.{held_after, base, work_from, work_afresh, past_work};
 
 use crate::refusal::PastRefusal;
 use crate::saying::Making;
@@ -22,11 +22,12 @@ use std::time::Clock;
 use survey_conf::Conf;
 use survey_link::Gate;
 
-/// The generations of a survey that were asked for last, at most eight of them. Contracts see the survey's description and
-/// opening leaves, the batches of edits that are known, how many generations may be held, and the prefixes of those that are,
-/// the most recently used first.
+/// The generations of a survey that were asked for last, at most eight of them. The generation of the opening leaves stands
+/// beside these, where it was given.
 ///
-/// The generation of the opening leaves stands beside these, where it was given.
+/// Contracts see the survey's description and opening leaves, whether the generation of these is kept, the batches of edits
+/// that are known, how many generations may be held beside it, and the prefixes of those that are, the most recently used
+/// first.
 #[derive(Drop)]
 pub struct Past {
     alloc: Global,
@@ -37,13 +38,14 @@ pub struct Past {
 }
 
 impl Model for Past {
+    ghost use Rattle.std.specs.Prelude.{is_some};
     ghost use Rattle.std.specs.Map.{keys_of};
     ghost use Rattle.std.specs.Arc.{arc_value};
     ghost use Rattle.past_reads.specs.Past.{PastContent, kept_content, IsKeptPast};
 
     ghost Value = { PastContent };
 
-    ghost view = { λ p. kept_content (arc_value p.conf) p.journal (keys_of p.cache.entries) p.cache.cap };
+    ghost view = { λ p. kept_content (arc_value p.conf) (is_some p.opening) p.journal (keys_of p.cache.entries) p.cache.cap };
 
     ghost invariant = { λ p. IsKeptPast (λ generation. arc_value generation) (arc_value p.conf) p.journal p.opening p.cache.entries p.cache.cap };
 }
@@ -67,6 +69,7 @@ impl Past {
         ensures made { IfOk result (λ past. past ≡ record {
           conf = arc_value conf;
           opening = journal.now.opening;
+          opened = false;
           batches = journal.now.batches;
           room = capacity;
           held = [];
@@ -105,6 +108,7 @@ impl Past {
         ensures made { IfOk result (λ past. past ≡ record {
           conf = (arc_value opening).conf;
           opening = journal.now.opening;
+          opened = true;
           batches = journal.now.batches;
           room = capacity;
           held = [];
@@ -125,8 +129,11 @@ impl Past {
 
     /// The generation of the first `k` edits of the journal, which begins with the batches that are known. It is then the
     /// most recently used, the others keep their order, the last is dropped where there is no room for it, and the journal's
-    /// batches are known. One that is held takes no step. Another one is made from that of the greatest held prefix below it,
-    /// or from the opening leaves, and the steps rise by at most the number of tiles that are merged for this.
+    /// batches are known.
+    ///
+    /// One that is held takes no step. Another one is made from that of the greatest held prefix below it, else from that of
+    /// the opening leaves where this is kept, else from the opening leaves afresh. The steps rise by at most the number of tiles
+    /// that are merged for this.
     ///
     /// # Errors
     ///
@@ -152,7 +159,7 @@ impl Past {
         ensures refused { IfErr result (TellsPastRefusal journal.now.batches k) }
         ensures kept { OnErr result (self.new ≡ self.old) }
         ensures no_steps { IfErr result (λ refusal. refusal ≢ OutOfMemory → steps.new ≡ steps.old) }
-        ensures steps { steps.new ≤ steps.old + past_work self.old.conf self.old.opening (edits_of journal.now.batches) self.old.held k }
+        ensures steps { steps.new ≤ steps.old + past_work self.old.conf self.old.opening self.old.opened (edits_of journal.now.batches) self.old.held k }
         ensures never_falls { steps.old ≤ steps.new }
     {
         let edits = journal.len();
@@ -190,7 +197,7 @@ impl Past {
         requires journal { GoesOnFrom self.now journal.now }
         requires whole { Contains (ends journal.now.batches) k }
         ensures found { IfOk result (λ found. arc_value found ≡ past_generation self.now.conf journal.now.opening journal.now.batches k) }
-        ensures steps { steps.new ≤ steps.old + past_work self.now.conf self.now.opening (edits_of journal.now.batches) self.now.held k }
+        ensures steps { steps.new ≤ steps.old + past_work self.now.conf self.now.opening self.now.opened (edits_of journal.now.batches) self.now.held k }
         ensures never_falls { steps.old ≤ steps.new }
     {
         match self.cache.peek(&k) {
@@ -214,7 +221,7 @@ impl Past {
         requires journal { GoesOnFrom self.now journal.now }
         requires whole { Contains (ends journal.now.batches) k }
         ensures found { IfOk result (λ found. arc_value found ≡ past_generation self.now.conf journal.now.opening journal.now.batches k) }
-        ensures steps { steps.new ≤ steps.old + work_from self.now.conf self.now.opening (edits_of journal.now.batches) k (nearest k self.now.held) }
+        ensures steps { steps.new ≤ steps.old + work_from self.now.conf self.now.opening (edits_of journal.now.batches) k (base self.now.opened k self.now.held) }
         ensures never_falls { steps.old ≤ steps.new }
     {
         let making = Making::begin(rt, steps.count());
@@ -254,17 +261,7 @@ impl Past {
     fn base(&self, k: u32) -> Option<&Arc<Generation>>
         ensures { FindsBase (λ generation. arc_value generation) self.now k result }
     {
-        match self.nearest(k) {
-            Some(held) => Some(held),
-            None => self.opening.as_ref(),
-        }
-    }
-
-    // The generation held of the greatest prefix below `k`.
-    fn nearest(&self, k: u32) -> Option<&Arc<Generation>>
-        ensures { FindsNearest (λ generation. arc_value generation) self.now k result }
-    {
-        let mut best = None;
+        let mut best = self.opening.as_ref();
         for entry in self.cache.iter() {
             best = better(best, entry.1, k);
         }

@@ -1,5 +1,5 @@
 -- The answer to a read, by what a cache of past states gives.
-use Rattle.std.proofs.Common.{◌≡◌, ◌⊎◌, inl, inr, ℕ, zero, suc, ◌+◌, ◌-◌, ◌≤◌, ◌<◌, Bool, true, false, cond, not, nat_eq, nat_lt, List, [], ◌∷◌, ◌++◌, map, length, take, drop, get_or, slice_get, Option, Some, None, refl, sym, ap, ◌∙◌, subst, arith}
+use Rattle.std.proofs.Common.{◌≡◌, ◌⊎◌, inl, inr, ℕ, zero, suc, ◌+◌, ◌-◌, ◌≤◌, ◌<◌, Bool, true, false, cond, not, nat_eq, nat_lt, List, [], ◌∷◌, ◌++◌, map, length, take, drop, filter, fold, max, get_or, slice_get, Option, Some, None, refl, sym, ap, ◌∙◌, subst, arith}
 use Rattle.std.specs.Prelude.{All, Contains, codes, decimal, ◌&&◌, ◌||◌}
 use Rattle.std.specs.List.{list_any}
 use Rattle.std.proofs.lemmas.Bool.Decides.{nat_tests}
@@ -16,7 +16,7 @@ use Rattle.generation.specs.Steps.{touched}
 use Rattle.survey_core.specs.HistoryLaws.{end_within}
 use Rattle.past_frame.specs.Line.{line_feed}
 use Rattle.past_frame.specs.Record.{read}
-use Rattle.past_reads.specs.Costs.{held_after, nearest, work_between, work_afresh, work_from, past_work}
+use Rattle.past_reads.specs.Costs.{held_after, greater, base, work_between, work_from, past_work}
 use Rattle.past_session.specs.Answers.{PastState, is_end, file_text, past_file, read_text, state_after}
 use Rattle.past_session.specs.Costs.{is_last, record_cost}
 
@@ -113,34 +113,34 @@ module _ (law : MoreTouchedIsMoreWork) (d : Description) (opening : LeafTiles) (
         | false ↦ λ is. law d.shape.top d.shape.low (touched edits j k) (touched edits 0 k) (touched_part edits j k (grind (arith, nat_tests)))
       ] refl
 
-  less_from : (from : Option ℕ) → work_from d opening edits k from ≤ work_afresh d opening edits k
-  less_from None = omega arith
-  less_from (Some j) = omega (arith, less_between j)
+  less_from : (j : ℕ) (held : List ℕ) → work_from d opening edits k (fold greater (Some j) held) ≤ work_between d edits 0 k
+  less_from j [] = less_between j
+  less_from j (i ∷ held) = less_from (max j i) held
 
-  -- at most as much as from the opening leaves
-  less_work : (held : List ℕ) → past_work d opening edits held k ≤ work_afresh d opening edits k
+  -- at most as much as from the generation of the opening leaves
+  less_work : (held : List ℕ) → past_work d opening true edits held k ≤ work_between d edits 0 k
   less_work held =
-      elim (list_any (nat_eq k) held) as (λ b. cond b 0 (work_from d opening edits k (nearest k held)) ≤ work_afresh d opening edits k) [
+      elim (list_any (nat_eq k) held) as (λ b. cond b 0 (work_from d opening edits k (base true k held)) ≤ work_between d edits 0 k) [
         | true ↦ omega arith
-        | false ↦ less_from (nearest k held)
+        | false ↦ less_from 0 (filter (λ j. nat_lt j k) held)
       ]
 
   -- nothing where the generation was used last
-  cost_by : (held : List ℕ) → past_work d opening edits held k ≤ cond (not (is_last (slice_get held 0) k)) (work_afresh d opening edits k) 0
+  cost_by : (held : List ℕ) → past_work d opening true edits held k ≤ cond (not (is_last (slice_get held 0) k)) (work_between d edits 0 k) 0
   cost_by [] = less_work []
   cost_by (last ∷ held) =
-      elim (nat_eq last k) as (λ b. nat_eq last k ≡ b → past_work d opening edits (last ∷ held) k ≤ cond (not b) (work_afresh d opening edits k) 0) [
+      elim (nat_eq last k) as (λ b. nat_eq last k ≡ b → past_work d opening true edits (last ∷ held) k ≤ cond (not b) (work_between d edits 0 k) 0) [
         | true ↦ λ is.
             let there : nat_eq k last ≡ true = grind (arith, nat_tests) in
-            let free : past_work d opening edits (last ∷ held) k ≡ 0 = ap (λ b. cond (b || list_any (nat_eq k) held) 0 (work_from d opening edits k (nearest k (last ∷ held)))) there in
+            let free : past_work d opening true edits (last ∷ held) k ≡ 0 = ap (λ b. cond (b || list_any (nat_eq k) held) 0 (work_from d opening edits k (base true k (last ∷ held)))) there in
             omega (arith, free)
         | false ↦ λ is. less_work (last ∷ held)
       ] refl
 
 pub read_cost : MoreTouchedIsMoreWork → (d : Description) (opening : LeafTiles) (state : PastState) (held : List ℕ) (k : ℕ) (path : List ℕ) → state.last ≡ slice_get held 0 → Contains (ends state.batches) k
-    → past_work d opening (edits_of state.batches) held k ≤ record_cost d opening state (read k path)
+    → past_work d opening true (edits_of state.batches) held k ≤ record_cost d state (read k path)
 read_cost law d opening state held k path last there =
-    let by : record_cost d opening state (read k path) ≡ cond (not (is_last (slice_get held 0) k)) (work_afresh d opening (edits_of state.batches) k) 0 =
-    ap (λ b. cond (b && not (is_last state.last k)) (work_afresh d opening (edits_of state.batches) k) 0) (end_true state.batches k there)
-    ∙ ap (λ l. cond (not (is_last l k)) (work_afresh d opening (edits_of state.batches) k) 0) last in
+    let by : record_cost d state (read k path) ≡ cond (not (is_last (slice_get held 0) k)) (work_between d (edits_of state.batches) 0 k) 0 =
+    ap (λ b. cond (b && not (is_last state.last k)) (work_between d (edits_of state.batches) 0 k) 0) (end_true state.batches k there)
+    ∙ ap (λ l. cond (not (is_last l k)) (work_between d (edits_of state.batches) 0 k) 0) last in
     omega (arith, by, cost_by law d opening (edits_of state.batches) k held)

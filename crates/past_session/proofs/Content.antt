@@ -43,6 +43,7 @@ pub kept_more : (d : Description) (past : PastContent) (journal next : JournalCo
     → IsKeptSession d next past
 kept_more d past journal next batch kept shape opening batches = record {
   conf = kept.conf;
+  opened = kept.opened;
   goes_on = goes_on_more past journal next batch kept.goes_on shape opening batches;
   room = kept.room;
 }
@@ -60,6 +61,7 @@ count_more batches batch =
 pub kept_found : (d : Description) (journal : JournalContent) (past past' : PastContent) (k : ℕ) → IsKeptSession d journal past → past' ≡ record past { batches = journal.batches; held = held_after past.room k past.held } → GoesOnFrom past' journal → IsKeptSession d journal past'
 kept_found d journal past past' k kept is goes = record {
   conf = ap (λ (p : PastContent). p.conf) is ∙ kept.conf;
+  opened = ap (λ (p : PastContent). p.opened) is ∙ kept.opened;
   goes_on = goes;
   room = subst (λ n. 1 ≤ n) (sym (ap (λ (p : PastContent). p.room) is)) kept.room;
 }

@@ -156,9 +156,8 @@ module _ (stand : RecordsStand) (d : Description) (opening : LeafTiles) (left le
       found = records_next (room_of d) input going.done ((held ++ reads.came) ++ rest reads.came reads.consumed) (in_all reads.came reads.consumed) answers.asked
           (answers.rest ++ rest reads.came reads.consumed) fewer (stand.whole (room_of d) (held ++ reads.came) answers.rest (rest reads.came reads.consumed) answers.asked reads.is)
 
-      costs : record_cost session.conf session.opening session.state answers.asked ≡ record_cost d opening (state_behind d opening first_state going.done) answers.asked
-      costs = ap (λ (c : Description). record_cost c session.opening session.state answers.asked) going.conf ∙ ap (λ (o : LeafTiles). record_cost d o session.state answers.asked) going.opening_is
-          ∙ ap (λ (s : PastState). record_cost d opening s answers.asked) going.state
+      costs : record_cost session.conf session.state answers.asked ≡ record_cost d (state_behind d opening first_state going.done) answers.asked
+      costs = ap (λ (c : Description). record_cost c session.state answers.asked) going.conf ∙ ap (λ (s : PastState). record_cost d s answers.asked) going.state
 
       text : record_text session.conf session.opening session.state answers.asked ≡ record_text d opening (state_behind d opening first_state going.done) answers.asked
       text = ap (λ (c : Description). record_text c session.opening session.state answers.asked) going.conf ∙ ap (λ (o : LeafTiles). record_text d o session.state answers.asked) going.opening_is

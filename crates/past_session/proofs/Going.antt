@@ -55,7 +55,7 @@ module _ (d : Description) (opening : LeafTiles) where
   state_next state (first ∷ later) next = state_next (state_after d opening state first) later next
 
   pub cost_next : (state : PastState) (records : List PastRecord) (next : PastRecord)
-      → cost_from d opening state (records ++ next ∷ []) ≡ cost_from d opening state records + record_cost d opening (state_behind d opening state records) next
+      → cost_from d opening state (records ++ next ∷ []) ≡ cost_from d opening state records + record_cost d (state_behind d opening state records) next
   unfolding cost_from state_behind
   cost_next state [] next = omega arith
   cost_next state (first ∷ later) next = omega (arith, cost_next (state_after d opening state first) later next)
@@ -128,8 +128,8 @@ module _ (stand : RecordsStand) (d : Description) (opening : LeafTiles) (left le
       ap (λ (c : Description). record_text c session.opening session.state r) conf ∙ ap (λ (o : LeafTiles). record_text d o session.state r) going.opening_is ∙ ap (λ (s : PastState). record_text d opening s r) going.state in
       let after : state_after session.conf session.opening session.state r ≡ state_after d opening state r =
       ap (λ (c : Description). state_after c session.opening session.state r) conf ∙ ap (λ (o : LeafTiles). state_after d o session.state r) going.opening_is ∙ ap (λ (s : PastState). state_after d opening s r) going.state in
-      let costs : record_cost session.conf session.opening session.state r ≡ record_cost d opening state r =
-      ap (λ (c : Description). record_cost c session.opening session.state r) conf ∙ ap (λ (o : LeafTiles). record_cost d o session.state r) going.opening_is ∙ ap (λ (s : PastState). record_cost d opening s r) going.state in
+      let costs : record_cost session.conf session.state r ≡ record_cost d state r =
+      ap (λ (c : Description). record_cost c session.state r) conf ∙ ap (λ (s : PastState). record_cost d s r) going.state in
       let reads : ReadsRecord (room_of d) held held' left' left'' r = subst (λ (c : Description). ReadsRecord (room_of c) held held' left' left'' r) conf next.reads in
       let written : Appends sink'.held sink''.held (record_text d opening state r) = subst (Appends sink'.held sink''.held) text next.sends.written in
       record {

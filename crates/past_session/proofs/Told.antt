@@ -1,5 +1,5 @@
 -- A read is answered, by what a session keeps.
-use Rattle.std.proofs.Common.{◌≡◌, ◌≢◌, ℕ, ◌+◌, ◌≤◌, List, [], ◌∷◌, ◌++◌, length, slice_get, refl, sym, ap, ◌∙◌, subst, arith}
+use Rattle.std.proofs.Common.{◌≡◌, ◌≢◌, ℕ, ◌+◌, ◌≤◌, true, List, [], ◌∷◌, ◌++◌, length, slice_get, refl, sym, ap, ◌∙◌, subst, arith}
 use Rattle.std.specs.Prelude.{Contains, codes, decimal, Result, Ok, Err, OnOk, IfErr}
 use Rattle.std.specs.FinMap.{get}
 use Rattle.survey_conf.specs.Description.{Description}
@@ -87,12 +87,14 @@ module _ (d : Description) (journal : JournalContent) (past : PastContent) (k : 
       ap (kept_content d journal) same ∙ same_after d journal past k path (never refusal tells (λ is. wants_some u (wants is)))
   refused_then refusal past' (Err why) tells wants same = tt
 
-  module _ (law : MoreTouchedIsMoreWork) (steps steps' : ℕ) (most : steps' ≤ steps + past_work past.conf past.opening (edits_of journal.batches) past.held k) where
+  module _ (law : MoreTouchedIsMoreWork) (steps steps' : ℕ) (most : steps' ≤ steps + past_work past.conf past.opening past.opened (edits_of journal.batches) past.held k) where
     pub found_cost : Contains (ends journal.batches) k → steps' ≤ steps + answer_cost (kept_content d journal past) (read k path)
     found_cost there =
         let opening : past.opening ≡ journal.opening = sym kept.goes_on.opening in
-        let same : past_work past.conf past.opening (edits_of journal.batches) past.held k ≡ past_work d journal.opening (edits_of journal.batches) past.held k =
-        ap (λ (c : Description). past_work c past.opening (edits_of journal.batches) past.held k) kept.conf ∙ ap (λ (o : LeafTiles). past_work d o (edits_of journal.batches) past.held k) opening in
+        let same : past_work past.conf past.opening past.opened (edits_of journal.batches) past.held k ≡ past_work d journal.opening true (edits_of journal.batches) past.held k =
+        ap (λ (c : Description). past_work c past.opening past.opened (edits_of journal.batches) past.held k) kept.conf
+        ∙ ap (λ (o : LeafTiles). past_work d o past.opened (edits_of journal.batches) past.held k) opening
+        ∙ ap (λ b. past_work d journal.opening b (edits_of journal.batches) past.held k) kept.opened in
         let cost = read_cost law d journal.opening (record { batches = journal.batches; last = slice_get past.held 0 }) past.held k path refl there in
         omega (arith, most, same, cost)
 

@@ -5,7 +5,7 @@ use Rattle.edit_journal.specs.Leaves.{LeafTiles}
 use Rattle.edit_journal.specs.Batches.{edits_of}
 use Rattle.survey_core.specs.BatchBody.{batch_entries, tile_count}
 use Rattle.past_frame.specs.Record.{PastRecord, batch, read}
-use Rattle.past_reads.specs.Costs.{work_afresh}
+use Rattle.past_reads.specs.Costs.{work_between}
 use Rattle.past_session.specs.Answers.{PastState, first_state, is_end, state_after}
 
 abbrev pub is_last : Option ℕ → ℕ → Bool
@@ -13,14 +13,14 @@ is_last None k = false
 is_last (Some last) k = nat_eq last k
 
 -- one for each entry of a batch that has a tile; of a read by whose edits a file is looked for, and that has other edits than
--- the last such read, all tiles above the opening leaves and those above the leaves that its edits touched
-abbrev pub record_cost : Description → LeafTiles → PastState → PastRecord → ℕ
-record_cost d opening state (batch body) = tile_count (batch_entries d body)
-record_cost d opening state (read k path) = if is_end state.batches k && not (is_last state.last k) then work_afresh d opening (edits_of state.batches) k else 0
+-- the last such read, the tiles above the leaves that its edits touched
+abbrev pub record_cost : Description → PastState → PastRecord → ℕ
+record_cost d state (batch body) = tile_count (batch_entries d body)
+record_cost d state (read k path) = if is_end state.batches k && not (is_last state.last k) then work_between d (edits_of state.batches) 0 k else 0
 
 unfoldable pub cost_from : Description → LeafTiles → PastState → List PastRecord → ℕ
 cost_from d opening state [] = 0
-cost_from d opening state (first ∷ later) = record_cost d opening state first + cost_from d opening (state_after d opening state first) later
+cost_from d opening state (first ∷ later) = record_cost d state first + cost_from d opening (state_after d opening state first) later
 
 -- of records from the first on
 abbrev pub cost_of : Description → LeafTiles → List PastRecord → ℕ

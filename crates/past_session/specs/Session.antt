@@ -1,5 +1,5 @@
 -- A session between two records, as contracts see it, and what it is kept as.
-use Rattle.std.specs.Prelude.{◌≡◌, ℕ, ◌≤◌, List, slice_get}
+use Rattle.std.specs.Prelude.{◌≡◌, ℕ, ◌≤◌, true, List, slice_get}
 use Rattle.survey_conf.specs.Description.{Description}
 use Rattle.edit_journal.specs.Edit.{LeafEdit}
 use Rattle.edit_journal.specs.Leaves.{LeafTiles}
@@ -26,8 +26,9 @@ batch_accepted session verdict = record { conf = session.conf; opening = session
 abbrev pub kept_content : Description → JournalContent → PastContent → SessionContent
 kept_content d journal past = record { conf = d; opening = journal.opening; state = record { batches = journal.batches; last = slice_get past.held 0 } }
 
--- the cache is of the survey, has room, and knows the first batches of the journal
+-- the cache is of the survey, keeps the generation of its opening leaves, has room, and knows the first batches of the journal
 pub record IsKeptSession (d : Description) (journal : JournalContent) (past : PastContent) : Type 0 where
   pub conf : past.conf ≡ d
+  pub opened : past.opened ≡ true
   pub goes_on : GoesOnFrom past journal
   pub room : 1 ≤ past.room

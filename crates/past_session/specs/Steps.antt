@@ -23,7 +23,7 @@ abbrev pub answer_text : SessionContent → PastRecord → List ℕ
 answer_text session asked = record_text session.conf session.opening session.state asked
 
 abbrev pub answer_cost : SessionContent → PastRecord → ℕ
-answer_cost session asked = record_cost session.conf session.opening session.state asked
+answer_cost session asked = record_cost session.conf session.state asked
 
 -- the session after it
 abbrev pub session_after : SessionContent → PastRecord → SessionContent

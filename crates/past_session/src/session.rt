@@ -34,7 +34,8 @@ const MOST_RECORDS: u64 = 65_536;
 ///
 /// A batch is accepted, and told by the number of edits then, or refused as a whole. A read is answered with the file at the
 /// path of the survey after its first K edits. At most `cache` generations are held, from 1 to 8; besides them and the opening
-/// one nothing but the edits and one record. A read of as many edits as the last one takes no step.
+/// one nothing but the edits and one record. A read of as many edits as the last one takes no step, and none makes the opening
+/// generation again.
 ///
 /// It ends by the first of these in the input: `Done` between records, `Cut` within one, `BadLine` at one that has no line,
 /// `Spent` where it goes on after 65,536 records. `ReadFault` and `WriteFault` come only where the source's, the sink's count

@@ -4,7 +4,7 @@ ghost use Rattle.std.specs.Prelude.{◌≡◌};
 ghost use Rattle.std.specs.Arc.{arc_value};
 ghost use Rattle.past_reads.specs.Past.{GoesOnFrom};
 
-use crate::surveys::{journal, survey};
+use crate::surveys::{generation, journal, survey};
 use edit_journal::Journal;
 use generation::{Generation, Parts};
 use log::Log;
@@ -98,9 +98,7 @@ fn is_made<R: Threads + Sync>(
     count: usize,
     found: &Generation,
 ) -> Result<bool, Fail> {
-    let leaves = journal(alloc, conf, BATCHES, count)?.leaves().share()?;
-    let conf = conf.clone()?;
-    let made = Generation::start(rt, alloc, conf, leaves, &OpenGate::new(), &mut Steps::new())?;
+    let made = generation(rt, alloc, conf, BATCHES, count)?;
     are_same(alloc, &made, found)
 }
 

@@ -1,14 +1,17 @@
 //! Past states that are read in any order.
 ghost use Rattle.std.specs.Prelude.{◌≡◌, ◌≤◌, IfOk};
+ghost use Rattle.std.specs.Arc.{arc_value};
 ghost use Rattle.past_reads.specs.Past.{GoesOnFrom};
 
-use crate::surveys::{journal, survey};
+use crate::surveys::{generation, journal, journal_over, survey};
 use edit_journal::Journal;
+use generation::Generation;
 use log::Log;
 use parent_rule::Steps;
 use past_reads::{Past, PastRefusal};
 use std::alloc::{AllocError, Global};
 use std::process::Abort;
+use std::sync::Arc;
 use std::test::Fail;
 use std::thread::Threads;
 use std::time::Clock;
@@ -86,4 +89,86 @@ fn past_states_are_read_in_any_order(rt: HostRuntime) -> Result<(), Fail> {
     let journal = journal(alloc, &conf, BATCHES, 3)?;
     let mut past = Past::new(alloc, conf, &journal, 2)?;
     all_are_read(&rt, alloc, &mut past, &journal)
+}
+
+// A batch of the opening leaves, under the cells 0, 1 and 767 of order 3.
+static OPENING: &str =
+    "put 0 2888;%leaf 4 0 1 2 3 5%put 1 2888;%leaf 4 1 1 2 3 5%put 5 2888;%leaf 4 5 1 2 3 5%put 3071 2888;%leaf 4 3071 1 2 3 5%";
+
+// Batches of one, two and one edits of leaves under the cells 4, 0 and 767.
+static LATER: &str = "put 17 2888;%leaf 4 17 1 2 3 5%
+replace 0 2888;%leaf 4 0 2 2 2 2%remove 1;
+add 3070 2888;%leaf 4 3070 1 2 3 5%";
+
+// A prefix that is read, after those above it, where one is held; the steps where the opening generation is made anew, and where
+// it is kept. The opening leaves have three tiles above them.
+static STEPS: &str = "0 3 0
+4 3 3
+3 5 2
+1 4 1
+3 1 1
+3 0 0
+0 3 0
+1 1 1";
+
+// The number with that place in a row.
+fn number(row: &str, place: usize) -> Result<u64, Fail> {
+    Ok(row.split(' ').nth(place).unwrap_or("").parse::<u64>()?)
+}
+
+// The steps of reading a prefix.
+fn steps_of<R: Threads + Sync + Clock + Log>(
+    rt: &R,
+    past: &mut Past,
+    journal: &Journal,
+    k: u64,
+) -> Result<u64, Fail>
+    requires { GoesOnFrom past.old journal.now }
+    ensures { GoesOnFrom past.new journal.now }
+{
+    let mut steps = Steps::new();
+    let _found = past.at(rt, journal, u32::try_from(k)?, &OpenGate::new(), &mut steps)?;
+    Ok(steps.count())
+}
+
+// Each read of the table takes the steps that stand at that place.
+fn all_take<R: Threads + Sync + Clock + Log + Abort>(
+    rt: &R,
+    past: &mut Past,
+    journal: &Journal,
+    place: usize,
+) -> Result<(), Fail>
+    requires { GoesOnFrom past.old journal.now }
+{
+    for row in STEPS.lines() {
+        let steps = steps_of(rt, past, journal, number(row, 0)?)?;
+        assert!(rt; steps == number(row, place)?, "{row}: {steps}");
+    }
+    Ok(())
+}
+
+// The steps of both kinds are those of the table.
+fn both_take<R: Threads + Sync + Clock + Log + Abort>(
+    rt: &R,
+    alloc: Global,
+    opening: Arc<Generation>,
+    journal: &Journal,
+) -> Result<(), Fail>
+    requires first { (arc_value opening).prefix ≡ 0 }
+    requires shape { journal.now.shape ≡ (arc_value opening).conf.shape }
+    requires leaves { journal.now.opening ≡ (arc_value opening).leaves }
+{
+    let mut past = Past::new(alloc, opening.conf().clone()?, journal, 1)?;
+    all_take(rt, &mut past, journal, 1)?;
+    let mut past = Past::over(alloc, opening, journal, 1)?;
+    all_take(rt, &mut past, journal, 2)
+}
+
+#[test]
+fn an_opening_generation_that_is_kept_spares_steps(rt: HostRuntime) -> Result<(), Fail> {
+    let alloc = rt.alloc();
+    let conf = survey(alloc)?;
+    let opening = generation(&rt, alloc, &conf, OPENING, 1)?;
+    let journal = journal_over(alloc, &opening, LATER, 3)?;
+    both_take(&rt, alloc, Arc::new(alloc, opening)?, &journal)
 }

@@ -1,4 +1,5 @@
 use Rattle.std.proofs.Common.{◌≡◌, rules, nat_eq, Some, None}
+use Rattle.std.specs.Prelude.{is_some}
 use Rattle.std.specs.Arc.{arc_value}
 use Rattle.std.specs.Map.{lookup}
 use Rattle.past_reads.proofs.PastLemmas.{found_held, not_held}
@@ -14,4 +15,4 @@ returns-in-Some-clause-found g c =
 pub returns-in-None-clause-steps : goal.returns-in-None-clause-steps
 returns-in-None-clause-steps g c =
     let none : lookup (nat_eq c.args.k) c.self.inside.cache.entries ≡ None = search rules in
-    rw (not_held c.args.self.now (arc_value c.self.inside.conf) c.self.inside.journal c.self.inside.cache.entries c.self.inside.cache.cap c.args.k c.self.view_is none) c.make.ensures.steps
+    rw (not_held c.args.self.now (arc_value c.self.inside.conf) (is_some c.self.inside.opening) c.self.inside.journal c.self.inside.cache.entries c.self.inside.cache.cap c.args.k c.self.view_is none) c.make.ensures.steps
