@@ -42,7 +42,7 @@ changes_effect opening states asked p a answer (inr none) = wanting p a none.own
 effect : (conf : Description) (opening : LeafTiles) (states : List SurveyState) (request : Asking) (wanted : Call) (p a : Point) (answer : Answer)
     → Answers conf opening states request wanted p a answer → Effect p a
 effect conf opening states request (call.NotAllowed allow) p a answer is = quiet p a is.0.own is.0.wants
-effect conf opening states request call.File p a answer is = quiet p a is.kept.own is.kept.wants
+effect conf opening states request (call.File file) p a answer is = quiet p a is.kept.own is.kept.wants
 effect conf opening states request call.Pin p a answer is = quiet p a is.holds.own is.holds.wants
 effect conf opening states request call.Unpin p a answer is = quiet p a is.0.own is.0.wants
 effect conf opening states request call.Publish p a answer (inl r) = event p a r.step

@@ -2,6 +2,7 @@
 use Rattle.std.proofs.Common.{◌≡◌, ℕ, ◌+◌, ◌-◌, ◌<◌, ◌≤◌, List, length, Option, Some, None, refl, sym, ◌∙◌, arith}
 use Rattle.std.specs.Prelude.{slice_get, unwrap_or, option_map}
 use Rattle.std.specs.Option.{option_map_or}
+use Rattle.tile_path.specs.declared.path.Path.{Path}
 use Rattle.survey_conf.specs.Description.{Description}
 use Rattle.edit_journal.specs.Leaves.{LeafTiles}
 use Rattle.survey_core.specs.History.{SurveyState, IsHistory}
@@ -48,10 +49,10 @@ pub held_none : (board : BoardContent) (held : Option SurveyState) → None ≡ 
 held_none board None is = refl
 held_none board (Some s) is = absurd (cc)
 
-module _ (request : Asking) (path : Option (List ℕ)) (path_is : request.path ≡ path) (steps : ℕ) where
+module _ (request : Asking) (file : Option Path) (path : Option (List ℕ)) (path_is : request.path ≡ path) (steps : ℕ) where
   -- by the newest state, where none is held
   pub newest_serves : (old new : BoardContent) (state : StateContent) → Stays old new → old.held ≡ None → state ≡ state_in new (last_seen new)
-      → Serves request call.File old new steps steps (file_answer state.conf state.opening (survey_state state) path)
+      → Serves request (call.File file) old new steps steps (file_answer state.conf state.opening (survey_state state) path)
   newest_serves old new state stays none is = record {
     conf = stays.conf;
     opening = stays.opening;
@@ -82,7 +83,7 @@ module _ (request : Asking) (path : Option (List ℕ)) (path_is : request.path �
 
   -- by the state that is held
   pub held_serves : (board : BoardContent) (state : StateContent) → IsHistory board.opening board.history → IsOwned board → HoldsState board board.held state
-      → Serves request call.File board board steps steps (file_answer state.conf state.opening (survey_state state) path)
+      → Serves request (call.File file) board board steps steps (file_answer state.conf state.opening (survey_state state) path)
   held_serves board state legal owned holds = record {
     conf = refl;
     opening = refl;

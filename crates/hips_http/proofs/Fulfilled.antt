@@ -25,6 +25,7 @@ use Rattle.survey_core.specs.History.{SurveyState, edits_at}
 use Rattle.survey_core.specs.Reply.{file_at}
 use Rattle.hips_http.specs.declared.served.SessionEnd.{SessionEnd}
 use Rattle.hips_http.specs.declared.served.SessionEnd.TheVariants as end
+use Rattle.tile_path.specs.declared.path.Path.{Path}
 use Rattle.hips_http.specs.declared.call.PathKind.{PathKind}
 use Rattle.hips_http.specs.declared.call.Call.{Call}
 use Rattle.hips_http.specs.declared.call.Call.TheVariants as call
@@ -46,11 +47,11 @@ fulfilled_by : (wanted : Call) (answer other : Answer) → answer ≡ other → 
 fulfilled_by wanted answer other is fits = ap (λ (x : Answer). fulfils wanted x.code) is ∙ fits
 
 -- a file is found, or not
-file_fits : (conf : Description) (opening : LeafTiles) (state : SurveyState) (path : Option (List ℕ)) → fulfils call.File (file_answer conf opening state path).code ≡ true
-file_fits conf opening state None = refl
-file_fits conf opening state (Some path) = of_file (file_at conf opening state path)
+file_fits : (asked : Option Path) (conf : Description) (opening : LeafTiles) (state : SurveyState) (path : Option (List ℕ)) → fulfils (call.File asked) (file_answer conf opening state path).code ≡ true
+file_fits asked conf opening state None = refl
+file_fits asked conf opening state (Some path) = of_file (file_at conf opening state path)
   where
-    of_file : (file : Option (List ℕ)) → fulfils call.File (option_map_or (found_answer state.tip path) file (not_found state.tip)).code ≡ true
+    of_file : (file : Option (List ℕ)) → fulfils (call.File asked) (option_map_or (found_answer state.tip path) file (not_found state.tip)).code ≡ true
     of_file None = refl
     of_file (Some bytes) = refl
 
@@ -91,8 +92,8 @@ module _ (opening : LeafTiles) (states : List SurveyState) (p a : Point) (answer
   answer_fits : (conf : Description) (request : Asking) (wanted : Call) → IsSoundCall conf request.body wanted → IsAcceptedCall conf opening states request wanted p a
       → Answers conf opening states request wanted p a answer → fulfils wanted answer.code ≡ true
   answer_fits conf request (call.NotAllowed allow) sound accepts is = absurd sound
-  answer_fits conf request call.File sound accepts is =
-      fulfilled_by call.File answer (file_answer conf opening is.state request.path) is.told (file_fits conf opening is.state request.path)
+  answer_fits conf request (call.File file) sound accepts is =
+      fulfilled_by (call.File file) answer (file_answer conf opening is.state request.path) is.told (file_fits file conf opening is.state request.path)
   answer_fits conf request call.Pin sound accepts is = ap (λ (x : Answer). fulfils call.Pin x.code) is.told
   answer_fits conf request call.Unpin sound accepts is = ap (λ (x : Answer). fulfils call.Unpin x.code) is.1
   answer_fits conf request call.Publish sound accepts (inl r) = ap (λ (x : Answer). fulfils call.Publish x.code) r.told

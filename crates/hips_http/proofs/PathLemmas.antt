@@ -1,5 +1,6 @@
 -- Where a path is no file's, and which leaf a call has.
-use Rattle.std.proofs.Common.{◌≡◌, ◌⊎◌, inl, inr, ℕ, zero, suc, ◌+◌, ◌-◌, ◌≤◌, Bool, true, false, cond, map, filter, flat_map, List, [], ◌∷◌, ◌++◌, Option, None, refl, sym, ◌∙◌, subst, arith}
+use Rattle.std.proofs.Common.{◌≡◌, ◌⊎◌, inl, inr, ℕ, zero, suc, ◌+◌, ◌-◌, ◌≤◌, Bool, true, false, cond, map, filter, flat_map, List, [], ◌∷◌, ◌++◌, Option, Some, None, refl, sym, ap, ◌∙◌, subst, ◌<◌, arith}
+use Rattle.std.specs.Prelude.{◌≢◌, IfSome, IsNone}
 use Rattle.std.specs.List.{range_with_len}
 use Rattle.std.specs.Ordering.{nat_cmp, eq_by_cmp, is_eq}
 use Rattle.std.specs.Cmp.Lexicographic.{slice_cmp, nat_list_cmp_total}
@@ -9,17 +10,21 @@ use Rattle.std.specs.FinMap.{get, find, get-from_entries, slice_cmp-IsAntisymmet
 use Rattle.tile_path.specs.declared.path.Path.{Path}
 use Rattle.tile_path.specs.declared.path.Path.TheVariants.{Tile}
 use Rattle.tile_path.specs.Spelling.{IsPath, spelling}
-use Rattle.healpix_nested.specs.Cells.{cell_count}
+use Rattle.healpix_nested.specs.Cells.{NestedCell, cell_count}
 use Rattle.pyramid_model.specs.Shape.{PyramidShape, LeafMap}
 use Rattle.pyramid_model.specs.Tile.{exists}
 use Rattle.survey_conf.specs.Description.{Description}
 use Rattle.http_frame.specs.declared.request.Method.{Method}
 use Rattle.http_frame.specs.declared.request.Method.TheVariants.{Get, Head, Put, Delete, Post, Other}
-use Rattle.generation.specs.Files.{tile_paths, mosaic_paths, paths, file_of, files}
+use Rattle.generation.specs.Files.{tile_paths, mosaic_paths, paths, file_of, files, leaf_map}
 use Rattle.hips_http.specs.declared.call.PathKind.{PathKind}
 use Rattle.hips_http.specs.declared.call.PathKind.TheVariants as kind
-use Rattle.hips_http.specs.Paths.{IsOfKind, call_of}
-use Rattle.hips_http.specs.Progress.{HasLeaf}
+use Rattle.edit_journal.specs.Leaves.{LeafTiles}
+use Rattle.survey_core.specs.History.{SurveyState, leaves_at}
+use Rattle.survey_core.specs.Reply.{file_at}
+use Rattle.hips_http.specs.Paths.{IsPathOf, IsLeafPath, IsOfKind, call_of}
+use Rattle.hips_http.specs.Replies.{file_answer, not_found}
+use Rattle.hips_http.specs.Progress.{HasLeaf, HasFile}
 
 abbrev Among : Path → List Path → Type 0
 Among path [] = ⊥
@@ -44,9 +49,9 @@ other_key a b apart = elim (eq_by_cmp (slice_cmp nat_cmp) a b) as (λ t. eq_by_c
   | false ↦ λ e. refl
 ] refl
 
-not_found : (f : Path → List ℕ) (text : List ℕ) (ps : List Path) → ((other : Path) → Among other ps → spelling other ≡ text → ⊥) → find (slice_cmp nat_cmp) text (map (λ p. (spelling p, f p)) ps) ≡ None
-not_found f text [] apart = refl
-not_found f text (p ∷ ps) apart = rw (other_key text (spelling p) (λ e. apart p (inl refl) (sym e))) (not_found f text ps (λ other a. apart other (inr a)))
+none_found : (f : Path → List ℕ) (text : List ℕ) (ps : List Path) → ((other : Path) → Among other ps → spelling other ≡ text → ⊥) → find (slice_cmp nat_cmp) text (map (λ p. (spelling p, f p)) ps) ≡ None
+none_found f text [] apart = refl
+none_found f text (p ∷ ps) apart = rw (other_key text (spelling p) (λ e. apart p (inl refl) (sym e))) (none_found f text ps (λ other a. apart other (inr a)))
 
 -- the paths of tiles of one order, and of several
 selected_known : (order : ℕ) (t : ℕ → Bool) (a n : ℕ) (path : Path) → order ≤ 11 → a + n ≤ cell_count order
@@ -87,43 +92,64 @@ pub no_file : (d : Description) (leaves : LeafMap) (text : List ℕ) → d.shape
 unfolding files
 no_file d leaves text top low apart =
     get-from_entries nat_list_cmp_total (map (λ p. (spelling p, file_of d leaves p)) (paths d.shape leaves)) text
-    ∙ not_found (file_of d leaves) text (paths d.shape leaves) (λ other among. apart other (paths_known d.shape leaves other top low among))
+    ∙ none_found (file_of d leaves) text (paths d.shape leaves) (λ other among. apart other (paths_known d.shape leaves other top low among))
 
--- the leaf of a call is that of its path
-pub leaf_known : (top : ℕ) (path : Option (List ℕ)) (method : Method) (of_path : PathKind) → IsOfKind top path of_path → HasLeaf top (call_of method of_path)
-leaf_known top path Get (kind.Leaf leaf) is = tt
-leaf_known top path Head (kind.Leaf leaf) is = tt
-leaf_known top path Put (kind.Leaf leaf) is = is.tile.cell.in_order
-leaf_known top path Delete (kind.Leaf leaf) is = is.tile.cell.in_order
-leaf_known top path Post (kind.Leaf leaf) is = tt
-leaf_known top path Other (kind.Leaf leaf) is = tt
-leaf_known top path Get kind.Publish is = tt
-leaf_known top path Head kind.Publish is = tt
-leaf_known top path Put kind.Publish is = tt
-leaf_known top path Delete kind.Publish is = tt
-leaf_known top path Post kind.Publish is = tt
-leaf_known top path Other kind.Publish is = tt
-leaf_known top path Get kind.Pin is = tt
-leaf_known top path Head kind.Pin is = tt
-leaf_known top path Put kind.Pin is = tt
-leaf_known top path Delete kind.Pin is = tt
-leaf_known top path Post kind.Pin is = tt
-leaf_known top path Other kind.Pin is = tt
-leaf_known top path Get kind.Unpin is = tt
-leaf_known top path Head kind.Unpin is = tt
-leaf_known top path Put kind.Unpin is = tt
-leaf_known top path Delete kind.Unpin is = tt
-leaf_known top path Post kind.Unpin is = tt
-leaf_known top path Other kind.Unpin is = tt
-leaf_known top path Get kind.Batch is = tt
-leaf_known top path Head kind.Batch is = tt
-leaf_known top path Put kind.Batch is = tt
-leaf_known top path Delete kind.Batch is = tt
-leaf_known top path Post kind.Batch is = tt
-leaf_known top path Other kind.Batch is = tt
-leaf_known top path Get kind.Other is = tt
-leaf_known top path Head kind.Other is = tt
-leaf_known top path Put kind.Other is = tt
-leaf_known top path Delete kind.Other is = tt
-leaf_known top path Post kind.Other is = tt
-leaf_known top path Other kind.Other is = tt
+-- what a text names that was read as a path
+pub path_read : (text : List ℕ) (file : Option Path) → IfSome file IsPath → IfSome file (λ p. spelling p ≡ text) → (IsNone file → (p : Path) → IsPath p → spelling p ≢ text) → IsPathOf (Some text) file
+path_read text None known spelled none = λ p is. none refl p is.known (let e = is.spelled in cc)
+path_read text (Some p) known spelled none = record { known = known; spelled = ap (λ (t : List ℕ). Some t) (sym spelled) }
+
+pub no_leaf_path : (top : ℕ) (text : List ℕ) (file : Option Path) → ((p : Path) → IsPath p → spelling p ≡ text → file ≡ Some p)
+    → ((leaf : NestedCell) → leaf.order ≡ top → file ≡ Some (Tile leaf) → ⊥) → (leaf : NestedCell) → IsLeafPath top (Some text) leaf → ⊥
+no_leaf_path top text file inverse none leaf is = none leaf is.order_is (inverse (Tile leaf) is.tile.known (let e = is.tile.spelled in cc))
+
+-- where a path is no file's, it is answered that there is none
+pub none_answered : (conf : Description) (opening : LeafTiles) (state : SurveyState) (path : Option (List ℕ)) → conf.shape.top ≤ 11 → conf.shape.low ≤ 3 → IsPathOf path None
+    → file_answer conf opening state path ≡ not_found state.tip
+none_answered conf opening state None top low unknown = refl
+none_answered conf opening state (Some text) top low unknown =
+    let none : file_at conf opening state text ≡ None
+    = no_file conf (leaf_map (leaves_at opening state)) text top low (λ file known spelled. unknown file (record { known = known; spelled = ap (λ (t : List ℕ). Some t) (sym spelled) })) in
+    rw (none) refl
+
+leaf_within : (top : ℕ) (path : Option (List ℕ)) (leaf : NestedCell) → IsLeafPath top path leaf → leaf.npix < cell_count top
+leaf_within top path leaf is = subst (λ (order : ℕ). leaf.npix < cell_count order) is.order_is is.tile.known.cell.in_order
+
+-- the leaf of a call is that of its path, and so is its file
+pub call_known : (top : ℕ) (path : Option (List ℕ)) (method : Method) (of_path : PathKind) → IsOfKind top path of_path → HasLeaf top (call_of method of_path) × HasFile path (call_of method of_path)
+call_known top path Get (kind.Leaf leaf) is = (tt, is.tile)
+call_known top path Head (kind.Leaf leaf) is = (tt, is.tile)
+call_known top path Put (kind.Leaf leaf) is = (leaf_within top path leaf is, tt)
+call_known top path Delete (kind.Leaf leaf) is = (leaf_within top path leaf is, tt)
+call_known top path Post (kind.Leaf leaf) is = (tt, tt)
+call_known top path Other (kind.Leaf leaf) is = (tt, tt)
+call_known top path Get kind.Publish is = (tt, tt)
+call_known top path Head kind.Publish is = (tt, tt)
+call_known top path Put kind.Publish is = (tt, tt)
+call_known top path Delete kind.Publish is = (tt, tt)
+call_known top path Post kind.Publish is = (tt, tt)
+call_known top path Other kind.Publish is = (tt, tt)
+call_known top path Get kind.Pin is = (tt, tt)
+call_known top path Head kind.Pin is = (tt, tt)
+call_known top path Put kind.Pin is = (tt, tt)
+call_known top path Delete kind.Pin is = (tt, tt)
+call_known top path Post kind.Pin is = (tt, tt)
+call_known top path Other kind.Pin is = (tt, tt)
+call_known top path Get kind.Unpin is = (tt, tt)
+call_known top path Head kind.Unpin is = (tt, tt)
+call_known top path Put kind.Unpin is = (tt, tt)
+call_known top path Delete kind.Unpin is = (tt, tt)
+call_known top path Post kind.Unpin is = (tt, tt)
+call_known top path Other kind.Unpin is = (tt, tt)
+call_known top path Get kind.Batch is = (tt, tt)
+call_known top path Head kind.Batch is = (tt, tt)
+call_known top path Put kind.Batch is = (tt, tt)
+call_known top path Delete kind.Batch is = (tt, tt)
+call_known top path Post kind.Batch is = (tt, tt)
+call_known top path Other kind.Batch is = (tt, tt)
+call_known top path Get (kind.Other file) is = (tt, is.file_is)
+call_known top path Head (kind.Other file) is = (tt, is.file_is)
+call_known top path Put (kind.Other file) is = (tt, tt)
+call_known top path Delete (kind.Other file) is = (tt, tt)
+call_known top path Post (kind.Other file) is = (tt, tt)
+call_known top path Other (kind.Other file) is = (tt, tt)

@@ -46,7 +46,7 @@ module _ (conf : Description) (opening : LeafTiles) (states more : List SurveySt
   answers_more : (request : Asking) (wanted : Call) (before after : Point) (answer : Answer) → Answers conf opening states request wanted before after answer
       → Answers conf opening more request wanted before after answer
   answers_more request (call.NotAllowed allow) before after answer is = is
-  answers_more request call.File before after answer is = record {
+  answers_more request (call.File file) before after answer is = record {
     state = is.state;
     there = stays_there states more (unwrap_or before.held after.place) is.state begins is.there;
     told = is.told;
@@ -91,7 +91,7 @@ module _ (conf : Description) (opening : LeafTiles) (states more : List SurveySt
 
   cost_more : (request : Asking) (wanted : Call) (from to : ℕ) → from < length states → to < length states → cost_of conf more request wanted from to ≡ cost_of conf states request wanted from to
   cost_more request (call.NotAllowed allow) from to low high = refl
-  cost_more request call.File from to low high = refl
+  cost_more request (call.File file) from to low high = refl
   cost_more request call.Pin from to low high = refl
   cost_more request call.Unpin from to low high = refl
   cost_more request call.Publish from to low high = rw (same_there from low, same_there to high) refl

@@ -229,7 +229,7 @@ module _ (states later later' : List SurveyState) (p q : Point) (same : IsSame s
       pub answers_same : (conf : Description) (request : Asking) (wanted : Call) → Answers conf opening later request wanted p a answer → Answers conf opening later' request wanted q b answer'
           → ComesSame states later later' a b answer answer'
       answers_same conf request (call.NotAllowed allow) is is' = record { told = is'.1 ∙ sym is.1; point = keeps is.0.own is'.0.own is.0.held is'.0.held }
-      answers_same conf request call.File is is' =
+      answers_same conf request (call.File file) is is' =
           let at = kept_place is.kept.own in
           let places : unwrap_or q.held b.place ≡ unwrap_or p.held a.place = rw (same.held, kept_place' is'.kept.own, at) refl in
           let one : is'.state ≡ is.state = state_at (unwrap_or p.held a.place) (unwrap_or q.held b.place) is.state is'.state places (low p.held refl at) is.there is'.there in

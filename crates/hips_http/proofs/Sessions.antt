@@ -41,7 +41,7 @@ changes_own opening states asked before after answer (inr none) = omega (arith, 
 own_one : (conf : Description) (opening : LeafTiles) (states : List SurveyState) (request : Asking) (wanted : Call) (before after : Point) (answer : Answer)
     → Answers conf opening states request wanted before after answer → length after.own ≤ length before.own + 1
 own_one conf opening states request (call.NotAllowed allow) before after answer is = omega (arith, ap length is.0.own)
-own_one conf opening states request call.File before after answer is = omega (arith, ap length is.kept.own)
+own_one conf opening states request (call.File file) before after answer is = omega (arith, ap length is.kept.own)
 own_one conf opening states request call.Pin before after answer is = omega (arith, ap length is.holds.own)
 own_one conf opening states request call.Unpin before after answer is = omega (arith, ap length is.0.own)
 own_one conf opening states request call.Publish before after answer (inl p) = omega (arith, ap length p.step.own, length-append before.own (after.place ∷ []))

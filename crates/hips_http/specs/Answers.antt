@@ -170,7 +170,7 @@ pub record HasPublished (states : List SurveyState) (before after : Point) (answ
 -- what a call is answered
 abbrev pub Answers : Description → LeafTiles → List SurveyState → Asking → Call → Point → Point → Answer → Type 0
 Answers conf opening states request (call.NotAllowed allow) before after answer = Keeps before after × (answer ≡ not_allowed allow)
-Answers conf opening states request call.File before after answer = Reads conf opening states request.path before after answer
+Answers conf opening states request (call.File file) before after answer = Reads conf opening states request.path before after answer
 Answers conf opening states request call.Pin before after answer = Pins states before after answer
 Answers conf opening states request call.Unpin before after answer = Releases before after × (answer ≡ released)
 Answers conf opening states request call.Publish before after answer =

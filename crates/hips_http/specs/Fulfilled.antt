@@ -82,7 +82,7 @@ AreAccepted conf opening states count before (request ∷ requests) after (outpu
 -- the codes of the replies to a call that is fulfilled, and 503, want of memory, where it may want some; a file that isn't
 -- there is answered by 404
 abbrev pub fulfils : Call → ℕ → Bool
-fulfils call.File code = (code == 200) || (code == 404)
+fulfils (call.File file) code = (code == 200) || (code == 404)
 fulfils call.Pin code = code == 200
 fulfils call.Unpin code = code == 200
 fulfils call.Publish code = (code == 200) || (code == 503)

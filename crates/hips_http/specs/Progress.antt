@@ -4,6 +4,7 @@ use Rattle.std.specs.Prelude.{◌≡◌, ◌⊎◌, ℕ, ◌+◌, ◌<◌, ◌�
 use Rattle.std.specs.List.{concat}
 use Rattle.std.specs.Io.KnownBytes.{Appends}
 use Rattle.healpix_nested.specs.Cells.{cell_count}
+use Rattle.tile_path.specs.declared.path.Path.{Path}
 use Rattle.survey_link.specs.Link.{AppendsPrefix}
 use Rattle.survey_link.specs.declared.faults.Failed.{Failed}
 use Rattle.http_frame.specs.declared.request.Request.{Request}
@@ -20,7 +21,7 @@ use Rattle.hips_http.specs.declared.call.Call.{Call}
 use Rattle.hips_http.specs.declared.call.Call.TheVariants as call
 use Rattle.hips_http.specs.declared.served.SessionEnd.{SessionEnd}
 use Rattle.hips_http.specs.declared.served.SessionEnd.TheVariants.{Closed, Refused, Cut, ReadFault, WriteFault}
-use Rattle.hips_http.specs.Paths.{IsOfKind, call_of}
+use Rattle.hips_http.specs.Paths.{IsPathOf, IsOfKind, call_of}
 use Rattle.http_frame.specs.Next.{IsFound, IsWhole, IsRefusedNext}
 use Rattle.hips_http.specs.Replies.{Answer, head_of, sent_body, output_of, refusal_bytes}
 use Rattle.hips_http.specs.SessionRun.{closes, room_of, IsCutInput, AreRequests, AreAnswered, first_point}
@@ -71,9 +72,9 @@ pub record Sends (written written' : Option (List ℕ)) (bytes : List ℕ) (resu
   pub part : OnErr result (AppendsPrefix written written' bytes)
 
 -- a file, or that there is none, is answered and sent
-pub record Gives (request : Asking) (close : Bool) (old new : BoardContent) (steps : ℕ) (written written' : Option (List ℕ)) (result : Result (Unit {0}) Failed) : Type 0 where
+pub record Gives (request : Asking) (file : Option Path) (close : Bool) (old new : BoardContent) (steps : ℕ) (written written' : Option (List ℕ)) (result : Result (Unit {0}) Failed) : Type 0 where
   pub answer : Answer
-  pub serves : Serves request call.File old new steps steps answer
+  pub serves : Serves request (call.File file) old new steps steps answer
   pub finds : (answer.code == 503) ≡ false
   pub sends : Sends written written' (reply_bytes (head_of close answer) (sent_body request.asked.method answer.body)) result
 
@@ -92,9 +93,14 @@ HasLeaf top (call.Put leaf) = leaf < cell_count top
 HasLeaf top (call.Delete leaf) = leaf < cell_count top
 HasLeaf top _ = Unit {0}
 
+-- the file of a call is the one of its path
+abbrev pub HasFile : Option (List ℕ) → Call → Type 0
+HasFile path (call.File file) = IsPathOf path file
+HasFile path _ = Unit {0}
+
 -- the call is answered by a text, or without a body
 abbrev pub is_text : Call → Bool
-is_text call.File = false
+is_text (call.File file) = false
 is_text _ = true
 
 -- how a connection ends where no request follows

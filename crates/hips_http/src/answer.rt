@@ -104,7 +104,7 @@ fn answer<R: Threads + Sync + Clock + Log, B: ChangedWith<R>, G: Gate + Sync>(
         Call::Batch => batch(rt, alloc, board, body, steps),
         Call::Put(leaf) => put(rt, alloc, board, request, leaf, body, steps),
         Call::Delete(leaf) => delete(rt, board, request, leaf),
-        Call::File => unreachable!(),
+        Call::File(_) => unreachable!(),
     }
 }
 

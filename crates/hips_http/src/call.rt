@@ -1,7 +1,8 @@
 //! What a request asks for, by its method and its path.
-ghost use Rattle.std.specs.Prelude.{◌≡◌, ℕ, ◌≤◌, Some, IfSome, IsNone, option_copied};
+ghost use Rattle.std.specs.Prelude.{◌≡◌, Some, IfSome, IsNone, option_copied};
+ghost use Rattle.healpix_nested.specs.Cells.{NestedCell};
 ghost use Rattle.tile_path.specs.declared.path.Path.TheVariants.{Tile};
-ghost use Rattle.hips_http.specs.Paths.{IsLeafPath, IsOfKind, allowed, call_of};
+ghost use Rattle.hips_http.specs.Paths.{IsOfKind, allowed, call_of};
 
 use healpix_nested::Cell;
 use http_frame::{Allow, Method};
@@ -27,9 +28,9 @@ pub(crate) enum PathKind {
     /// `batch`: several edits at once.
     Batch,
     /// The tile of a leaf.
-    Leaf(u64),
-    /// Another file, or none.
-    Other,
+    Leaf(Cell),
+    /// Another file; `None` where a survey can have none there.
+    Other(Option<Path>),
 }
 
 /// What is asked for.
@@ -37,8 +38,8 @@ pub(crate) enum PathKind {
 pub(crate) enum Call {
     /// The method doesn't fit the path, which allows others.
     NotAllowed(Allow),
-    /// A file, or its head alone.
-    File,
+    /// A file, or its head alone; `None` where a survey can have none at the path.
+    File(Option<Path>),
     Publish,
     Pin,
     Unpin,
@@ -55,7 +56,7 @@ pub(crate) fn path_kind(path: Option<&[u8]>, top: u8) -> PathKind
 {
     match path {
         Some(text) => return text_kind(text, top),
-        None => return PathKind::Other,
+        None => return PathKind::Other(None),
     }
 }
 
@@ -75,41 +76,31 @@ fn text_kind(path: &[u8], top: u8) -> PathKind
     if path == BATCH {
         return PathKind::Batch;
     }
-    match leaf_number(path, top) {
+    let file = Path::read(path);
+    match leaf_of(&file, top) {
         Some(leaf) => PathKind::Leaf(leaf),
-        None => PathKind::Other,
+        None => PathKind::Other(file),
     }
 }
 
-// The number of the leaf whose tile has the path; `None` exactly where it is no leaf's.
-fn leaf_number(path: &[u8], top: u8) -> Option<u64>
-    ensures some { IfSome result (IsLeafPath top (Some path.now)) }
-    ensures none { IsNone result → (leaf : ℕ) → ¬ IsLeafPath top (Some path.now) leaf }
+// The leaf whose tile the file is; `None` exactly where it is no leaf's.
+fn leaf_of(file: &Option<Path>, top: u8) -> Option<Cell>
+    ensures some { IfSome result (λ leaf. (file.now ≡ Some (Tile leaf)) × (leaf.order ≡ top)) }
+    ensures none { IsNone result → (leaf : NestedCell) → leaf.order ≡ top → ¬ (file.now ≡ Some (Tile leaf)) }
 {
-    match Path::read(path) {
-        Some(found) => tile_number(&found, top),
-        None => None,
-    }
-}
-
-// The number of the tile at the path, where it is of that order.
-fn tile_number(path: &Path, order: u8) -> Option<u64>
-    ensures some { IfSome result (λ npix. path.now ≡ Tile (record { order = order; npix = npix })) }
-    ensures none { IsNone result → (npix : ℕ) → ¬ (path.now ≡ Tile (record { order = order; npix = npix })) }
-{
-    match path {
-        Path::Tile(cell) => number_at(*cell, order),
+    match file {
+        Some(Path::Tile(cell)) => of_order(*cell, top),
         _ => None,
     }
 }
 
-// The number of a cell of that order; `None` exactly where it is of another.
-fn number_at(cell: Cell, order: u8) -> Option<u64>
-    ensures some { IfSome result (λ npix. (cell.order ≡ order) × (cell.npix ≡ npix)) }
+// The cell, where it is of that order.
+fn of_order(cell: Cell, order: u8) -> Option<Cell>
+    ensures some { IfSome result (λ found. (found ≡ cell) × (cell.order ≡ order)) }
     ensures none { IsNone result → ¬ (cell.order ≡ order) }
 {
     if cell.order() == order {
-        Some(cell.npix())
+        Some(cell)
     } else {
         None
     }
@@ -124,9 +115,10 @@ pub(crate) fn call_of(method: Method, kind: PathKind) -> Call
         (Method::Post, PathKind::Pin) => Call::Pin,
         (Method::Post, PathKind::Unpin) => Call::Unpin,
         (Method::Post, PathKind::Batch) => Call::Batch,
-        (Method::Get | Method::Head, PathKind::Leaf(_) | PathKind::Other) => Call::File,
-        (Method::Put, PathKind::Leaf(leaf)) => Call::Put(leaf),
-        (Method::Delete, PathKind::Leaf(leaf)) => Call::Delete(leaf),
+        (Method::Get | Method::Head, PathKind::Leaf(leaf)) => Call::File(Some(Path::Tile(leaf))),
+        (Method::Get | Method::Head, PathKind::Other(file)) => Call::File(file),
+        (Method::Put, PathKind::Leaf(leaf)) => Call::Put(leaf.npix()),
+        (Method::Delete, PathKind::Leaf(leaf)) => Call::Delete(leaf.npix()),
         (_, kind) => Call::NotAllowed(allowed(kind)),
     }
 }
@@ -138,6 +130,6 @@ fn allowed(kind: PathKind) -> Allow
     match kind {
         PathKind::Publish | PathKind::Pin | PathKind::Unpin | PathKind::Batch => Allow::Control,
         PathKind::Leaf(_) => Allow::Leaf,
-        PathKind::Other => Allow::Other,
+        PathKind::Other(_) => Allow::Other,
     }
 }

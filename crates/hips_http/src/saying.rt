@@ -37,14 +37,14 @@ pub(crate) fn say_file<R: Clock + Log>(
     rt: &R,
     watch: Stopwatch,
     method: Method,
-    path: &[u8],
+    path: Option<&[u8]>,
     length: u64,
 ) {
     say(
         rt,
         watch,
         name(method),
-        Some(path),
+        path,
         200,
         sent(method, length),
         b"",

@@ -3,6 +3,7 @@ ghost use Rattle.std.specs.Prelude.{◌≡◌, ◌≤◌, ◌++◌, ◌+◌, ◌
 ghost use Rattle.std.specs.Io.KnownBytes.{Appends};
 ghost use Rattle.survey_link.specs.Link.{AppendsPrefix, Rises};
 ghost use Rattle.http_frame.specs.Reply.{is_reply_code, reply_bytes};
+ghost use Rattle.tile_path.specs.Spelling.{spelling};
 ghost use Rattle.hips_http.specs.Replies.{head_of, sent_body, refusal_bytes, file_kind, found_answer};
 
 use crate::reply::TextReply;
@@ -11,31 +12,39 @@ use http_frame::{Allow, Kind, Method, Number, Reply, write_reply, write_reply_pa
 use log::Log;
 use std::time::Clock;
 use survey_link::{Failed, Sink};
+use tile_path::Path;
 
-/// Writes a reply to the request of a path, and says it; to HEAD its head alone. `close` is whether the connection is closed
-/// after it.
+/// A request whose reply is due.
+#[derive(Clone, Copy)]
+pub(crate) struct Due<'a> {
+    /// Since when it is answered.
+    pub(crate) watch: Stopwatch,
+    pub(crate) method: Method,
+    pub(crate) path: Option<&'a [u8]>,
+    /// Whether the connection is closed after the reply.
+    pub(crate) close: bool,
+}
+
+/// Writes a reply to a request, and says it; to HEAD its head alone.
 ///
 /// # Errors
 ///
 /// `Failed` only where the sink's count of faults rose; some first bytes may have been written.
 pub(crate) fn send_text<R: Clock + Log, K: Sink>(
     rt: &R,
-    watch: Stopwatch,
     sink: &mut K,
-    method: Method,
-    path: Option<&[u8]>,
-    close: bool,
+    due: Due<'_>,
     reply: &TextReply,
 ) -> Result<(), Failed>
-    ensures whole { OnOk result (Appends (K.held sink.old) (K.held sink.new) (reply_bytes (head_of close reply.now) (sent_body method reply.now.body))) }
-    ensures part { OnErr result (AppendsPrefix (K.held sink.old) (K.held sink.new) (reply_bytes (head_of close reply.now) (sent_body method reply.now.body))) }
+    ensures whole { OnOk result (Appends (K.held sink.old) (K.held sink.new) (reply_bytes (head_of due.entry.close reply.now) (sent_body due.entry.method reply.now.body))) }
+    ensures part { OnErr result (AppendsPrefix (K.held sink.old) (K.held sink.new) (reply_bytes (head_of due.entry.close reply.now) (sent_body due.entry.method reply.now.body))) }
     ensures handed_on { OnOk result (K.handed_on sink.new ≡ K.held sink.new) }
     ensures stays { OnErr result (K.handed_on sink.new ≡ K.handed_on sink.old) }
     ensures failed { OnErr result (Rises (K.faults sink.old) (K.faults sink.new)) }
     ensures never_falls { K.faults sink.old ≤ K.faults sink.new }
 {
-    let sent = write_text(sink, method, close, reply);
-    say_text(rt, watch, method, path, reply);
+    let sent = write_text(sink, due.method, due.close, reply);
+    say_text(rt, due.watch, due.method, due.path, reply);
     sent
 }
 
@@ -76,27 +85,25 @@ fn write_text<K: Sink>(
 /// `Failed` only where the sink's count of faults rose; some first bytes may have been written.
 pub(crate) fn send_file<'a, R: Clock + Log, K: Sink>(
     rt: &R,
-    watch: Stopwatch,
     sink: &mut K,
-    method: Method,
-    close: bool,
+    due: Due<'_>,
     tip: u32,
-    path: &[u8],
+    file: &Path,
     front: &'a [u8],
     kept: &'a [u8],
     zeros: &'a [u8],
 ) -> Result<(), Failed>
     requires short { length front.now + length kept.now + length zeros.now < 2 ^ 64 }
-    ensures whole { OnOk result (Appends (K.held sink.old) (K.held sink.new) (reply_bytes (head_of close (found_answer tip path.now (front.now ++ kept.now ++ zeros.now))) (sent_body method (front.now ++ kept.now ++ zeros.now)))) }
-    ensures part { OnErr result (AppendsPrefix (K.held sink.old) (K.held sink.new) (reply_bytes (head_of close (found_answer tip path.now (front.now ++ kept.now ++ zeros.now))) (sent_body method (front.now ++ kept.now ++ zeros.now)))) }
+    ensures whole { OnOk result (Appends (K.held sink.old) (K.held sink.new) (reply_bytes (head_of due.entry.close (found_answer tip (spelling file.now) (front.now ++ kept.now ++ zeros.now))) (sent_body due.entry.method (front.now ++ kept.now ++ zeros.now)))) }
+    ensures part { OnErr result (AppendsPrefix (K.held sink.old) (K.held sink.new) (reply_bytes (head_of due.entry.close (found_answer tip (spelling file.now) (front.now ++ kept.now ++ zeros.now))) (sent_body due.entry.method (front.now ++ kept.now ++ zeros.now)))) }
     ensures handed_on { OnOk result (K.handed_on sink.new ≡ K.held sink.new) }
     ensures stays { OnErr result (K.handed_on sink.new ≡ K.handed_on sink.old) }
     ensures failed { OnErr result (Rises (K.faults sink.old) (K.faults sink.new)) }
     ensures never_falls { K.faults sink.old ≤ K.faults sink.new }
 {
     let length = front.len() as u64 + kept.len() as u64 + zeros.len() as u64;
-    let sent = write_file(sink, method, close, tip, path, front, kept, zeros);
-    say_file(rt, watch, method, path, length);
+    let sent = write_file(sink, due.method, due.close, tip, file, front, kept, zeros);
+    say_file(rt, due.watch, due.method, due.path, length);
     sent
 }
 
@@ -106,14 +113,14 @@ fn write_file<'a, K: Sink>(
     method: Method,
     close: bool,
     tip: u32,
-    path: &[u8],
+    file: &Path,
     front: &'a [u8],
     kept: &'a [u8],
     zeros: &'a [u8],
 ) -> Result<(), Failed>
     requires short { length front.now + length kept.now + length zeros.now < 2 ^ 64 }
-    ensures whole { OnOk result (Appends (K.held sink.old) (K.held sink.new) (reply_bytes (head_of close (found_answer tip path.now (front.now ++ kept.now ++ zeros.now))) (sent_body method (front.now ++ kept.now ++ zeros.now)))) }
-    ensures part { OnErr result (AppendsPrefix (K.held sink.old) (K.held sink.new) (reply_bytes (head_of close (found_answer tip path.now (front.now ++ kept.now ++ zeros.now))) (sent_body method (front.now ++ kept.now ++ zeros.now)))) }
+    ensures whole { OnOk result (Appends (K.held sink.old) (K.held sink.new) (reply_bytes (head_of close (found_answer tip (spelling file.now) (front.now ++ kept.now ++ zeros.now))) (sent_body method (front.now ++ kept.now ++ zeros.now)))) }
+    ensures part { OnErr result (AppendsPrefix (K.held sink.old) (K.held sink.new) (reply_bytes (head_of close (found_answer tip (spelling file.now) (front.now ++ kept.now ++ zeros.now))) (sent_body method (front.now ++ kept.now ++ zeros.now)))) }
     ensures handed_on { OnOk result (K.handed_on sink.new ≡ K.held sink.new) }
     ensures stays { OnErr result (K.handed_on sink.new ≡ K.handed_on sink.old) }
     ensures failed { OnErr result (Rises (K.faults sink.old) (K.faults sink.new)) }
@@ -122,7 +129,7 @@ fn write_file<'a, K: Sink>(
     let head = Reply {
         code: 200,
         allow: Allow::Absent,
-        kind: file_kind(path),
+        kind: file_kind(file),
         number: Number::Prefix(tip),
         length: front.len() as u64 + kept.len() as u64 + zeros.len() as u64,
         close,
@@ -135,13 +142,12 @@ fn write_file<'a, K: Sink>(
 }
 
 // The properties are a text, each other file is a FITS file.
-fn file_kind(path: &[u8]) -> Kind
-    ensures { result ≡ file_kind path.now }
+fn file_kind(file: &Path) -> Kind
+    ensures { result ≡ file_kind (spelling file.now) }
 {
-    if path == b"properties".as_slice() {
-        Kind::Text
-    } else {
-        Kind::Fits
+    match file {
+        Path::Properties => Kind::Text,
+        _ => Kind::Fits,
     }
 }
 

@@ -11,7 +11,8 @@ ghost use Rattle.http_frame.specs.declared.stop.Stop.TheVariants as Stopped;
 ghost use Rattle.http_frame.specs.Reply.{is_reply_code, continue_bytes};
 ghost use Rattle.hips_http.specs.declared.served.SessionEnd.TheVariants.{ReadFault, WriteFault, OutOfMemory};
 ghost use Rattle.hips_http.specs.Replies.{Answer, leave_bytes};
-ghost use Rattle.hips_http.specs.Progress.{ReadsCall, HasLeaf, EndsAt, is_text, Replied, reply_of, body_end, Halts, wants_after, IsServedOne, StopsOne, LeavesPart};
+ghost use Rattle.hips_http.specs.Paths.{IsPathOf};
+ghost use Rattle.hips_http.specs.Progress.{ReadsCall, HasLeaf, HasFile, EndsAt, is_text, Replied, reply_of, body_end, Halts, wants_after, IsServedOne, StopsOne, LeavesPart};
 ghost use Rattle.hips_http.specs.SessionRun.{HandsOn, HandsOnAll, room_of, most_requests};
 ghost use Rattle.hips_http.specs.Readings.{NeedsRest, HoldsBehind};
 
@@ -20,7 +21,7 @@ use crate::call::{Call, call_of, path_kind};
 use crate::file::give_file;
 use crate::reply::TextReply;
 use crate::saying::Stopwatch;
-use crate::send::{send_refusal, send_text};
+use crate::send::{Due, send_refusal, send_text};
 use crate::served::SessionEnd;
 use http_frame::{Frame, Request, Stop, write_continue};
 use log::Log;
@@ -30,6 +31,7 @@ use std::alloc::Global;
 use std::thread::Threads;
 use std::time::Clock;
 use survey_link::{Failed, Gate, Sink, Source};
+use tile_path::Path;
 
 /// The most requests of a connection.
 pub(crate) const MOST_REQUESTS: u32 = 65_536;
@@ -49,6 +51,7 @@ pub(crate) fn next_call<S: Source>(
     ensures needed { (came : List ℕ) × ReadsWhile S.left S.readings NeedsMore frame.old.held src.old src.new came
         × IfOk result (λ next. IsFound frame.old.room (frame.old.held ++ came) next.0 frame.new.path frame.new.held) }
     ensures leaf { IfOk result (λ next. HasLeaf top next.1) }
+    ensures file { IfOk result (λ next. HasFile frame.new.path next.1) }
     ensures never_falls { S.faults src.old ≤ S.faults src.new }
     ensures room { frame.new.room ≡ frame.old.room }
 {
@@ -137,12 +140,14 @@ pub(crate) fn serve_file<R: Clock + Log, B: Board, S: Source, K: Sink>(
     src: &mut S,
     sink: &mut K,
     request: &Request,
+    file: Option<Path>,
     close: bool,
 ) -> Result<(), SessionEnd>
     requires turn { frame.old.turn ≡ AtBody request.now.length }
-    ensures ok { (steps wants : ℕ) → OnOk result ((answer : Answer) × Replied request.now call.File frame.old frame.new (S.left src.old) (S.left src.new) (B.content board.old) (B.content board.new) steps steps wants wants answer
+    requires file { IsPathOf frame.old.path file }
+    ensures ok { (steps wants : ℕ) → OnOk result ((answer : Answer) × Replied request.now (call.File file) frame.old frame.new (S.left src.old) (S.left src.new) (B.content board.old) (B.content board.new) steps steps wants wants answer
         × Appends (K.held sink.old) (K.held sink.new) (reply_of close request.now answer)) }
-    ensures broken { (steps wants : ℕ) → result ≡ Err WriteFault → (answer : Answer) × Replied request.now call.File frame.old frame.new (S.left src.old) (S.left src.new) (B.content board.old) (B.content board.new) steps steps wants wants answer
+    ensures broken { (steps wants : ℕ) → result ≡ Err WriteFault → (answer : Answer) × Replied request.now (call.File file) frame.old frame.new (S.left src.old) (S.left src.new) (B.content board.old) (B.content board.new) steps steps wants wants answer
         × AppendsPrefix (K.held sink.old) (K.held sink.new) (reply_of close request.now answer) }
     ensures halted { (steps wants : ℕ) → IfErr result (λ end. ¬ (end ≡ WriteFault) → Halts request.now frame.old frame.new (S.left src.old) (S.left src.new) (S.faults src.old) (S.faults src.new)
         (B.content board.old) (B.content board.new) steps steps wants wants (K.held sink.old) (K.held sink.new) end) }
@@ -161,7 +166,13 @@ pub(crate) fn serve_file<R: Clock + Log, B: Board, S: Source, K: Sink>(
         Ok(()) => {}
         Err(stop) => return Err(body_end(stop)),
     }
-    match give_file(rt, watch, sink, board, request.method, close, frame.path()) {
+    let due = Due {
+        watch,
+        method: request.method,
+        path: frame.path(),
+        close,
+    };
+    match give_file(rt, sink, board, due, file) {
         Ok(()) => return Ok(()),
         Err(_) => return Err(SessionEnd::WriteFault),
     }
@@ -220,7 +231,13 @@ pub(crate) fn serve_text<
         Err(stop) => return Err(body_end(stop)),
     };
     count_want(wants, &reply);
-    match send_text(rt, watch, sink, request.method, frame.path(), close, &reply) {
+    let due = Due {
+        watch,
+        method: request.method,
+        path: frame.path(),
+        close,
+    };
+    match send_text(rt, sink, due, &reply) {
         Ok(()) => return Ok(()),
         Err(_) => return Err(SessionEnd::WriteFault),
     }
@@ -253,6 +270,7 @@ fn serve_call<
 ) -> Result<(), SessionEnd>
     requires turn { frame.old.turn ≡ AtBody request.now.length }
     requires leaf { HasLeaf (B.content board.old).conf.shape.top call }
+    requires file { HasFile frame.old.path call }
     requires few { wants.old < 65536 }
     ensures ok { OnOk result ((answer : Answer) × Replied request.now call frame.old frame.new (S.left src.old) (S.left src.new) (B.content board.old) (B.content board.new) steps.old steps.new wants.old wants.new answer
         × Appends (K.held sink.old) (K.held sink.new) (reply_of close request.now answer)) }
@@ -272,10 +290,10 @@ fn serve_call<
     ensures wants { wants.new ≤ wants.old + 1 }
     ensures room { frame.new.room ≡ frame.old.room }
 {
-    if let Call::File = call {
+    if let Call::File(file) = call {
         let _wants = *wants;
         let _steps = steps.count();
-        return serve_file(rt, frame, board, src, sink, request, close);
+        return serve_file(rt, frame, board, src, sink, request, file, close);
     }
     serve_text(
         rt, alloc, frame, board, src, sink, gate, steps, request, call, close, wants,

@@ -8,9 +8,9 @@ pub returns-in-Some-clause-gives : goal.returns-in-Some-clause-gives
 returns-in-Some-clause-gives g c = λ request steps path method.
     let state = c.in-Some.state.now in
     record {
-      answer = file_answer state.conf state.opening (survey_state state) (option_copied c.args.path);
-      serves = held_serves request (option_copied c.args.path) path steps _ state c.last-legal.ensures.legal c.last-legal.ensures.owned (held_known _ _ state c.in-Some.ensures);
-      finds = file_found state.conf state.opening (survey_state state) (option_copied c.args.path);
+      answer = file_answer state.conf state.opening (survey_state state) (option_copied c.args.due.path);
+      serves = held_serves request c.args.file (option_copied c.args.due.path) path steps _ state c.last-legal.ensures.legal c.last-legal.ensures.owned (held_known _ _ state c.in-Some.ensures);
+      finds = file_found state.conf state.opening (survey_state state) (option_copied c.args.due.path);
       sends = record { whole = rw method c.send_path.ensures.whole; part = rw method c.send_path.ensures.part };
     }
 

@@ -8,8 +8,8 @@ pub returns-clause-gives : goal.returns-clause-gives
 returns-clause-gives g c = λ request steps none path method.
     let state = c.last.result.now in
     record {
-      answer = file_answer state.conf state.opening (survey_state state) (option_copied c.args.path);
-      serves = newest_serves request (option_copied c.args.path) path steps _ _ state c.pin.ensures none c.last.ensures.last;
-      finds = file_found state.conf state.opening (survey_state state) (option_copied c.args.path);
+      answer = file_answer state.conf state.opening (survey_state state) (option_copied c.args.due.path);
+      serves = newest_serves request c.args.file (option_copied c.args.due.path) path steps _ _ state c.pin.ensures none c.last.ensures.last;
+      finds = file_found state.conf state.opening (survey_state state) (option_copied c.args.due.path);
       sends = record { whole = rw method c.send_path.ensures.whole; part = rw method c.send_path.ensures.part };
     }

@@ -1,5 +1,13 @@
-use Rattle.hips_http.proofs.PathLemmas.{leaf_known}
+use Rattle.std.proofs.Common.{ℕ, List, Option, subst}
+use Rattle.hips_http.specs.Paths.{call_of}
+use Rattle.hips_http.specs.Progress.{HasFile}
+use Rattle.hips_http.proofs.PathLemmas.{call_known}
 use Rattle.hips_http.proofs.step.next_call.Goals as goal
 
 pub returns-in-Ok-clause-leaf : goal.returns-in-Ok-clause-leaf
-returns-in-Ok-clause-leaf g c = rw c.call_of.ensures (leaf_known c.args.top _ c.in-Ok.request.method c.path_kind-kind.result c.path_kind-kind.ensures)
+returns-in-Ok-clause-leaf g c = rw c.call_of.ensures (call_known c.args.top _ c.in-Ok.request.method c.path_kind-kind.result c.path_kind-kind.ensures).0
+
+pub returns-in-Ok-clause-file : goal.returns-in-Ok-clause-file
+returns-in-Ok-clause-file g c =
+    rw c.call_of.ensures (subst (λ (path : Option (List ℕ)). HasFile path (call_of c.in-Ok.request.method c.path_kind-kind.result)) c.path.ensures
+    (call_known c.args.top _ c.in-Ok.request.method c.path_kind-kind.result c.path_kind-kind.ensures).1)
