@@ -90,7 +90,7 @@ pub fn serve_place<
     ensures steps_never_fall { steps.old ≤ steps.new }
 {
     let _legal = board.last();
-    let mut frame = frame_for(alloc, board);
+    let mut frame: Option<Frame> = None;
     let mut wanted = false;
     for count in 0..most {
         let name = ConnectionName {

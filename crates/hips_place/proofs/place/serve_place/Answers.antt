@@ -1,4 +1,4 @@
-use Rattle.std.proofs.Common.{◌≡◌, inl, inr, [], ◌∷◌, ◌++◌, Err, refl, sym, ap, ◌∙◌, arith}
+use Rattle.std.proofs.Common.{◌≡◌, inl, inr, [], ◌∷◌, ◌++◌, None, Err, refl, sym, ap, ◌∙◌, arith}
 use Rattle.hips_place.specs.Place.{counts_of}
 use Rattle.hips_place.proofs.PlaceLemmas.{begins_place, one_more, goes_first, goes_more, goes_most, goes_as, place_of, place_as, place_refused, done_wants, wanting_wants, ends_sound, ends_refused}
 use Rattle.hips_place.proofs.place.serve_place.Goals as goal
@@ -11,9 +11,9 @@ loop-count-init g c = (
     no_faults = refl;
     no_wants = refl;
     steps_never_fall = omega arith;
-    so_far = λ _. begins_place (g.B.Board.content c.args.board.now) (g.D.Door.connections c.args.door.now) c.frame_for-frame.result;
+    so_far = λ _. begins_place (g.B.Board.content c.args.board.now) (g.D.Door.connections c.args.door.now) None;
   },
-  c.frame_for-frame.ensures,
+  tt,
 )
 
 pub loop-count-preserved : goal.loop-count-preserved
