@@ -1,5 +1,5 @@
 -- A list that is one list, an item and another list: what is found in it, put in and taken out.
-use Rattle.std.proofs.Common.{◌≡◌, ℕ, zero, suc, ◌+◌, ◌-◌, ◌<◌, ◌≤◌, Bool, true, false, cond, List, [], ◌∷◌, ◌++◌, length, refl, sym, ap, ◌∙◌, subst, arith, length-append, ◌⊎◌, inl, inr}
+use Rattle.std.proofs.Common.{◌≡◌, ℕ, zero, suc, ◌+◌, ◌-◌, ◌<◌, ◌≤◌, Bool, true, false, cond, List, [], ◌∷◌, ◌++◌, length, refl, sym, ap, ◌∙◌, subst, arith, ◌⊎◌, inl, inr}
 use Rattle.std.specs.Prelude.{slice_set, slice_index_or, slice_get, Option, Some, None}
 use Rattle.std.specs.List.{AllByRecursion as All, insert, remove}
 use Rattle.balanced_list.specs.Search.{leading, HoldsAtFirst}
@@ -127,14 +127,6 @@ leading_on test (a ∷ l) r x h t = elim (either (test a)) [
 pub leading_off : {T : Type 0} (test : T → Bool) (l r : List T) (x : T) → test x ≡ false → leading test (l ++ x ∷ r) ≡ leading test l
 leading_off test [] r x f = rw f refl
 leading_off test (a ∷ l) r x f = ap (λ n. cond (test a) (n + 1) 0) (leading_off test l r x f)
-
--- how many items there are up to the item, where all and those after it are counted
-pub counted_to : {T : Type 0} (items l r later : List T) (x : T) (count after : ℕ) → items ≡ l ++ x ∷ r → later ≡ r → count ≡ length items → after ≡ length later →
-    count - after ≡ length l + 1
-counted_to items l r later x count after e er c a =
-    let n : length items ≡ length l + suc (length r) = ap length e ∙ length-append l (x ∷ r) in
-    let m : length later ≡ length r = ap length er in
-    omega (arith, n, m, c, a)
 
 -- the search goes on past the item
 pub place_on : {T : Type 0} (test : T → Bool) (items l r later : List T) (x item : T) (before p : ℕ) → items ≡ l ++ x ∷ r → later ≡ r →

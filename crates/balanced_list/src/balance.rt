@@ -1,7 +1,7 @@
 //! The nodes of the tree, and how they are kept in balance: the weight of a side, one more than its items, is at most three
 //! times that of the other side.
 ghost use Rattle.std.specs.Prelude.{◌≡◌, ℕ, ◌+◌, ◌<◌, ◌≤◌, ◌^◌, [], ◌∷◌, ◌++◌, length};
-ghost use Rattle.balanced_list.specs.Tree.{node_items, CountsItems, tree_items, IsCounted};
+ghost use Rattle.balanced_list.specs.Tree.{node_items, tree_items};
 
 use crate::list::BalancedList;
 use std::mem;
@@ -20,33 +20,20 @@ pub(crate) enum Tree<T> {
 pub(crate) struct Fork<T> {
     pub(crate) left: BalancedList<T>,
     pub(crate) item: T,
-    // How many items the node has in all.
-    pub(crate) len: usize,
     pub(crate) right: BalancedList<T>,
-}
-
-// The node with its count.
-fn counted<T: Drop>(mut node: Box<Fork<T>>) -> Box<Fork<T>>
-    requires fits { length (node_items node.value) < 2 ^ 64 }
-    ensures items { node_items result.value ≡ node_items node.value }
-    ensures counted { CountsItems result.value }
-{
-    node.len = node.left.len() + 1 + node.right.len();
-    node
 }
 
 // Puts the top of the left side above the node.
 fn raise_left<T: Drop>(mut node: Box<Fork<T>>) -> Box<Fork<T>>
     requires fits { length (node_items node.value) < 2 ^ 64 }
     ensures items { node_items result.value ≡ node_items node.value }
-    ensures counted { CountsItems result.value }
 {
     match mem::replace(&mut node.left, BalancedList::new()).opened() {
-        Tree::Empty => counted(node),
+        Tree::Empty => node,
         Tree::Fork(mut top) => {
             node.left = mem::replace(&mut top.right, BalancedList::new());
-            top.right = BalancedList::closed(counted(node));
-            counted(top)
+            top.right = BalancedList::closed(node);
+            top
         }
     }
 }
@@ -55,14 +42,13 @@ fn raise_left<T: Drop>(mut node: Box<Fork<T>>) -> Box<Fork<T>>
 fn raise_right<T: Drop>(mut node: Box<Fork<T>>) -> Box<Fork<T>>
     requires fits { length (node_items node.value) < 2 ^ 64 }
     ensures items { node_items result.value ≡ node_items node.value }
-    ensures counted { CountsItems result.value }
 {
     match mem::replace(&mut node.right, BalancedList::new()).opened() {
-        Tree::Empty => counted(node),
+        Tree::Empty => node,
         Tree::Fork(mut top) => {
             node.right = mem::replace(&mut top.left, BalancedList::new());
-            top.left = BalancedList::closed(counted(node));
-            counted(top)
+            top.left = BalancedList::closed(node);
+            top
         }
     }
 }
@@ -113,7 +99,6 @@ fn ready_right<T: Drop>(side: BalancedList<T>) -> BalancedList<T>
 pub(crate) fn balanced<T: Drop>(mut node: Box<Fork<T>>) -> Box<Fork<T>>
     requires fits { length (node_items node.value) < 2 ^ 64 }
     ensures items { node_items result.value ≡ node_items node.value }
-    ensures counted { CountsItems result.value }
 {
     let left = node.left.len();
     let right = node.right.len();
@@ -124,6 +109,6 @@ pub(crate) fn balanced<T: Drop>(mut node: Box<Fork<T>>) -> Box<Fork<T>>
         node.right = ready_right(mem::replace(&mut node.right, BalancedList::new()));
         raise_right(node)
     } else {
-        counted(node)
+        node
     }
 }

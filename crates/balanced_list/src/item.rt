@@ -32,12 +32,11 @@ impl<T> Item<T> {
     }
 
     /// The item of a node whose sides were taken out.
-    pub(crate) fn alone(mut node: Box<Fork<T>>) -> Item<T>
+    pub(crate) fn alone(node: Box<Fork<T>>) -> Item<T>
         requires before { node.value.left ≡ [] }
         requires after { node.value.right ≡ [] }
         ensures { result ≡ node.value.item }
     {
-        node.len = 1;
         Item { node }
     }
 
@@ -64,7 +63,6 @@ impl<T: Drop> Item<T> {
             Fork {
                 left: BalancedList::new(),
                 item,
-                len: 1,
                 right: BalancedList::new(),
             },
         )?;

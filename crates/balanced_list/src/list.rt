@@ -1,8 +1,8 @@
-//! The list, as a tree whose nodes count what is below them.
+//! The list, as a tree each of whose nodes knows how many items its two sides have.
 ghost use Rattle.std.specs.Prelude.{◌≡◌, ℕ, ◌+◌, ◌<◌, ◌≤◌, ◌^◌, [], ◌∷◌, ◌++◌, length, option_copied, option_to_list, slice_get, slice_set, slice_index_or, map, IfNone, IfOk, OnOk};
 ghost use Rattle.std.specs.List.{insert, remove};
 ghost use Rattle.balanced_list.specs.Search.{leading, HoldsAtFirst};
-ghost use Rattle.balanced_list.specs.Tree.{node_items, CountsItems, tree_items, IsCounted};
+ghost use Rattle.balanced_list.specs.Tree.{node_items, tree_items};
 
 use crate::balance::{Fork, Tree, balanced};
 use crate::item::Item;
@@ -25,7 +25,9 @@ pub trait Probe<T> {
 #[cycle(list)]
 #[derive(Drop)]
 pub struct BalancedList<T> {
-    pub(crate) tree: Tree<T>,
+    tree: Tree<T>,
+    // Beside the tree, so that the sides of a node are counted without a look at their nodes, which are elsewhere in memory.
+    len: usize,
 }
 
 impl<T> Model for BalancedList<T> {
@@ -38,7 +40,7 @@ impl<T> Model for BalancedList<T> {
 
     ghost view = { λ a. tree_items a.tree };
 
-    ghost invariant = { λ a. IsCounted a.tree };
+    ghost invariant = { λ a. IsCounted a.tree a.len };
 
     ghost size = { length };
 
@@ -51,17 +53,17 @@ impl<T: Drop> BalancedList<T> {
     pub fn new() -> BalancedList<T>
         ensures { result ≡ [] }
     {
-        BalancedList { tree: Tree::Empty }
+        BalancedList {
+            tree: Tree::Empty,
+            len: 0,
+        }
     }
 
     /// How many items there are.
     pub fn len(&self) -> usize
         ensures { result ≡ length self.now }
     {
-        match &self.tree {
-            Tree::Empty => 0,
-            Tree::Fork(node) => node.len,
-        }
+        self.len
     }
 
     /// Item `i`, from 0; `None` exactly past the last.
@@ -92,7 +94,7 @@ impl<T: Drop> BalancedList<T> {
             Tree::Empty => 0,
             Tree::Fork(node) => {
                 if probe.is_past(&node.item) {
-                    node.len - node.right.len() + node.right.place(probe)
+                    node.left.len() + 1 + node.right.place(probe)
                 } else {
                     node.left.place(probe)
                 }
@@ -111,7 +113,7 @@ impl<T: Drop> BalancedList<T> {
             Tree::Fork(node) => {
                 if probe.is_past(&node.item) {
                     let (place, item) = node.right.search(probe);
-                    return (node.len - node.right.len() + place, item);
+                    return (node.left.len() + 1 + place, item);
                 }
                 let (place, item) = node.left.search(probe);
                 if place < node.left.len() {
@@ -255,18 +257,20 @@ impl<T: Drop> BalancedList<T> {
     /// The nodes, for the work on them.
     pub(crate) fn opened(self) -> Tree<T>
         ensures items { tree_items result ≡ self }
-        ensures counted { IsCounted result }
+        ensures fits { length (tree_items result) < 2 ^ 64 }
     {
         self.tree
     }
 
     /// A list of the node and all below it.
     pub(crate) fn closed(node: Box<Fork<T>>) -> BalancedList<T>
-        requires { CountsItems node.value }
+        requires fits { length (node_items node.value) < 2 ^ 64 }
         ensures { result ≡ node_items node.value }
     {
+        let len = node.left.len() + 1 + node.right.len();
         BalancedList {
             tree: Tree::Fork(node),
+            len,
         }
     }
 

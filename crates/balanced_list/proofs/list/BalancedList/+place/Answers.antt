@@ -1,16 +1,14 @@
-use Rattle.std.proofs.Common.{◌≡◌, ◌+◌, ◌-◌, ◌∷◌, ◌++◌, length, refl, sym, ap, subst, ◌∙◌, rules}
-use Rattle.balanced_list.specs.Tree.{IsCounted}
-use Rattle.balanced_list.proofs.Parts.{counted_to, place_on, place_off}
+use Rattle.std.proofs.Common.{◌≡◌, ℕ, ◌+◌, ◌∷◌, ◌++◌, length, sym, ap, ◌∙◌, rules}
+use Rattle.balanced_list.proofs.Parts.{place_on, place_off}
 use Rattle.balanced_list.proofs.list.BalancedList.+place.Goals as goal
 
 pub returns-then-is_past-clause-leading : goal.returns-then-is_past-clause-leading
 returns-then-is_past-clause-leading g t c =
     let node = c.in-Fork.node.value in
     let e : c.args.self.now ≡ node.left ++ node.item ∷ node.right = search rules in
-    let count : node.len ≡ length (node.left ++ node.item ∷ node.right) = (subst IsCounted c.in-Fork.is c.self.invariant).count in
     place_on (g.P.Probe.past c.args.probe.now) c.args.self.now node.left node.right _ node.item _ _ _ e
-    (ap (λ n. n.right) c.deref-then-is_past-3.ensures) (ap (λ n. n.item) c.deref.ensures)
-    (counted_to c.args.self.now node.left node.right node.right node.item _ _ e refl (ap (λ n. n.len) c.deref-then-is_past.ensures ∙ count ∙ ap length (sym e)) (c.len.ensures ∙ ap (λ n. length n.right) c.deref-then-is_past-2.ensures))
+    (ap (λ n. n.right) c.deref-then-is_past-2.ensures) (ap (λ n. n.item) c.deref.ensures)
+    (ap (λ (n : ℕ). n + 1) (c.len.ensures ∙ ap (λ n. length n.left) c.deref-then-is_past.ensures))
     (sym c.is_past.ensures ∙ c.if-is_past.true) c.place.ensures.leading
 
 pub returns-else-is_past-clause-leading : goal.returns-else-is_past-clause-leading
