@@ -50,6 +50,12 @@ def mosaic():
     return f"mosaic {bytes_of_all} patched {bytes_of_all}"
 
 
+def catalog():
+    """A catalogue has at most 1,000,000 rows, and 8 is the kind of a line that brings one more."""
+    lines = [f"{number}\t0\t{number}\t\n" for number in range(1000000, 2000001)]
+    return f"catalog bytes {sum(map(len, lines))} status 16 row {len(lines)} 8"
+
+
 def survey():
     """Beside the tiles there are the mosaic, the coverage file and the properties."""
     first = set(range(8192))
@@ -68,7 +74,7 @@ def survey():
 
 
 def main():
-    text = "\n".join([store(), plan(), cover(), level(), mosaic(), *survey()]) + "\n"
+    text = "\n".join([store(), plan(), cover(), level(), mosaic(), catalog(), *survey()]) + "\n"
     if sys.argv[1:] != ["--check"]:
         print(text, end="")
         return 0

@@ -3,6 +3,7 @@
 //! scripts/size-values.py computes what these have to be.
 #![tactic(auto)]
 
+mod catalogs;
 mod covers;
 mod levels;
 mod mosaics;
@@ -18,6 +19,7 @@ use std::thread::Threads;
 fn main(rt: HostRuntime) -> Result<(), Fail> {
     print_lists(&rt)?;
     print_tiles(&rt)?;
+    catalogs::print_catalog(&rt)?;
     surveys::print_survey(&rt)
 }
 
