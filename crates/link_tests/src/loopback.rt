@@ -1,7 +1,9 @@
 //! Connections of `tcp_link` over the loopback device.
-use log::Log;
+use log::span::Spans;
+use log::{LevelFilter, Log, Logged, Metadata, Record, kv};
 use std::alloc::{AllocError, Global};
 use std::cell::Cell;
+use std::fmt::Display;
 use std::io::{ErrorKind, Read, Write};
 use std::net::{Net, TcpListener, TcpStream};
 use std::process::Abort;
@@ -351,6 +353,60 @@ fn an_address_in_use(rt: HostRuntime) -> Result<(), Fail> {
         check_closed(&rt, address.as_str())?;
     }
     Ok(())
+}
+
+// A log of which so many copies can be made: there is no memory for one more.
+#[derive(Drop)]
+struct Scarce<'a> {
+    copies: &'a Cell<u32>,
+}
+
+impl Clone for Scarce<'_> {
+    fn clone(&self) -> Result<Self, AllocError> {
+        let left = self.copies.get().checked_sub(1).ok_or(AllocError)?;
+        self.copies.set(left);
+        Ok(Scarce {
+            copies: self.copies,
+        })
+    }
+}
+
+impl Log for Scarce<'_> {
+    fn enabled(&self, _metadata: &Metadata<'_>) -> bool {
+        false
+    }
+
+    fn log<D: Display, K: kv::Source, S: Spans>(&self, _record: &Record<'_, D, K, S>) {}
+
+    fn flush(&self) {}
+
+    fn target(&self) -> &str {
+        ""
+    }
+}
+
+// The accept of a door that has no memory for the connection lets the client go, and is no fault.
+fn check_wanted<R: Outside>(rt: &R, door: &mut TcpDoor<R>) -> Result<(), Fail> {
+    let mut client = TcpStream::connect(rt, door.listen()?)?;
+    assert!(rt; matches!(door.accept(), Err(DoorFault::OutOfMemory)));
+    assert_eq!(rt; door.faults(), 0);
+    assert_eq!(rt;
+        refusal_of(rt.alloc(), door)?.as_str(),
+        "can't use a connection: out of memory"
+    );
+    assert_eq!(rt; client.read(&mut [0; 8])?, 0);
+    Ok(())
+}
+
+#[test]
+fn an_accept_finds_no_memory(rt: HostRuntime) -> Result<(), Fail> {
+    let copies = Cell::new(1);
+    let scarce = Logged::new(rt, LevelFilter::Off, Scarce { copies: &copies });
+    let mut doors = tcp_doors(&scarce, FREE, 1)?;
+    check_wanted(&scarce, &mut doors[0])?;
+    copies.set(1);
+    let mut met = meet(&scarce, &mut doors[0])?;
+    check_heard(&scarce, &mut met)
 }
 
 #[test]

@@ -1,14 +1,16 @@
--- What a door over TCP tells, and which refusals of the system it goes past.
+-- What a door over TCP tells, which refusals of the system it goes past, and which tell want of memory.
 use Rattle.std.specs.Prelude.{◌≡◌, ℕ, Bool, true, false, Option, Some, None, ⊤}
 use Rattle.std.specs.IoError.{error_kind}
 use Rattle.std.specs.declared.io.ErrorKind.{ErrorKind}
-use Rattle.std.specs.declared.io.ErrorKind.TheVariants.{Interrupted, ConnectionAborted}
+use Rattle.std.specs.declared.io.ErrorKind.TheVariants.{Interrupted, ConnectionAborted, OutOfMemory}
 use Rattle.tcp_link.specs.declared.refusal.Refusal.{Refusal}
-use Rattle.tcp_link.specs.declared.refusal.Refusal.TheVariants.{Listen, Accept}
+use Rattle.tcp_link.specs.declared.refusal.Refusal.TheVariants.{Listen, Accept, Split}
 
--- a door, as the program sees it: how often it has failed, and what it was last refused
+-- a door, as the program sees it: how often it has failed, how often it had no memory to accept a connection, and what it was
+-- last refused
 pub record DoorState : Type 0 where
   pub faults : ℕ
+  pub wants : ℕ
   pub refusal : Option Refusal
 
 -- an error after which the call is made again: the system interrupted it, or the client that it was for has gone
@@ -17,11 +19,31 @@ passes Interrupted = true
 passes ConnectionAborted = true
 passes _ = false
 
--- a refusal for which an accept fails: not that of an accept which passes
-abbrev pub StopsAccept : Option Refusal → Type 0
-StopsAccept None = ⊥
-StopsAccept (Some (Accept error)) = passes (error_kind error) ≡ false
-StopsAccept (Some _) = ⊤
+-- an error that tells want of memory, the program's own or the system's
+abbrev pub is_want : ErrorKind → Bool
+is_want OutOfMemory = true
+is_want _ = false
+
+-- a refusal that stops an accept: not that of one which passes
+abbrev pub Lasts : Refusal → Type 0
+Lasts (Accept error) = passes (error_kind error) ≡ false
+Lasts _ = ⊤
+
+-- a refusal for want of memory
+abbrev pub tells_want : Refusal → Bool
+tells_want (Listen error) = is_want (error_kind error)
+tells_want (Accept error) = is_want (error_kind error)
+tells_want (Split error) = is_want (error_kind error)
+
+-- a refusal for which an accept fails: one that stops it, and not for want of memory
+abbrev pub FailsAccept : Option Refusal → Type 0
+FailsAccept None = ⊥
+FailsAccept (Some refusal) = Lasts refusal × (tells_want refusal ≡ false)
+
+-- a refusal for which an accept finds no memory
+abbrev pub WantsMemory : Option Refusal → Type 0
+WantsMemory None = ⊥
+WantsMemory (Some refusal) = tells_want refusal ≡ true
 
 -- a refusal to listen
 abbrev pub StopsListening : Option Refusal → Type 0

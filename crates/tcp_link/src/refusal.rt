@@ -1,4 +1,8 @@
 //! What a door was refused.
+ghost use Rattle.std.specs.Prelude.{◌≡◌};
+ghost use Rattle.tcp_link.specs.Tcp.{is_want, tells_want};
+
+use std::io::ErrorKind;
 use std::{fmt, io};
 
 /// What a door was refused, and by which error of the system.
@@ -10,6 +14,25 @@ pub enum Refusal {
     Accept(io::Error),
     /// To split the stream of a connection into its halves, with their time-outs.
     Split(io::Error),
+}
+
+impl Refusal {
+    /// Whether it is for want of memory, the program's own or the system's.
+    pub(crate) fn tells_want(&self) -> bool
+        ensures { result ≡ tells_want self.now }
+    {
+        match self {
+            Refusal::Listen(error) | Refusal::Accept(error) | Refusal::Split(error) => {
+                is_want(error.kind())
+            }
+        }
+    }
+}
+
+fn is_want(kind: ErrorKind) -> bool
+    ensures { result ≡ is_want kind }
+{
+    matches!(kind, ErrorKind::OutOfMemory)
 }
 
 impl fmt::Display for Refusal {

@@ -1,7 +1,7 @@
 //! The doors of an address.
-ghost use Rattle.std.specs.Prelude.{◌≡◌, ◌≤◌, None, Some, replicate, IfOk, IfErr, IfSome, IsSome, OnOk, OnErr};
+ghost use Rattle.std.specs.Prelude.{◌≡◌, ◌≤◌, None, Some, replicate, IfOk, IfErr, IfSome, IsSome, IsErrOf, OnOk, OnErr};
 ghost use Rattle.survey_link.specs.Link.{next_count};
-ghost use Rattle.tcp_link.specs.Tcp.{StopsAccept, StopsListening};
+ghost use Rattle.tcp_link.specs.Tcp.{Lasts, FailsAccept, WantsMemory, StopsListening, tells_want};
 
 use crate::again::again;
 use crate::connection::Connection;
@@ -23,7 +23,8 @@ use survey_link::{Door, DoorFault};
 ///
 /// The doors of one address share a listener, which the first call that needs it binds. What it answers as `Failed` counts as
 /// a fault: that the system refuses to listen, to accept, or to split a stream into its halves. An accept that the system
-/// interrupts, or whose client has gone, is made again and counts as none. A connection that is given back is closed.
+/// interrupts, or whose client has gone, is made again and counts as none. Nor does one for which there is no memory, which has
+/// a count of its own; its client is let go. A connection that is given back is closed.
 ///
 /// The log gets each connection's client, with the place of the door among those of its address and the connection's number
 /// at it, both from 1 on.
@@ -35,6 +36,8 @@ pub struct TcpDoor<R> {
     place: usize,
     taken: u64,
     faults: u64,
+    // How many accepts found no memory.
+    wants: u64,
     refusal: Option<Refusal>,
 }
 
@@ -43,7 +46,7 @@ impl<R> Model for TcpDoor<R> {
 
     ghost Value = { DoorState };
 
-    ghost view = { λ a. record { faults = a.faults; refusal = a.refusal } };
+    ghost view = { λ a. record { faults = a.faults; wants = a.wants; refusal = a.refusal } };
 }
 
 /// So many doors of an address, an IP address or a host's name with `:` and a port. Nothing is bound yet.
@@ -58,7 +61,7 @@ pub fn tcp_doors<R: AllocGlobal + Clone + Drop>(
     address: &str,
     count: usize,
 ) -> Result<Vec<TcpDoor<R>>, AllocError>
-    ensures { IfOk result (λ doors. doors.items ≡ replicate count (record { faults = 0; refusal = None })) }
+    ensures { IfOk result (λ doors. doors.items ≡ replicate count (record { faults = 0; wants = 0; refusal = None })) }
 {
     patient_doors(rt, address, count, Patience::usual())
 }
@@ -74,7 +77,7 @@ pub fn patient_doors<R: AllocGlobal + Clone + Drop>(
     count: usize,
     patience: Patience,
 ) -> Result<Vec<TcpDoor<R>>, AllocError>
-    ensures { IfOk result (λ doors. doors.items ≡ replicate count (record { faults = 0; refusal = None })) }
+    ensures { IfOk result (λ doors. doors.items ≡ replicate count (record { faults = 0; wants = 0; refusal = None })) }
 {
     let alloc = rt.alloc();
     let listening = Arc::new(alloc, Listening::new(String::from_str(alloc, address)?))?;
@@ -87,6 +90,7 @@ pub fn patient_doors<R: AllocGlobal + Clone + Drop>(
             place: at + 1,
             taken: 0,
             faults: 0,
+            wants: 0,
             refusal: None,
         })?;
     }
@@ -94,7 +98,7 @@ pub fn patient_doors<R: AllocGlobal + Clone + Drop>(
 }
 
 impl<R> TcpDoor<R> {
-    /// What the door was last refused; `None` exactly where it has never failed.
+    /// What the door was last refused; `None` exactly where it was never refused anything.
     pub fn refusal(&self) -> Option<Refusal>
         ensures { result ≡ self.now.refusal }
     {
@@ -104,12 +108,22 @@ impl<R> TcpDoor<R> {
     // Counts what is answered as `Failed`.
     fn fail(&mut self, refusal: Refusal) -> DoorFault
         ensures fault { result ≡ DoorFault.Failed }
-        ensures counted { self.new ≡ record { faults = next_count self.old.faults; refusal = Some refusal } }
+        ensures counted { self.new ≡ record self.old { faults = next_count self.old.faults; refusal = Some refusal } }
         ensures never_falls { self.old.faults ≤ self.new.faults }
     {
         self.faults = self.faults.saturating_add(1);
         self.refusal = Some(refusal);
         DoorFault::Failed
+    }
+
+    // Counts what is answered as `OutOfMemory`.
+    fn want(&mut self, refusal: Refusal) -> DoorFault
+        ensures fault { result ≡ DoorFault.OutOfMemory }
+        ensures counted { self.new ≡ record self.old { wants = next_count self.old.wants; refusal = Some refusal } }
+    {
+        self.wants = self.wants.saturating_add(1);
+        self.refusal = Some(refusal);
+        DoorFault::OutOfMemory
     }
 }
 
@@ -125,7 +139,7 @@ where
     /// `DoorFault::Failed` only where the count of faults rose.
     pub fn listen(&mut self) -> Result<SocketAddr, DoorFault>
         ensures sound { OnOk result (self.new ≡ self.old) }
-        ensures failed { OnErr result (self.new.faults ≡ next_count self.old.faults) }
+        ensures failed { OnErr result ((self.new.faults ≡ next_count self.old.faults) × (self.new.wants ≡ self.old.wants)) }
         ensures only { IfErr result (λ fault. fault ≡ DoorFault.Failed) }
         ensures cause { OnErr result (StopsListening self.new.refusal) }
     {
@@ -151,10 +165,10 @@ where
             .map_err(Refusal::Listen)
     }
 
-    // The halves of the next connection.
+    // The halves of the next connection. Want of memory for what they share is a refusal to split its stream.
     fn next(&self) -> Result<(TcpIn<R>, TcpOut<R>), Refusal>
         ensures fresh { IfOk result (λ halves. (halves.0 ≡ 0) × (halves.1 ≡ 0)) }
-        ensures cause { IfErr result (λ refusal. StopsAccept (Some refusal)) }
+        ensures cause { IfErr result Lasts }
     {
         let listener = self.listener()?;
         let (stream, client) = again(|| listener.accept()).map_err(Refusal::Accept)?;
@@ -170,7 +184,7 @@ where
         debug!(rt; target: "client", "{client}");
     }
 
-    // The halves of a stream. Want of memory for what they share is a refusal to split it.
+    // The halves of a stream.
     fn halves(&self, stream: TcpStream) -> io::Result<(TcpIn<R>, TcpOut<R>)>
         ensures fresh { IfOk result (λ halves. (halves.0 ≡ 0) × (halves.1 ≡ 0)) }
     {
@@ -199,15 +213,16 @@ where
 
     ghost faults = { λ door. door.faults };
 
-    ghost wants = { λ _. 0 };
+    ghost wants = { λ door. door.wants };
 
     // A real door has no last connection.
     fn accept(&mut self) -> Result<Option<(TcpIn<R>, TcpOut<R>)>, DoorFault>
         ensures comes { IfOk result (λ next. IfSome next (λ halves. (halves.0 ≡ 0) × (halves.1 ≡ 0)) × IsSome next) }
         ensures sound { OnOk result (self.new ≡ self.old) }
-        ensures failed { OnErr result (self.new.faults ≡ next_count self.old.faults) }
-        ensures only { IfErr result (λ fault. fault ≡ DoorFault.Failed) }
-        ensures cause { OnErr result (StopsAccept self.new.refusal) }
+        ensures failed { IsErrOf result DoorFault.Failed → (self.new.faults ≡ next_count self.old.faults) × (self.new.wants ≡ self.old.wants) }
+        ensures cause { IsErrOf result DoorFault.Failed → FailsAccept self.new.refusal }
+        ensures wanted { IsErrOf result DoorFault.OutOfMemory → (self.new.wants ≡ next_count self.old.wants) × (self.new.faults ≡ self.old.faults) }
+        ensures want_cause { IsErrOf result DoorFault.OutOfMemory → WantsMemory self.new.refusal }
         ensures never_falls { self.old.faults ≤ self.new.faults }
     {
         match self.next() {
@@ -215,7 +230,13 @@ where
                 self.taken = self.taken.saturating_add(1);
                 Ok(Some(halves))
             }
-            Err(refusal) => Err(self.fail(refusal)),
+            Err(refusal) => {
+                if refusal.tells_want() {
+                    Err(self.want(refusal))
+                } else {
+                    Err(self.fail(refusal))
+                }
+            }
         }
     }
 
