@@ -1,25 +1,37 @@
 #!/bin/sh
-# Refuses memory to the story of three boards that crates/board_tests plays, at one request after another: a run for each request
-# that the program makes, in which that one is answered with NULL and all others are served (refuse-memory.c).
+# Refuses memory to two proved programs (refuse-memory.c): to the story of three boards that crates/board_tests plays, and to a
+# server with one place.
 #
-#     scripts/check-memory.sh [PROGRAM]
+#     scripts/check-memory.sh [BOARD_TESTS HIPSD]
 #
-# In the story each call of a board that is refused is made again. Whatever was refused, all calls have to be answered in the end,
+# The story is played once for each request for memory that it makes, with that one answered with NULL and all others served. In
+# it each call of a board that is refused is made again. Whatever was refused, all calls have to be answered in the end,
 # with as many edits and as many published as where nothing is refused, and the history that all boards have seen then has to
 # explain each answer: each accepted event stands in it once, and no refused call left one. The program tests that itself, and
 # stops where it isn't so. A run may end with an error only where the survey isn't open yet: it says `begun` after that.
 #
-# With no PROGRAM it proves and builds board_tests, by `rt run`, which leaves it at crates/board_tests/out/board_tests. Where there
-# is no C compiler this fails if CI=true, and else says that it was left out.
+# The server takes two connections, one after another. From its frame on, each request for memory is refused in a run of its
+# own: a connection is served, or it is let go with nothing written and the server ends by 11 and never by 8, since its door
+# hasn't failed. Where the frame isn't to be had twice, the first connection is let go and the second one is served.
+#
+# With no programs it proves and builds them, by `rt run`, which leaves them at crates/NAME/out/NAME. Where there is no C
+# compiler or no Python this fails if CI=true, and else says that it was left out.
 cd "$(dirname "$0")/.." || exit 1
 program=${1:-crates/board_tests/out/board_tests}
-if ! command -v cc >/dev/null 2>&1; then
-    echo "check-memory: LEFT OUT, no memory was refused: not installed here: cc"
+server=$(realpath -m "${2:-crates/hipsd/out/hipsd}")
+python=/usr/bin/python3
+missing=
+command -v cc >/dev/null 2>&1 || missing=" cc"
+[ -x "$python" ] || missing="$missing python3"
+if [ -n "$missing" ]; then
+    echo "check-memory: LEFT OUT, no memory was refused: not installed here:$missing"
     [ "${CI:-}" = true ] && exit 1
     exit 0
 fi
 if [ $# = 0 ]; then
     (cd crates/board_tests && rt run >/dev/null) || exit 1
+    (cd crates/hipsd && rt run >/dev/null)
+    [ -x "$server" ] || exit 1
 fi
 folder=$(mktemp -d) || exit 1
 trap 'rm -rf "$folder"' EXIT
@@ -53,3 +65,6 @@ if [ "$number" -gt 10000 ] || [ "$ended" != 0 ] || ! cmp -s "$folder/wanted" "$f
 fi
 [ "$wrong" = 0 ] || exit 1
 echo "check-memory: of $((number - 1)) refused requests $unbegun ended the program before the survey was open, $again had a call made again, and $passed changed nothing that was told"
+
+# Where the server has no memory.
+exec "$python" scripts/refused-server.py "$server" "$folder/refuse.so"
