@@ -233,6 +233,8 @@ fn by_turns<'a, J: Naming, R: Threads + Wait + Abort + Sync>(
     third: &mut Shared<'a, J>,
 ) -> Result<(), Fail> {
     other.hold();
+    // A look that finds nothing: the next one has to find what comes after it.
+    other.pin();
     check_all(rt, alloc, one, FIRST)?;
     assert!(rt; finds(other, 1));
     one.meet(third)?;
