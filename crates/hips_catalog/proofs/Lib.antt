@@ -6,6 +6,7 @@ pub mod Descent
 pub mod Ascent
 pub mod Listed
 pub mod Shared
+pub mod Ends
 pub mod Best
 pub mod Full
 pub mod Sunk

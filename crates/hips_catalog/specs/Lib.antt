@@ -1,4 +1,5 @@
 pub mod Catalogue
+pub mod Ends
 pub mod Held
 pub mod Kept
 pub mod Laws

@@ -1,5 +1,5 @@
 -- The tiles that are kept: those with rows, by ascending number of their cells.
-use Rattle.std.specs.Prelude.{◌≡◌, ℕ, ◌+◌, ◌*◌, ◌<◌, ◌==◌, ◌&&◌, nat_lt, Bool, false, cond, List, [], ◌∷◌, map, slice_get, length, Option, Some, None, MatchOption, IfSome, ◌⊎◌}
+use Rattle.std.specs.Prelude.{◌≡◌, ℕ, ◌+◌, ◌*◌, ◌<◌, ◌==◌, ◌&&◌, nat_lt, Bool, false, cond, List, [], ◌∷◌, map, slice_get, length, Option, Some, None, MatchOption, IfSome, option_map, ◌⊎◌}
 use Rattle.std.specs.Arc.{arc_value}
 use Rattle.std.specs.List.{AllByRecursion}
 use Rattle.balanced_list.specs.Search.{leading}
@@ -66,6 +66,11 @@ IsOneOf cell (c ∷ cs) = (cell ≡ c) ⊎ IsOneOf cell cs
 pub record IsBest (tiles : List Tile) (best : Option NestedCell) (cells : List NestedCell) : Type 0 where
   pub is : MatchOption best (AllByRecursion (λ c. first_at tiles c ≡ None) cells)
       (λ b. IsOneOf b cells × (z : Source) × (first_at tiles b ≡ Some z) × AllByRecursion (λ c. IfSome (first_at tiles c) (λ s. is_better s z ≡ false)) cells)
+
+-- and this is its tile
+pub record IsBestTile (tiles : List Tile) (best : Option Tile) (cells : List NestedCell) : Type 0 where
+  pub cell : IsBest tiles (option_map (λ t. t.cell) best) cells
+  pub rows : IfSome best (λ t. rows_at tiles t.cell.order t.cell.npix ≡ sources t.rows)
 
 -- child i of the four of a cell
 abbrev pub child_cell : NestedCell → ℕ → NestedCell

@@ -14,6 +14,7 @@ use crate::row::Row;
 use crate::sink::{cell_of, sink};
 use crate::text::text_of;
 use crate::tile::{Tile, Tiles, rows};
+use crate::tile_rows::TileRows;
 use balanced_list::{BalancedList, Item, Probe};
 use healpix_nested::Cell;
 use std::alloc::{AllocError, Global};
@@ -194,7 +195,7 @@ impl Catalog {
     {
         let tile = Tile {
             cell: cell_of(&row, self.top, self.top),
-            rows: BalancedList::new(),
+            rows: TileRows::new(),
         };
         let spare = Item::new(self.alloc, tile)?;
         let row = Arc::new(self.alloc, row)?;

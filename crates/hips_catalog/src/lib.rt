@@ -16,6 +16,7 @@ mod row;
 mod sink;
 mod text;
 mod tile;
+mod tile_rows;
 
 pub use catalog::{Catalog, MOST_ROWS};
 pub use fault::{RowFault, RowRefusal};

@@ -39,6 +39,13 @@ impl Ranked {
         }
     }
 
+    /// The rank of the row.
+    pub(crate) fn rank(&self) -> u64
+        ensures { result ≡ (arc_value self.now).rank }
+    {
+        self.rank
+    }
+
     /// The row.
     pub(crate) fn row(&self) -> &Row
         ensures { result.now ≡ arc_value self.now }

@@ -7,7 +7,7 @@ ghost use Rattle.hips_catalog.specs.TileText.{source_line, text_of};
 
 use crate::ranked::Ranked;
 use crate::row::Row;
-use crate::tile::Rows;
+use crate::tile_rows::TileRows;
 use itoa::Buffer;
 use std::alloc::{AllocError, Global};
 
@@ -46,7 +46,7 @@ fn push_lines(text: &mut Vec<u8>, rows: &[&Ranked]) -> Result<(), AllocError>
 }
 
 /// The text of a tile with these rows; `None` exactly where there are none.
-pub(crate) fn text_of(alloc: Global, rows: &Rows) -> Result<Option<Vec<u8>>, AllocError>
+pub(crate) fn text_of(alloc: Global, rows: &TileRows) -> Result<Option<Vec<u8>>, AllocError>
     ensures { IfOk result (λ text. option_map (λ bytes. bytes.items) text ≡ text_of (sources rows.now)) }
 {
     if rows.len() == 0 {

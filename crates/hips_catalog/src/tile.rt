@@ -1,19 +1,17 @@
 //! The tiles, by the numbers of their cells.
-ghost use Rattle.std.specs.Prelude.{◌≡◌, true, false, ℕ, List, ◌+◌, ◌<◌, ◌≤◌, ◌^◌, [], ◌∷◌, length, IfOk, MatchOption, drop, take as first_of, ◌++◌, None, IfErr, OnSome, IsSome, slice_get, slice_index_or, option_map, option_copied};
+ghost use Rattle.std.specs.Prelude.{◌≡◌, true, false, ℕ, List, ◌+◌, ◌<◌, ◌≤◌, ◌^◌, [], ◌∷◌, length, IfOk, MatchOption, drop, take as first_of, ◌++◌, None, IfErr, OnSome, IsSome, slice_get, slice_index_or, option_map, option_copied, IfSome, IfNone};
 ghost use Rattle.std.specs.Arc.{arc_value};
 ghost use Rattle.std.specs.List.{insert, remove};
 ghost use Rattle.balanced_list.specs.Search.{leading, HoldsAtFirst};
 ghost use Rattle.hips_catalog.specs.Rows.{Source, is_better, placed};
 ghost use Rattle.healpix_nested.specs.Cells.{NestedCell};
-ghost use Rattle.hips_catalog.specs.Tiles.{sources, child_cell, rows_at, is_of, AreListed, HasTile, IsGap, OthersStay, OthersStayButTwo, HasSameCells, IsBest, first_at, NoneIsEmpty, number};
+ghost use Rattle.hips_catalog.specs.Tiles.{sources, child_cell, rows_at, is_of, AreListed, HasTile, IsGap, OthersStay, OthersStayButTwo, HasSameCells, IsBest, IsBestTile, first_at, NoneIsEmpty, number};
 
 use crate::ranked::Ranked;
 use crate::row::Row;
+use crate::tile_rows::TileRows;
 use balanced_list::{BalancedList, Item, Probe};
 use healpix_nested::Cell;
-
-/// Rows that several lists share, in some order.
-pub(crate) type Rows = BalancedList<Ranked>;
 
 /// Tiles, by ascending number of their cells.
 pub(crate) type Tiles = BalancedList<Tile>;
@@ -22,22 +20,7 @@ pub(crate) type Tiles = BalancedList<Tile>;
 #[derive(Drop)]
 pub(crate) struct Tile {
     pub(crate) cell: Cell,
-    pub(crate) rows: Rows,
-}
-
-// Whether the place of a row lies after a better one.
-#[derive(Drop)]
-struct Worse<'a>(&'a Row);
-
-impl<'a> Probe<Ranked> for Worse<'a> {
-    ghost use Rattle.std.specs.Arc.{arc_value};
-    ghost use Rattle.hips_catalog.specs.Rows.{is_better};
-
-    ghost past = { λ s row. is_better (arc_value row) s.0.now };
-
-    fn is_past(&self, row: &Ranked) -> bool {
-        row.is_better(self.0)
-    }
+    pub(crate) rows: TileRows,
 }
 
 // Whether the place of a cell lies after a tile of a lower number.
@@ -62,14 +45,18 @@ impl Tile {
     {
         self.cell.order() == cell.order() && self.cell.npix() == cell.npix()
     }
-}
 
-/// The place of the row among rows in order.
-pub(crate) fn place_of(rows: &Rows, row: &Row) -> usize
-    ensures place { HoldsAtFirst (λ s. is_better s row.now) (sources rows.now) → result ≡ leading (λ s. is_better s row.now) (sources rows.now) }
-    ensures within { result ≤ length rows.now }
-{
-    rows.place(&Worse(row))
+    // The tile, if it has rows.
+    fn with_rows(&self) -> Option<&Tile>
+        ensures some { IfSome result (λ tile. (tile.now ≡ self.now) × (0 < length self.now.rows)) }
+        ensures none { IfNone result (self.now.rows ≡ []) }
+    {
+        if self.rows.len() == 0 {
+            None
+        } else {
+            Some(self)
+        }
+    }
 }
 
 /// The cell's tile and its place, or else the place where it would stand.
@@ -77,6 +64,7 @@ pub(crate) fn find(tiles: &Tiles, cell: Cell) -> Result<(usize, &Tile), usize>
     requires { AreListed tiles.now }
     ensures there { IfOk result (λ found. HasTile tiles.now found.0 cell) }
     ensures rows { IfOk result (λ found. rows_at tiles.now cell.order cell.npix ≡ sources found.1.now.rows) }
+    ensures cell { IfOk result (λ found. found.1.now.cell ≡ cell) }
     ensures gap { IfErr result (λ at. IsGap tiles.now at cell) }
 {
     let (at, there) = tiles.search(&Later(cell.uniq()));
@@ -105,7 +93,7 @@ pub(crate) fn put(tiles: &mut Tiles, cell: Cell, at: usize, i: usize, row: Item<
 {
     let mut tile = Tile {
         cell,
-        rows: BalancedList::new(),
+        rows: TileRows::new(),
     };
     tiles.swap(at, &mut tile);
     tile.rows.insert(i, row);
@@ -125,7 +113,7 @@ pub(crate) fn take(tiles: &mut Tiles, cell: Cell, at: usize, i: usize) -> Item<R
 {
     let mut tile = Tile {
         cell,
-        rows: BalancedList::new(),
+        rows: TileRows::new(),
     };
     tiles.swap(at, &mut tile);
     let row = tile.rows.remove(i);
@@ -146,7 +134,7 @@ fn exchange(tiles: &mut Tiles, cell: Cell, at: usize, row: Item<Ranked>) -> Item
 {
     let mut tile = Tile {
         cell,
-        rows: BalancedList::new(),
+        rows: TileRows::new(),
     };
     tiles.swap(at, &mut tile);
     let first = tile.rows.exchange(0, row);
@@ -155,7 +143,7 @@ fn exchange(tiles: &mut Tiles, cell: Cell, at: usize, row: Item<Ranked>) -> Item
 }
 
 /// The rows of the cell's tile; `None` where there is no tile.
-pub(crate) fn rows(tiles: &Tiles, cell: Cell) -> Option<&Rows>
+pub(crate) fn rows(tiles: &Tiles, cell: Cell) -> Option<&TileRows>
     requires { AreListed tiles.now }
     ensures { MatchOption result (rows_at tiles.now cell.order cell.npix ≡ []) (λ rows. rows_at tiles.now cell.order cell.npix ≡ sources rows.now) }
 {
@@ -165,41 +153,36 @@ pub(crate) fn rows(tiles: &Tiles, cell: Cell) -> Option<&Rows>
     }
 }
 
-/// The first row of the cell's tile, if it has one.
-pub(crate) fn first(tiles: &Tiles, cell: Cell) -> Option<&Row>
+// The best tile of some cells, or the child's tile if that has a better first row.
+fn better_of<'a>(tiles: &'a Tiles, best: Option<&'a Tile>, child: Cell) -> Option<&'a Tile>
     requires { AreListed tiles.now }
-    ensures { option_copied result ≡ first_at tiles.now cell }
+    ensures { (cells : List NestedCell) → IsBestTile tiles.now (option_copied best.entry) cells → IsBestTile tiles.now (option_copied result) (child ∷ cells) }
 {
-    match rows(tiles, cell) {
-        Some(rows) => match rows.get(0) {
-            Some(row) => Some(row.row()),
-            None => None,
+    match find(tiles, child) {
+        Err(_) => best,
+        Ok((_at, tile)) => match best {
+            None => tile.with_rows(),
+            Some(other) => {
+                if tile.rows.begins_better(&other.rows) {
+                    Some(tile)
+                } else {
+                    best
+                }
+            }
         },
-        None => None,
     }
 }
 
-// The child in the place of the best of some cells, if its tile has a better first row.
-fn better_of(tiles: &Tiles, best: Option<Cell>, child: Cell) -> Option<Cell>
-    requires { AreListed tiles.now }
-    ensures { (cells : List NestedCell) → IsBest tiles.now best cells → IsBest tiles.now result (child ∷ cells) }
+// The child's tile that has the best first row; `None` where no child's tile has rows.
+fn best_tile(tiles: &Tiles, cell: Cell) -> Option<&Tile>
+    requires listed { AreListed tiles.now }
+    requires order { cell.order < 20 }
+    ensures { IsBestTile tiles.now (option_copied result) (child_cell cell 3 ∷ child_cell cell 2 ∷ child_cell cell 1 ∷ child_cell cell 0 ∷ []) }
 {
-    match first(tiles, child) {
-        None => best,
-        Some(row) => match best {
-            None => Some(child),
-            Some(other) => match first(tiles, other) {
-                None => Some(child),
-                Some(first) => {
-                    if row.is_better(first) {
-                        Some(child)
-                    } else {
-                        best
-                    }
-                }
-            },
-        },
-    }
+    let best = better_of(tiles, None, cell.child(0));
+    let best = better_of(tiles, best, cell.child(1));
+    let best = better_of(tiles, best, cell.child(2));
+    better_of(tiles, best, cell.child(3))
 }
 
 /// The child of the cell whose tile has the best first row; `None` where no child's tile has rows.
@@ -208,10 +191,10 @@ pub(crate) fn best_child(tiles: &Tiles, cell: Cell) -> Option<Cell>
     requires order { cell.order < 20 }
     ensures { IsBest tiles.now result (child_cell cell 3 ∷ child_cell cell 2 ∷ child_cell cell 1 ∷ child_cell cell 0 ∷ []) }
 {
-    let best = better_of(tiles, None, cell.child(0));
-    let best = better_of(tiles, best, cell.child(1));
-    let best = better_of(tiles, best, cell.child(2));
-    better_of(tiles, best, cell.child(3))
+    match best_tile(tiles, cell) {
+        Some(tile) => Some(tile.cell),
+        None => None,
+    }
 }
 
 // Makes the tile of a cell that has none, with one row.
@@ -224,14 +207,14 @@ fn add(tiles: &mut Tiles, at: usize, cell: Cell, row: Item<Ranked>, mut spare: I
     ensures full { NoneIsEmpty tiles.old → NoneIsEmpty tiles.new }
 {
     let _order = cell.order();
-    let mut rows = BalancedList::new();
+    let mut rows = TileRows::new();
     rows.insert(0, row);
     spare.set(Tile { cell, rows });
     tiles.insert(at, spare);
 }
 
 // Puts a row among others at its place there; the last row, if there are then more than there is room for.
-fn put_among(rows: &mut Rows, i: usize, row: Item<Ranked>, room: usize) -> Option<Item<Ranked>>
+fn put_among(rows: &mut TileRows, i: usize, row: Item<Ranked>, room: usize) -> Option<Item<Ranked>>
     requires place { i ≡ leading (λ s. is_better s (arc_value row)) (sources rows.old) }
     requires room { length (sources rows.old) ≤ room }
     requires fits { length rows.old + 1 < 2 ^ 64 }
@@ -272,7 +255,7 @@ fn offer_to(
     }
     let mut tile = Tile {
         cell,
-        rows: BalancedList::new(),
+        rows: TileRows::new(),
     };
     tiles.swap(at, &mut tile);
     let last = put_among(&mut tile.rows, i, row, room);
@@ -304,7 +287,7 @@ pub(crate) fn offer(
 {
     match find(tiles, cell) {
         Ok((at, tile)) => {
-            let i = place_of(&tile.rows, row.item().row());
+            let i = tile.rows.place_of(row.item().row());
             offer_to(tiles, cell, at, i, row, room)
         }
         Err(at) => match spare.take() {
@@ -325,21 +308,8 @@ pub(crate) fn seek(tiles: &Tiles, cell: Cell, row: &Row) -> (usize, bool)
     ensures no { result.1 ≡ false → ¬ (slice_get (rows_at tiles.now cell.order cell.npix) result.0 ≡ Some row.now) }
 {
     match rows(tiles, cell) {
-        Some(rows) => seek_among(rows, row),
+        Some(rows) => rows.seek(row),
         None => (0, false),
-    }
-}
-
-// The place of a row among rows in order, and whether one stands there than which neither is better.
-fn seek_among(rows: &Rows, row: &Row) -> (usize, bool)
-    ensures place { HoldsAtFirst (λ s. is_better s row.now) (sources rows.now) → result.0 ≡ leading (λ s. is_better s row.now) (sources rows.now) }
-    ensures yes { result.1 ≡ true → (s : Source) × (slice_get (sources rows.now) result.0 ≡ Some s) × (is_better s row.now ≡ false) × (is_better row.now s ≡ false) }
-    ensures no { result.1 ≡ false → ¬ (slice_get (sources rows.now) result.0 ≡ Some row.now) }
-{
-    let (i, there) = rows.search(&Worse(row));
-    match there {
-        Some(found) => (i, found.is_level(row)),
-        None => (i, false),
     }
 }
 

@@ -3,7 +3,7 @@ use Rattle.healpix_nested.specs.Cells.{IsCell}
 use Rattle.hips_catalog.specs.Rows.{Source}
 use Rattle.hips_catalog.specs.Tiles.{rows_at, IsBest}
 use Rattle.hips_catalog.proofs.OneMore.{more_has}
-use Rattle.hips_catalog.proofs.Found.{four_of, none_has, best_of, short_child, rests, rests_at_top, goes_up_child, reaches}
+use Rattle.hips_catalog.proofs.Found.{four_of, none_has, best_of, rests, rests_at_top, goes_up_child, reaches}
 use Rattle.hips_catalog.proofs.rise.rise.Goals as goal
 
 below : (order top k : ℕ) → k ≡ order → order < top → k < top

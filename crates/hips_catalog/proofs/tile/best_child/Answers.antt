@@ -1,19 +1,16 @@
-use Rattle.std.proofs.Common.{◌≡◌, ℕ, List, [], ◌∷◌, ap, ap₂, subst}
+use Rattle.std.proofs.Common.{◌≡◌, List, subst}
+use Rattle.std.specs.Prelude.{Option, option_map, option_copied}
+use Rattle.std.specs.Borrow.{Bor}
 use Rattle.healpix_nested.specs.Cells.{NestedCell}
-use Rattle.hips_catalog.specs.Tiles.{IsBest, child_cell}
+use Rattle.hips_catalog.specs.Tiles.{IsBest, IsBestTile}
+use Rattle.hips_catalog.specs.declared.tile.Tile.{Tile}
 use Rattle.hips_catalog.proofs.tile.best_child.Goals as goal
 
-a_child : (c cell : NestedCell) (i : ℕ) → c.order ≡ (child_cell cell i).order → c.npix ≡ (child_cell cell i).npix → c ≡ child_cell cell i
-a_child c cell i e f = ap₂ (λ k q. let d : NestedCell = record { order = k; npix = q } in d) e f
+best_cell : (ts : List Tile) (found best : Option (Bor Tile)) (cells : List NestedCell) → found ≡ best → IsBestTile ts (option_copied found) cells → IsBest ts (option_map (λ t. t.cell) (option_copied best)) cells
+best_cell ts found best cells e b = subst (λ o. IsBest ts (option_map (λ t. t.cell) (option_copied o)) cells) e b.cell
 
-pub returns : goal.returns
-returns c =
-    let b0 = c.better_of-best.ensures [] (record { is = tt }) in
-    let b1 = c.better_of-best-2.ensures _ b0 in
-    let b2 = c.better_of-best-3.ensures _ b1 in
-    let b3 = c.better_of.ensures _ b2 in
-    let l0 = ap (λ (d : NestedCell). d ∷ []) (a_child c.child.result c.args.cell 0 c.child.ensures.order c.child.ensures.npix) in
-    let l1 = ap₂ (λ (d : NestedCell) (ds : List NestedCell). d ∷ ds) (a_child c.child-2.result c.args.cell 1 c.child-2.ensures.order c.child-2.ensures.npix) l0 in
-    let l2 = ap₂ (λ (d : NestedCell) (ds : List NestedCell). d ∷ ds) (a_child c.child-3.result c.args.cell 2 c.child-3.ensures.order c.child-3.ensures.npix) l1 in
-    let l3 = ap₂ (λ (d : NestedCell) (ds : List NestedCell). d ∷ ds) (a_child c.child-4.result c.args.cell 3 c.child-4.ensures.order c.child-4.ensures.npix) l2 in
-    subst (λ (cs : List NestedCell). IsBest c.args.tiles.now c.better_of.result cs) l3 b3
+pub returns-in-Some : goal.returns-in-Some
+returns-in-Some c = best_cell c.args.tiles.now c.best_tile.result _ _ c.in-Some.is c.best_tile.ensures
+
+pub returns-in-None : goal.returns-in-None
+returns-in-None c = best_cell c.args.tiles.now c.best_tile.result _ _ c.in-None.is c.best_tile.ensures

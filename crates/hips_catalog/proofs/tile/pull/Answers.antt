@@ -1,11 +1,10 @@
 use Rattle.std.proofs.Common.{◌≡◌, ℕ, ◌+◌, ◌<◌, List, [], ◌∷◌, length, refl, ap, subst, sym, ◌∙◌, arith}
 use Rattle.std.specs.Prelude.{slice_get, IsSome}
 use Rattle.std.specs.Arc.{arc_value}
-use Rattle.std.specs.List.{remove}
 use Rattle.hips_catalog.specs.Rows.{Source}
 use Rattle.hips_catalog.specs.Tiles.{rows_at}
 use Rattle.hips_catalog.proofs.Listed.{gap_rows}
-use Rattle.hips_catalog.proofs.Full.{remove_length, insert_some, still_full_two}
+use Rattle.hips_catalog.proofs.Full.{insert_some, still_full_two}
 use Rattle.hips_catalog.proofs.tile.pull.Goals as goal
 
 not_within : (ss : List Source) (i : ℕ) → ss ≡ [] → i < length ss → ⊥

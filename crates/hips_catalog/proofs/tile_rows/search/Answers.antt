@@ -1,11 +1,11 @@
 use Rattle.std.proofs.Common.{◌≡◌, ◌&&◌, Bool, true, false, not, refl, ap, subst, sym, ◌∙◌, arith}
 use Rattle.std.proofs.lemmas.Bool.{and_parts}
-use Rattle.std.specs.Prelude.{slice_get, Option, Some, None, option_map, option_copied, unwrap_or}
+use Rattle.std.specs.Prelude.{Option, Some, None, option_map, option_copied, unwrap_or}
 use Rattle.std.specs.Arc.{arc_value}
 use Rattle.hips_catalog.specs.Rows.{Source, is_better}
 use Rattle.hips_catalog.proofs.Order.{not_itself}
 use Rattle.hips_catalog.proofs.Shared.{get_map, search_map}
-use Rattle.hips_catalog.proofs.tile.seek_among.Goals as goal
+use Rattle.hips_catalog.proofs.tile_rows.search.Goals as goal
 
 was_false : (b : Bool) → not b ≡ true → b ≡ false
 was_false true h = absurd (grind (arith, h))
