@@ -3,8 +3,8 @@
 
     scripts/refused-server.py HIPSD REFUSE_SO
 
-From the server's frame on, each request for memory is refused in a run of its own (refuse-memory.c), and once the first two
-for the frame's buffer. Each connection asks for a pin. check-memory.sh calls this.
+From the server's frame on, each request for memory is refused in a run of its own (refuse-memory.c); the first is for the
+frame's buffer. Each connection asks for a pin. check-memory.sh calls this.
 """
 import os
 import re
@@ -49,7 +49,7 @@ def ask(port):
     return reply.split()[1].decode() if reply else LET_GO
 
 
-def run(server, library, refuse, count):
+def run(server, library, refuse):
     """How many requests were refused, what the two connections were answered, and the status of the server."""
     with tempfile.TemporaryDirectory() as folder:
         survey = Path(folder, "survey")
@@ -61,7 +61,7 @@ def run(server, library, refuse, count):
             process = subprocess.Popen(
                 [server, "serve", "127.0.0.1:0", "2", "1"],
                 cwd=survey,
-                env=os.environ | {"LD_PRELOAD": library, "FROM": str(FROM), "REFUSE": str(refuse), "COUNT": str(count)},
+                env=os.environ | {"LD_PRELOAD": library, "FROM": str(FROM), "REFUSE": str(refuse), "COUNT": "1"},
                 stderr=said,
                 pass_fds=[3],
             )
@@ -78,14 +78,15 @@ def run(server, library, refuse, count):
 def may_be(answers, status):
     """Whether a server that was refused one request may answer and end so."""
     if LET_GO in answers:
-        return status == 11 and answers in ([LET_GO, LET_GO], [SERVED, LET_GO])
+        # the frame of the first connection, the accept of the first or of the second
+        return status == 11 and answers in ([LET_GO, SERVED], [LET_GO, LET_GO], [SERVED, LET_GO])
     return status == 0 and answers.count(REFUSED) <= 1
 
 
 def main(server, library):
     wrong, ends = 0, []
     for refuse in range(1, 1000):
-        refused, answers, status = run(server, library, refuse, 1)
+        refused, answers, status = run(server, library, refuse)
         if not refused:
             break
         ends.append(status)
@@ -95,13 +96,13 @@ def main(server, library):
     if (answers, status) != ([SERVED, SERVED], 0) or 11 not in ends:
         print(f"check-memory: with none refused: {answers}, status {status}; before: {ends}", file=sys.stderr)
         wrong = 1
-    went = run(server, library, 1, 2)
-    if went != (2, [LET_GO, SERVED], 11):
+    went = run(server, library, 1)
+    if went != (1, [LET_GO, SERVED], 11):
         print(f"check-memory: with no frame for the first connection: {went}", file=sys.stderr)
         wrong = 1
     if wrong:
         sys.exit(1)
-    print(f"check-memory: of {len(ends)} requests of a server that were refused, {ends.count(11)} were an accept's, and "
+    print(f"check-memory: of {len(ends)} requests of a server that were refused, {ends.count(11)} ended it by 11, and "
           f"{ends.count(0)} changed no status; a connection without a frame was let go, and the next one served")
 
 
