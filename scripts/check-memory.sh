@@ -12,7 +12,7 @@
 #
 # The server takes two connections, one after another. From its frame on, each request for memory is refused in a run of its
 # own: a connection is served, or it is let go with nothing written and the server ends by 11 and never by 8, since its door
-# hasn't failed. Where the frame isn't to be had twice, the first connection is let go and the second one is served.
+# hasn't failed. If the frame isn't to be had, the first connection is let go and the second one is served.
 #
 # With no programs it proves and builds them, by `rt run`, which leaves them at crates/NAME/out/NAME. Where there is no C
 # compiler or no Python this fails if CI=true, and else says that it was left out.
