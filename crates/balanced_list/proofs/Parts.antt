@@ -2,7 +2,7 @@
 use Rattle.std.proofs.Common.{◌≡◌, ℕ, zero, suc, ◌+◌, ◌-◌, ◌<◌, ◌≤◌, Bool, true, false, cond, List, [], ◌∷◌, ◌++◌, length, refl, sym, ap, ◌∙◌, subst, arith, ◌⊎◌, inl, inr}
 use Rattle.std.specs.Prelude.{slice_set, slice_index_or, slice_get, Option, Some, None}
 use Rattle.std.specs.List.{AllByRecursion as All, insert, remove}
-use Rattle.balanced_list.specs.Search.{leading, HoldsAtFirst}
+use Rattle.balanced_list.specs.Search.{leading, HoldsAtFirst, IsPart}
 
 pub insert_before : {T : Type 0} (l r : List T) (x y : T) (i : ℕ) → i ≤ length l → insert (l ++ x ∷ r) i y ≡ insert l i y ++ x ∷ r
 insert_before [] r x y zero h = refl
@@ -128,25 +128,6 @@ pub leading_off : {T : Type 0} (test : T → Bool) (l r : List T) (x : T) → te
 leading_off test [] r x f = rw f refl
 leading_off test (a ∷ l) r x f = ap (λ n. cond (test a) (n + 1) 0) (leading_off test l r x f)
 
--- the search goes on past the item
-pub place_on : {T : Type 0} (test : T → Bool) (items l r later : List T) (x item : T) (before p : ℕ) → items ≡ l ++ x ∷ r → later ≡ r →
-    item ≡ x → before ≡ length l + 1 → test item ≡ true → (HoldsAtFirst test later → p ≡ leading test later) → HoldsAtFirst test items →
-    before + p ≡ leading test items
-place_on test items l r later x item before p e er ex em t ih h =
-    let whole : HoldsAtFirst test (l ++ x ∷ r) = subst (λ ys. HoldsAtFirst test ys) e h in
-    let a : p ≡ leading test r = subst (λ ys. HoldsAtFirst test ys → p ≡ leading test ys) er ih (first_after test l r x whole) in
-    let b : leading test (l ++ x ∷ r) ≡ length l + 1 + leading test r = leading_on test l r x whole (ap test (sym ex) ∙ t) in
-    let c : leading test items ≡ leading test (l ++ x ∷ r) = ap (leading test) e in
-    omega (arith, a, b, c, em)
-
--- the search goes on before the item
-pub place_off : {T : Type 0} (test : T → Bool) (items l r sooner : List T) (x item : T) (p : ℕ) → items ≡ l ++ x ∷ r → sooner ≡ l →
-    item ≡ x → test item ≡ false → (HoldsAtFirst test sooner → p ≡ leading test sooner) → HoldsAtFirst test items → p ≡ leading test items
-place_off test items l r sooner x item p e el ex f ih h =
-    let whole : HoldsAtFirst test (l ++ x ∷ r) = subst (λ ys. HoldsAtFirst test ys) e h in
-    let a : p ≡ leading test l = subst (λ ys. HoldsAtFirst test ys → p ≡ leading test ys) el ih (first_before test l r x whole) in
-    a ∙ sym (leading_off test l r x (ap test (sym ex) ∙ f)) ∙ ap (leading test) (sym e)
-
 -- ---- what stands where a search ends
 
 get_later : {T : Type 0} (l r : List T) (x : T) (j : ℕ) → slice_get (l ++ x ∷ r) (length l + suc j) ≡ slice_get r j
@@ -155,10 +136,69 @@ get_later (a ∷ l) r x j =
     let e : length (a ∷ l) + suc j ≡ suc (length l + suc j) = omega arith in
     rw e (get_later l r x j)
 
-pub found_on : {T : Type 0} (items l r later : List T) (x : T) (o : Option T) (before p : ℕ) → items ≡ l ++ x ∷ r → later ≡ r → before ≡ length l + 1 →
-    o ≡ slice_get later p → o ≡ slice_get items (before + p)
-found_on items l r later x o before p e er em h =
-    let m : before + p ≡ length l + suc p = omega (arith, em) in
-    h ∙ ap (λ ys. slice_get ys p) er ∙ sym (get_later l r x p) ∙ ap (slice_get (l ++ x ∷ r)) (sym m) ∙ ap (λ ys. slice_get ys (before + p)) (sym e)
+get_before : {T : Type 0} (l r : List T) (x : T) (i : ℕ) → i < length l → slice_get (l ++ x ∷ r) i ≡ slice_get l i
+get_before [] r x i h = absurd (omega (arith, h))
+get_before (a ∷ l) r x zero h = refl
+get_before (a ∷ l) r x (suc i) h = get_before l r x i (omega (arith, h))
+
+get_between : {T : Type 0} (l r : List T) (x : T) → slice_get (l ++ x ∷ r) (length l) ≡ Some x
+get_between [] r x = refl
+get_between (a ∷ l) r x = get_between l r x
+
+get_past : {T : Type 0} (xs : List T) → slice_get xs (length xs) ≡ None
+get_past [] = refl
+get_past (x ∷ xs) = get_past xs
+
+pub joined_length : {T : Type 0} (l r : List T) (x : T) → length (l ++ x ∷ r) ≡ length l + 1 + length r
+joined_length [] r x = omega arith
+joined_length (a ∷ l) r x = let e = joined_length l r x in omega (arith, e)
+
+module _ {T : Type 0} (test : T → Bool) (items : List T) where
+  -- at first the whole list is the part
+  pub whole : IsPart test items 0 items None
+  whole = record {
+    fits = omega arith;
+    is = λ i h. ap (slice_get items) (let e : 0 + i ≡ i = omega arith in e);
+    behind_is = sym (ap (slice_get items) (let e : 0 + length items ≡ length items = omega arith in e) ∙ get_past items);
+    holds = λ h. (h, omega arith);
+  }
+
+  module _ (l r part : List T) (x : T) (before : ℕ) (behind : Option T) (same : part ≡ l ++ x ∷ r) (at : IsPart test items before part behind) where
+    split : IsPart test items before (l ++ x ∷ r) behind
+    split = subst (λ p. IsPart test items before p behind) same at
+
+    -- it goes on behind an item that the test holds at
+    pub to_right : (more : ℕ) → more ≡ length l + 1 → test x ≡ true → IsPart test items (before + more) r behind
+    to_right more m t =
+        let n = joined_length l r x in
+        let f = split.fits in
+        record {
+          fits = omega (arith, n, m, f);
+          is = λ i h.
+              let e : before + more + i ≡ before + (length l + suc i) = omega (arith, m) in
+              ap (slice_get items) e ∙ split.is (length l + suc i) (omega (arith, n, h)) ∙ get_later l r x i;
+          behind_is =
+              let e : before + length (l ++ x ∷ r) ≡ before + more + length r = omega (arith, n, m) in
+              split.behind_is ∙ ap (slice_get items) e;
+          holds = λ h.
+              let held = split.holds h in
+              let e = leading_on test l r x held.0 t in
+              let g = held.1 in
+              (first_after test l r x held.0, omega (arith, e, g, m));
+        }
+
+    -- and else before it
+    pub to_left : test x ≡ false → IsPart test items before l (Some x)
+    to_left f =
+        let n = joined_length l r x in
+        let k = split.fits in
+        record {
+          fits = omega (arith, n, k);
+          is = λ i h. split.is i (omega (arith, n, h)) ∙ get_before l r x i h;
+          behind_is = sym (split.is (length l) (omega (arith, n)) ∙ get_between l r x);
+          holds = λ h.
+              let held = split.holds h in
+              (first_before test l r x held.0, held.1 ∙ ap (λ n. before + n) (leading_off test l r x f));
+        }
 
 pub ruleset parts = (insert_before, insert_after, remove_before, remove_between, remove_after, set_before, set_between, set_after, item_before, item_between, item_after)

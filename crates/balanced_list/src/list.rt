@@ -90,16 +90,8 @@ impl<T: Drop> BalancedList<T> {
         ensures leading { HoldsAtFirst (P.past probe.now) self.now → result ≡ leading (P.past probe.now) self.now }
         ensures within { result ≤ length self.now }
     {
-        match &self.tree {
-            Tree::Empty => 0,
-            Tree::Fork(node) => {
-                if probe.is_past(&node.item) {
-                    node.left.len() + 1 + node.right.place(probe)
-                } else {
-                    node.left.place(probe)
-                }
-            }
-        }
+        let (place, _there) = self.search(probe);
+        place
     }
 
     /// What `place` answers, and the item that stands there, if one does.
@@ -108,20 +100,21 @@ impl<T: Drop> BalancedList<T> {
         ensures within { result.0 ≤ length self.now }
         ensures item { option_copied result.1 ≡ slice_get self.now result.0 }
     {
-        match &self.tree {
-            Tree::Empty => (0, None),
-            Tree::Fork(node) => {
-                if probe.is_past(&node.item) {
-                    let (place, item) = node.right.search(probe);
-                    return (node.left.len() + 1 + place, item);
-                }
-                let (place, item) = node.left.search(probe);
-                if place < node.left.len() {
-                    return (place, item);
-                }
-                (place, Some(&node.item))
+        // For the prover: a length fits 64 bits.
+        let _len = self.len();
+        let mut part = self;
+        let mut before = 0;
+        let mut there = None;
+        'down: while let Tree::Fork(node) = &part.tree {
+            if probe.is_past(&node.item) {
+                before += node.left.len() + 1;
+                part = &node.right;
+            } else {
+                there = Some(&node.item);
+                part = &node.left;
             }
         }
+        (before, there)
     }
 
     /// The items in order.

@@ -1,4 +1,5 @@
 pub mod Order
+pub mod Heads
 pub mod OneMore
 pub mod Places
 pub mod Steps

@@ -7,6 +7,7 @@ pub mod More
 pub mod Parts
 pub mod Reading
 pub mod Rising
+pub mod Heads
 pub mod Rows
 pub mod Texts
 pub mod TileText

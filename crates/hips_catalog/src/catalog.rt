@@ -7,6 +7,7 @@ ghost use Rattle.hips_catalog.specs.Kept.{StandsAt, WouldStandAt};
 ghost use Rattle.hips_catalog.specs.TileText.{tile_text};
 ghost use Rattle.hips_catalog.specs.declared.refusal.InsertRefusal.TheVariants.{Twice, Full};
 
+use crate::named::{After, Named};
 use crate::ranked::Ranked;
 use crate::refusal::InsertRefusal;
 use crate::rise::rise;
@@ -15,7 +16,7 @@ use crate::sink::{cell_of, sink};
 use crate::text::text_of;
 use crate::tile::{Tile, Tiles, rows};
 use crate::tile_rows::TileRows;
-use balanced_list::{BalancedList, Item, Probe};
+use balanced_list::{BalancedList, Item};
 use healpix_nested::Cell;
 use std::alloc::{AllocError, Global};
 use std::marker::Model;
@@ -24,25 +25,10 @@ use std::sync::Arc;
 /// The most rows that a catalogue has.
 pub const MOST_ROWS: usize = 1_000_000;
 
-// Whether the place of an id lies after a row.
-#[derive(Drop)]
-struct After<'a>(&'a [u8]);
-
-impl<'a> Probe<Arc<Row>> for After<'a> {
-    ghost use Rattle.std.specs.Arc.{arc_value};
-    ghost use Rattle.hips_catalog.specs.Rows.{has_id_below};
-
-    ghost past = { λ s row. has_id_below (arc_value row) s.0.now };
-
-    fn is_past(&self, row: &Arc<Row>) -> bool {
-        row.is_before(self.0)
-    }
-}
-
 // A row that can be put in without memory: its place among the ids, that in a tile, and a tile for it.
 #[derive(Drop)]
 struct Ready {
-    listed: Item<Arc<Row>>,
+    listed: Item<Named>,
     placed: Item<Ranked>,
     spare: Item<Tile>,
 }
@@ -56,7 +42,7 @@ pub struct Catalog {
     top: u8,
     per_tile: usize,
     // By ascending ids.
-    ids: BalancedList<Arc<Row>>,
+    ids: BalancedList<Named>,
     tiles: Tiles,
 }
 
@@ -134,7 +120,7 @@ impl Catalog {
         match self.find(id) {
             Ok(at) => {
                 let row = self.ids.remove(at);
-                rise(&mut self.tiles, self.top, self.per_tile, row.item());
+                rise(&mut self.tiles, self.top, self.per_tile, row.item().row());
                 Ok(true)
             }
             Err(_) => Ok(false),
@@ -200,7 +186,7 @@ impl Catalog {
         let spare = Item::new(self.alloc, tile)?;
         let row = Arc::new(self.alloc, row)?;
         Ok(Ready {
-            listed: Item::new(self.alloc, row.clone()?)?,
+            listed: Item::new(self.alloc, Named::new(row.clone()?))?,
             placed: Item::new(self.alloc, Ranked::new(row))?,
             spare,
         })
@@ -211,9 +197,15 @@ impl Catalog {
         ensures there { IfOk result (λ at. StandsAt id.now self.now.rows at) }
         ensures absent { IfErr result (λ at. WouldStandAt id.now self.now.rows at) }
     {
-        let (at, there) = self.ids.search(&After(id));
+        let (at, there) = self.ids.search(&After::new(id));
         match there {
-            Some(row) => { if row.id() == id { Ok(at) } else { Err(at) } }
+            Some(row) => {
+                if row.row().id() == id {
+                    Ok(at)
+                } else {
+                    Err(at)
+                }
+            }
             None => Err(at),
         }
     }

@@ -8,6 +8,7 @@
 mod catalog;
 mod fault;
 pub mod laws;
+mod named;
 mod ranked;
 mod read;
 mod refusal;

@@ -10,7 +10,6 @@ use Rattle.survey_link.specs.Link.{Rises}
 use Rattle.edit_journal.specs.Leaves.{LeafTiles}
 use Rattle.http_frame.specs.Next.{IsWhole}
 use Rattle.http_frame.specs.declared.stop.Turn.TheVariants.{AtHead}
-use Rattle.http_frame.specs.Frame.{FrameState, unread}
 use Rattle.survey_core.specs.History.{SurveyState, IsHistory}
 use Rattle.survey_core.specs.HistoryLaws.{begins_trans, history_some}
 use Rattle.reader_pin.specs.Board.{BoardContent, IsOwned, holding_none}
@@ -22,11 +21,12 @@ use Rattle.hips_http.specs.declared.served.SessionEnd.TheVariants as end
 use Rattle.hips_http.specs.Paths.{call_of}
 use Rattle.hips_http.specs.Replies.{Answer, output_of, refusal_bytes}
 use Rattle.hips_http.specs.Answers.{Asking, Point, Asked, asked_put, asked_delete, asked_batch, Changes, Answers}
-use Rattle.hips_http.specs.SessionRun.{AreRequests, AreAnswered, IsOutput, closes, room_of, most_requests, first_point, GoOn, BreaksOff, BreaksInRefusal, BreaksInLeave, told_bytes, Ends, HandsAllOn, KeepsStates, HandsOn, HandsOnAll, IsServed, Goes}
-use Rattle.hips_http.specs.Progress.{IsAt, Serving, IsServedOne, BreaksOne, StopsOne, EndsOne, IsBegunAt, LeavesPart, Progress, Going, HasHandedOn, wants_after}
+use Rattle.hips_http.specs.Moment.{Input, Output, Moment, moment, unread_of, NeverFalls}
+use Rattle.hips_http.specs.SessionRun.{Exchange, AreRequests, AreAnswered, IsOutput, closes, room_of, most_requests, first_point, GoOn, EndsWith, BreaksOff, BreaksInRefusal, BreaksInLeave, told_bytes, Ends, HandsAllOn, KeepsStates, HandsOn, HandsOnAll, Goes}
+use Rattle.hips_http.specs.Progress.{IsAt, Serving, IsServedOne, BreaksOne, StopsOne, EndsOne, IsBegunAt, LeavesPart, Progress, Going, HasHandedOn, wants_after, ServesOne, IsServedTo, ServesAll}
 use Rattle.hips_http.proofs.Runs.{answered_more, answered_push, requests_push}
 use Rattle.hips_http.proofs.Truncated.{requests_front}
-use Rattle.hips_http.proofs.Steps.{appends_trans, split_of}
+use Rattle.hips_http.proofs.Steps.{appends_trans, split_of, rises_from}
 use Rattle.hips_http.proofs.HandedOn.{HandsMore, hands_all, hands_all_on, has_handed_all, hands_before}
 use Rattle.hips_http.proofs.Whole.{appends_nothing, begins_same}
 
@@ -59,24 +59,25 @@ taken_more room (Some all) (Some after) None requests request taken whole = absu
 taken_more room (Some all) (Some after) (Some more) requests request taken whole = requests_push room all requests after request more taken whole
 
 -- the progress with one request more
-pub record Pushed (old now : BoardContent) (first_steps steps count wants : ℕ) (bytes bytes' : Option (List ℕ)) (requests : List Asking) (outputs : List (List ℕ)) (request : Asking) (output : List ℕ) : Type 0 where
-  pub next : Progress old now first_steps steps (count + 1) wants bytes bytes'
+record Pushed (count : ℕ) (first now : Moment) (requests : List Asking) (outputs : List (List ℕ)) (request : Asking) (output : List ℕ) : Type 0 where
+  pub next : Progress (count + 1) first now
   pub requests_are : next.requests ≡ requests ++ request ∷ []
   pub outputs_are : next.outputs ≡ outputs ++ output ∷ []
 
-pub push : (old now new : BoardContent) (first_steps steps steps' count wants wants' : ℕ) (b b1 b2 : Option (List ℕ)) (p : Progress old now first_steps steps count wants b b1)
-    (request : Asking) (answer : Answer) → Serving now new steps steps' b1 b2 request answer → wants' ≡ wants_after wants answer
-    → Pushed old new first_steps steps' count wants' b b2 p.requests p.outputs request (output_of (closes count request) request.asked answer)
-push old now new first_steps steps steps' count wants wants' b b1 b2 p request answer s want =
-    let sv = s.serves.at_each old.own first_steps wants p.last p.at in
-    let conf : new.conf ≡ now.conf = s.serves.conf in
-    let opening : new.opening ≡ now.opening = s.serves.opening in
-    let earlier : AreAnswered now.conf now.opening new.history 0 (first_point old.history) p.requests p.last p.outputs
-    = answered_more now.conf now.opening now.history new.history s.serves.begins 0 (first_point old.history) p.requests p.last p.outputs p.answered in
-    let here : AreAnswered new.conf new.opening new.history 0 (first_point old.history) p.requests p.last p.outputs
-    = subst (λ (c : Description). AreAnswered c new.opening new.history 0 (first_point old.history) p.requests p.last p.outputs) (sym conf)
-    (subst (λ (l : LeafTiles). AreAnswered now.conf l new.history 0 (first_point old.history) p.requests p.last p.outputs) (sym opening) earlier) in
-    let one : IsOutput new.conf new.opening new.history count request p.last sv.after (output_of (closes count request) request.asked answer) = record {
+push : (count : ℕ) (first now new : Moment) (p : Progress count first now) (request : Asking) (answer : Answer) → Serving now new request answer → new.wants ≡ wants_after now.wants answer
+    → Pushed count first new p.requests p.outputs request (output_of (closes count request) request.asked answer)
+push count first now new p request answer s want =
+    let sv = s.serves.at_each first.board.own first.steps now.wants p.last p.at in
+    let conf : new.board.conf ≡ now.board.conf = s.serves.conf in
+    let opening : new.board.opening ≡ now.board.opening = s.serves.opening in
+    let states = first.board.history in
+    let output = output_of (closes count request) request.asked answer in
+    let earlier : AreAnswered now.board.conf now.board.opening new.board.history 0 (first_point states) p.requests p.last p.outputs
+    = answered_more now.board.conf now.board.opening now.board.history new.board.history s.serves.begins 0 (first_point states) p.requests p.last p.outputs p.answered in
+    let here : AreAnswered new.board.conf new.board.opening new.board.history 0 (first_point states) p.requests p.last p.outputs
+    = subst (λ (c : Description). AreAnswered c new.board.opening new.board.history 0 (first_point states) p.requests p.last p.outputs) (sym conf)
+    (subst (λ (l : LeafTiles). AreAnswered now.board.conf l new.board.history 0 (first_point states) p.requests p.last p.outputs) (sym opening) earlier) in
+    let one : IsOutput new.board.conf new.board.opening new.board.history count request p.last sv.after output = record {
       answer = answer;
       answered = record {
         kind = s.kind;
@@ -94,17 +95,17 @@ push old now new first_steps steps steps' count wants wants' b b1 b2 p request a
         conf = conf ∙ p.conf;
         opening = opening ∙ p.opening;
         legal = s.serves.legal;
-        begins = begins_trans old.history now.history new.history p.begins s.serves.begins;
-        seat = keeps_trans old now new p.seat s.serves.seat;
+        begins = begins_trans first.board.history now.board.history new.board.history p.begins s.serves.begins;
+        seat = keeps_trans first.board now.board new.board p.seat s.serves.seat;
         requests = p.requests ++ request ∷ [];
-        outputs = p.outputs ++ output_of (closes count request) request.asked answer ∷ [];
+        outputs = p.outputs ++ output ∷ [];
         last = sv.after;
         count_is = length-append p.requests (request ∷ []) ∙ ap (λ n. n + 1) count_is;
-        few = (let few = p.few in let one_more = own_one new.conf new.opening new.history request (call_of request.asked.method s.kind) p.last sv.after answer sv.answers in omega arith);
-        at = subst (λ (n : ℕ). IsAt old.own first_steps new steps' n sv.after) (sym want) sv.at;
-        answered = answered_push new.conf new.opening new.history 0 count (first_point old.history) p.requests p.last p.outputs request sv.after (output_of (closes count request) request.asked answer)
-            (omega (arith, count_is)) here one;
-        taken = taken_more (room_of new.conf) b b1 b2 p.requests request (subst (λ (c : Description). IfSome b (λ all. IsSomeAnd b1 (λ rest. AreRequests (room_of c) all p.requests rest))) (sym conf) p.taken) s.whole;
+        few = (let few = p.few in let one_more = own_one new.board.conf new.board.opening new.board.history request (call_of request.asked.method s.kind) p.last sv.after answer sv.answers in omega arith);
+        at = subst (λ (n : ℕ). IsAt first.board.own first.steps new.board new.steps n sv.after) (sym want) sv.at;
+        answered = answered_push new.board.conf new.board.opening new.board.history 0 count (first_point states) p.requests p.last p.outputs request sv.after output (omega (arith, count_is)) here one;
+        taken = taken_more (room_of new.board.conf) first.input.left (unread_of now.input) (unread_of new.input) p.requests request
+            (subst (λ (c : Description). IfSome first.input.left (λ all. IsSomeAnd (unread_of now.input) (λ rest. AreRequests (room_of c) all p.requests rest))) (sym conf) p.taken) s.whole;
       };
       requests_are = refl;
       outputs_are = refl;
@@ -114,16 +115,15 @@ concat-push : (outputs : List (List ℕ)) (output : List ℕ) → concat (output
 concat-push [] output = append-nil output
 concat-push (x ∷ xs) output = ap (λ (b : List ℕ). x ++ b) (concat-push xs output) ∙ sym (append_assoc x (concat xs) output)
 
-pub goes_on : (old now new : BoardContent) (first_steps steps steps' count wants wants' : ℕ) (b b1 b2 w w1 w2 h0 h1 h2 : Option (List ℕ)) → Going old now first_steps steps count wants b b1 w w1 h0 h1
-    → IsServedOne count now new steps steps' wants wants' b1 b2 w1 w2 false → h2 ≡ w2 → Going old new first_steps steps' (count + 1) wants' b b2 w w2 h0 h2
-goes_on old now new first_steps steps steps' count wants wants' b b1 b2 w w1 w2 h0 h1 h2 g s on =
+goes_on : (count : ℕ) (first now new : Moment) → Going count first now → IsServedOne count now new false → new.output.handed_on ≡ new.output.held → Going (count + 1) first new
+goes_on count first now new g s on =
     let p = g.progress in
     let out = output_of (closes count s.request) s.request.asked s.answer in
-    let pushed = push old now new first_steps steps steps' count wants wants' b b1 b2 p s.request s.answer s.serving s.wants_is in
+    let pushed = push count first now new p s.request s.answer s.serving s.wants_is in
     record {
       progress = pushed.next;
       none_closes = rw pushed.requests_are (All-push (λ (r : Asking). r.asked.close ≡ false) p.requests s.request g.none_closes (sym s.closed_is));
-      written_is = rw pushed.outputs_are (rw (concat-push p.outputs out) (appends_trans w w1 w2 (concat p.outputs) out g.written_is s.sent));
+      written_is = rw pushed.outputs_are (rw (concat-push p.outputs out) (appends_trans first.output.held now.output.held new.output.held (concat p.outputs) out g.written_is s.sent));
       handed_is = inr on;
     }
 
@@ -137,45 +137,40 @@ all_told : (room : ℕ) (b b1 : Option (List ℕ)) → b1 ≡ b → IfSome b (λ
 all_told room None b1 same = tt
 all_told room (Some all) b1 same = rw same refl
 
-pub begins_going : (old now : BoardContent) (steps : ℕ) (frame : FrameState) (left w h : Option (List ℕ)) → now ≡ holding_none old → IsHistory now.opening now.history → IsOwned now → frame.held ≡ []
-    → Going old now steps steps 0 0 left (unread frame left) w w h h
-begins_going old now steps frame left w h is legal owned empty =
-    let history : now.history ≡ old.history = ap (λ b. b.history) is in
-    let some : 0 < length now.history = history_some now.opening now.history legal in
-    let same : unread frame left ≡ left = ap (λ (held : List ℕ). prepend_known held left) empty ∙ unread_all left in
-    let own : now.own ≡ old.own = ap (λ b. b.own) is in
+begins_going : (first : Moment) → first.board ≡ holding_none first.board → IsHistory first.board.opening first.board.history → IsOwned first.board → first.input.frame.held ≡ [] → first.wants ≡ 0 → Going 0 first first
+begins_going first is legal owned empty none_wanted =
+    let board = first.board in
+    let some : 0 < length board.history = history_some board.opening board.history legal in
+    let same : unread_of first.input ≡ first.input.left = ap (λ (held : List ℕ). prepend_known held first.input.left) empty ∙ unread_all first.input.left in
     record {
       progress = record {
-        conf = ap (λ b. b.conf) is;
-        opening = ap (λ b. b.opening) is;
+        conf = refl;
+        opening = refl;
         legal = legal;
-        begins = begins_same old.history now.history history;
-        seat = keeps_holding_none old now is owned;
+        begins = begins_same board.history board.history refl;
+        seat = keeps_holding_none board board is owned;
         requests = [];
         outputs = [];
-        last = first_point old.history;
+        last = first_point board.history;
         count_is = refl;
         few = omega arith;
         at = record {
-          within = rw (← history) (omega arith);
-          held = ap (λ b. b.held) is;
-          own_is = own ∙ sym (append-nil old.own);
+          within = omega (arith, some);
+          held = ap (λ (b : BoardContent). b.held) is;
+          own_is = sym (append-nil board.own);
           own_seen = λ k d h. absurd (omega arith);
-          wants_is = refl;
+          wants_is = none_wanted;
           steps_are = λ _. omega arith;
         };
         answered = (refl, refl);
-        taken = all_told (room_of now.conf) left (unread frame left) same;
+        taken = all_told (room_of board.conf) first.input.left (unread_of first.input) same;
       };
       none_closes = λ k d h. absurd (omega arith);
-      written_is = appends_nothing w;
+      written_is = appends_nothing first.output.held;
       handed_is = inl (refl, refl, refl);
     }
 
 -- ---- the end
-
-pub rises_from : (first old new : ℕ) → first ≤ old → Rises old new → Rises first new
-rises_from first old new h r = omega arith
 
 -- an option of which something is known is there
 record There (o : Option (List ℕ)) (P : List ℕ → Type 0) : Type 0 where
@@ -203,46 +198,43 @@ appends_end a b c x h k = subst (λ (bytes : List ℕ). Appends a c bytes) (appe
 abbrev going_on : List Asking → Type 0
 going_on requests = All (λ request. request.asked.close ≡ false) requests
 
-module _ (old now : BoardContent) (first_steps steps count wants : ℕ) (input : List ℕ) (b1 left w w2 h0 h2 : Option (List ℕ)) (sf sf2 kf kf2 : ℕ)
-    (p : Progress old now first_steps steps count wants (Some input) b1) (read rest : List ℕ) (input_is : input ≡ read ++ rest) (left_is : left ≡ Some rest) where
-  served_by : (ended : SessionEnd) (out passed : List ℕ) → Appends w w2 out → HandsOn w h0 h2 passed → KeepsStates ended old.history now.history → (r : List ℕ)
-      → AreRequests (room_of now.conf) (told_bytes ended (record {
-        read = read;
-        left = rest;
-        written = out;
-        handed_on = passed;
-        source_faults = sf;
-        source_faults_then = sf2;
-        sink_faults = kf;
-        sink_faults_then = kf2;
-      })) p.requests r
-      → Ends ended (room_of now.conf) p.requests r p.outputs (record {
-        read = read;
-        left = rest;
-        written = out;
-        handed_on = passed;
-        source_faults = sf;
-        source_faults_then = sf2;
-        sink_faults = kf;
-        sink_faults_then = kf2;
-      })
-      → HandsAllOn ended (record {
-        read = read;
-        left = rest;
-        written = out;
-        handed_on = passed;
-        source_faults = sf;
-        source_faults_then = sf2;
-        sink_faults = kf;
-        sink_faults_then = kf2;
-      })
-      → IsServed old now input left w w2 h0 h2 sf sf2 kf kf2 first_steps steps (record { end = ended; wants = wants })
+-- what was taken so far of the bytes that the source had
+taken_at : (count : ℕ) (first now : Moment) (p : Progress count first now) (bytes : List ℕ) → first.input.left ≡ Some bytes
+    → There (unread_of now.input) (λ rest. AreRequests (room_of now.board.conf) bytes p.requests rest)
+taken_at count first now p bytes is =
+    there_of (λ rest. AreRequests (room_of now.board.conf) bytes p.requests rest) (unread_of now.input)
+    (told_at (λ all. IsSomeAnd (unread_of now.input) (λ rest. AreRequests (room_of now.board.conf) all p.requests rest)) first.input.left bytes is p.taken)
+
+-- what holds of the bytes of an option, where there are some
+known : (P : List ℕ → Type 0) (o : Option (List ℕ)) → ((bytes : List ℕ) → o ≡ Some bytes → P bytes) → IfSome o P
+known P None h = tt
+known P (Some bytes) h = h bytes refl
+
+-- its exchange
+abbrev told_as : Moment → Input → Output → List ℕ → List ℕ → List ℕ → List ℕ → Exchange
+told_as first input output read rest out passed = record {
+  read = read;
+  left = rest;
+  written = out;
+  handed_on = passed;
+  source_faults = first.input.faults;
+  source_faults_then = input.faults;
+  sink_faults = first.output.faults;
+  sink_faults_then = output.faults;
+}
+
+-- the requests were answered by `now`, and these are the ends then
+module _ (count : ℕ) (first now : Moment) (input : Input) (output : Output) (p : Progress count first now) (bytes read rest : List ℕ) (bytes_are : bytes ≡ read ++ rest) (left_is : input.left ≡ Some rest) where
+  served_by : (ended : SessionEnd) (out passed : List ℕ) → Appends first.output.held output.held out → HandsOn first.output.held first.output.handed_on output.handed_on passed
+      → KeepsStates ended first.board.history now.board.history → (r : List ℕ) → AreRequests (room_of now.board.conf) (told_bytes ended (told_as first input output read rest out passed)) p.requests r
+      → Ends ended (room_of now.board.conf) p.requests r p.outputs (told_as first input output read rest out passed) → HandsAllOn ended (told_as first input output read rest out passed)
+      → IsServedTo first (moment input output now.board now.steps now.wants) ended bytes
   served_by ended out passed appended on keeps r are ends all_on = record {
     read = read;
     rest = rest;
     out = out;
     own = p.last.own;
-    input_is = input_is;
+    input_is = bytes_are;
     left_is = left_is;
     appended = appended;
     passed = passed;
@@ -267,8 +259,8 @@ module _ (old now : BoardContent) (first_steps steps count wants : ℕ) (input :
   }
 
   -- all that is told of the whole input
-  whole_input : (r : List ℕ) → AreRequests (room_of now.conf) input p.requests r → AreRequests (room_of now.conf) (read ++ rest) p.requests r
-  whole_input r are = subst (λ (all : List ℕ). AreRequests (room_of now.conf) all p.requests r) input_is are
+  whole_input : (r : List ℕ) → AreRequests (room_of now.board.conf) bytes p.requests r → AreRequests (room_of now.board.conf) (read ++ rest) p.requests r
+  whole_input r are = subst (λ (all : List ℕ). AreRequests (room_of now.board.conf) all p.requests r) bytes_are are
 
 begun_ends : (room : ℕ) (r : List ℕ) (outputs : List (List ℕ)) (begun out passed : List ℕ) → IsBegunAt room r begun → BreaksOff outputs begun out passed
     → BreaksInRefusal room r outputs out passed ⊎ BreaksInLeave room r outputs out passed
@@ -277,58 +269,57 @@ begun_ends room r outputs begun out passed (inr l) broken =
     inr (record { asked = l.asked; path = l.path; after = l.after; head = l.head; waits = l.waits; broken = subst (λ (b : List ℕ). BreaksOff outputs b out passed) l.begun_is broken })
 
 -- no request was answered in its place
-module _ (old now : BoardContent) (first_steps steps count wants : ℕ) (input : List ℕ) (b1 left w w1 w2 h0 h1 h2 : Option (List ℕ)) (sf sf2 kf kf2 : ℕ)
-    (p : Progress old now first_steps steps count wants (Some input) b1) (open_all : going_on p.requests) (written : Appends w w1 (concat p.outputs))
-    (before : HasHandedOn p.outputs w w1 h0 h1) (few : count < most_requests) where
+module _ (count : ℕ) (first now : Moment) (input : Input) (output : Output) (p : Progress count first now) (bytes : List ℕ) (open_all : going_on p.requests)
+    (written : Appends first.output.held now.output.held (concat p.outputs)) (before : HasHandedOn p.outputs first.output.held now.output.held first.output.handed_on now.output.handed_on) (few : count < most_requests) where
   goes : GoOn p.requests
   goes = record { none_closes = open_all; few = (let c = p.count_is in omega (arith, c)) }
 
-  unanswered_at : (ended : SessionEnd) (r : List ℕ) → AreRequests (room_of now.conf) input p.requests r → EndsOne ended (room_of now.conf) r left w1 w2 → LeavesPart r left
-      → (ended ≡ end.ReadFault → Rises sf sf2) → (ended ≡ end.WriteFault → Rises kf kf2)
-      → (¬ (ended ≡ end.WriteFault) → HandsOnAll w1 w2 h1 h2) → (ended ≡ end.WriteFault → HandsMore w1 h1 h2)
-      → IsServed old now input left w w2 h0 h2 sf sf2 kf kf2 first_steps steps (record { end = ended; wants = wants })
+  unanswered_at : (ended : SessionEnd) (r : List ℕ) → AreRequests (room_of now.board.conf) bytes p.requests r → EndsOne ended (room_of now.board.conf) r input.left now.output.held output.held → LeavesPart r input.left
+      → (ended ≡ end.ReadFault → Rises first.input.faults input.faults) → (ended ≡ end.WriteFault → Rises first.output.faults output.faults)
+      → (¬ (ended ≡ end.WriteFault) → HandsOnAll now.output.held output.held now.output.handed_on output.handed_on) → (ended ≡ end.WriteFault → HandsMore now.output.held now.output.handed_on output.handed_on)
+      → IsServedTo first (moment input output now.board now.steps now.wants) ended bytes
   unanswered_at end.Closed r are ends part reads writes all more =
-      let f = front_part (room_of now.conf) input p.requests r are left part in
-      served_by old now first_steps steps count wants input b1 left w w2 h0 h2 sf sf2 kf kf2 p f.gone f.rest f.all_is f.left_is end.Closed (concat p.outputs) (concat p.outputs) (appends_end w w1 w2 (concat p.outputs) written ends.1)
-      (hands_all w w2 h0 h2 (concat p.outputs) (appends_end w w1 w2 (concat p.outputs) written ends.1) (hands_all_on p.outputs w w1 w2 h0 h1 h2 before (all (λ is. cc)))) tt r
-      (whole_input old now first_steps steps count wants input b1 left w w2 h0 h2 sf sf2 kf kf2 p f.gone f.rest f.all_is f.left_is r are) (goes, ends.0, refl) refl
+      let f = front_part (room_of now.board.conf) bytes p.requests r are input.left part in
+      served_by count first now input output p bytes f.gone f.rest f.all_is f.left_is end.Closed (concat p.outputs) (concat p.outputs) (appends_end first.output.held now.output.held output.held (concat p.outputs) written ends.1)
+      (hands_all first.output.held output.held first.output.handed_on output.handed_on (concat p.outputs) (appends_end first.output.held now.output.held output.held (concat p.outputs) written ends.1) (hands_all_on p.outputs first.output.held now.output.held output.held first.output.handed_on now.output.handed_on output.handed_on before (all (λ is. cc)))) tt r
+      (whole_input count first now input output p bytes f.gone f.rest f.all_is f.left_is r are) (goes, ends.0, refl) refl
   unanswered_at (end.Refused code) r are ends part reads writes all more =
-      let f = front_part (room_of now.conf) input p.requests r are left part in
-      served_by old now first_steps steps count wants input b1 left w w2 h0 h2 sf sf2 kf kf2 p f.gone f.rest f.all_is f.left_is (end.Refused code) (concat p.outputs ++ refusal_bytes code) (concat p.outputs ++ refusal_bytes code)
-      (appends_trans w w1 w2 (concat p.outputs) (refusal_bytes code) written ends.1)
-      (hands_all w w2 h0 h2 (concat p.outputs ++ refusal_bytes code) (appends_trans w w1 w2 (concat p.outputs) (refusal_bytes code) written ends.1) (hands_all_on p.outputs w w1 w2 h0 h1 h2 before (all (λ is. cc)))) tt r
-      (whole_input old now first_steps steps count wants input b1 left w w2 h0 h2 sf sf2 kf kf2 p f.gone f.rest f.all_is f.left_is r are) (goes, ends.0, refl) refl
+      let f = front_part (room_of now.board.conf) bytes p.requests r are input.left part in
+      served_by count first now input output p bytes f.gone f.rest f.all_is f.left_is (end.Refused code) (concat p.outputs ++ refusal_bytes code) (concat p.outputs ++ refusal_bytes code)
+      (appends_trans first.output.held now.output.held output.held (concat p.outputs) (refusal_bytes code) written ends.1)
+      (hands_all first.output.held output.held first.output.handed_on output.handed_on (concat p.outputs ++ refusal_bytes code) (appends_trans first.output.held now.output.held output.held (concat p.outputs) (refusal_bytes code) written ends.1) (hands_all_on p.outputs first.output.held now.output.held output.held first.output.handed_on now.output.handed_on output.handed_on before (all (λ is. cc)))) tt r
+      (whole_input count first now input output p bytes f.gone f.rest f.all_is f.left_is r are) (goes, ends.0, refl) refl
   unanswered_at end.Cut r are ends part reads writes all more =
-      let f = front_part (room_of now.conf) input p.requests r are left part in
-      served_by old now first_steps steps count wants input b1 left w w2 h0 h2 sf sf2 kf kf2 p f.gone f.rest f.all_is f.left_is end.Cut (concat p.outputs ++ ends.0) (concat p.outputs ++ ends.0)
-      (appends_trans w w1 w2 (concat p.outputs) ends.0 written ends.2)
-      (hands_all w w2 h0 h2 (concat p.outputs ++ ends.0) (appends_trans w w1 w2 (concat p.outputs) ends.0 written ends.2) (hands_all_on p.outputs w w1 w2 h0 h1 h2 before (all (λ is. cc)))) tt r
-      (whole_input old now first_steps steps count wants input b1 left w w2 h0 h2 sf sf2 kf kf2 p f.gone f.rest f.all_is f.left_is r are) (goes, (ends.0, ends.1, refl)) refl
+      let f = front_part (room_of now.board.conf) bytes p.requests r are input.left part in
+      served_by count first now input output p bytes f.gone f.rest f.all_is f.left_is end.Cut (concat p.outputs ++ ends.0) (concat p.outputs ++ ends.0)
+      (appends_trans first.output.held now.output.held output.held (concat p.outputs) ends.0 written ends.2)
+      (hands_all first.output.held output.held first.output.handed_on output.handed_on (concat p.outputs ++ ends.0) (appends_trans first.output.held now.output.held output.held (concat p.outputs) ends.0 written ends.2) (hands_all_on p.outputs first.output.held now.output.held output.held first.output.handed_on now.output.handed_on output.handed_on before (all (λ is. cc)))) tt r
+      (whole_input count first now input output p bytes f.gone f.rest f.all_is f.left_is r are) (goes, (ends.0, ends.1, refl)) refl
   unanswered_at end.ReadFault r are ends part reads writes all more =
-      let t = there_of _ left ends in
+      let t = there_of _ input.left ends in
       let h = t.holds in
-      let f = requests_front (room_of now.conf) input p.requests h.read t.bytes (subst (λ (b : List ℕ). AreRequests (room_of now.conf) input p.requests b) h.all_is are) in
-      served_by old now first_steps steps count wants input b1 left w w2 h0 h2 sf sf2 kf kf2 p f.front t.bytes f.all_is t.is end.ReadFault (concat p.outputs ++ h.extra) (concat p.outputs ++ h.extra)
-      (appends_trans w w1 w2 (concat p.outputs) h.extra written h.appended)
-      (hands_all w w2 h0 h2 (concat p.outputs ++ h.extra) (appends_trans w w1 w2 (concat p.outputs) h.extra written h.appended) (hands_all_on p.outputs w w1 w2 h0 h1 h2 before (all (λ is. cc)))) tt h.read f.holds (goes, reads refl, (h.extra, h.ends, refl)) refl
+      let f = requests_front (room_of now.board.conf) bytes p.requests h.read t.bytes (subst (λ (b : List ℕ). AreRequests (room_of now.board.conf) bytes p.requests b) h.all_is are) in
+      served_by count first now input output p bytes f.front t.bytes f.all_is t.is end.ReadFault (concat p.outputs ++ h.extra) (concat p.outputs ++ h.extra)
+      (appends_trans first.output.held now.output.held output.held (concat p.outputs) h.extra written h.appended)
+      (hands_all first.output.held output.held first.output.handed_on output.handed_on (concat p.outputs ++ h.extra) (appends_trans first.output.held now.output.held output.held (concat p.outputs) h.extra written h.appended) (hands_all_on p.outputs first.output.held now.output.held output.held first.output.handed_on now.output.handed_on output.handed_on before (all (λ is. cc)))) tt h.read f.holds (goes, reads refl, (h.extra, h.ends, refl)) refl
   unanswered_at end.WriteFault r are ends part reads writes all more =
-      let f = front_part (room_of now.conf) input p.requests r are left part in
+      let f = front_part (room_of now.board.conf) bytes p.requests r are input.left part in
       let k = ends.2 in
       let out = concat p.outputs ++ k.part in
-      let on = hands_before p.outputs w w1 h0 h1 h2 written before (more refl) in
+      let on = hands_before p.outputs first.output.held now.output.held first.output.handed_on now.output.handed_on output.handed_on written before (more refl) in
       let broken : BreaksOff p.outputs ends.0 out on.passed = record { part = k.part; left = k.left; begun_is = k.begun_is; out_is = refl; more = on.more; handed_is = on.passed_is } in
-      served_by old now first_steps steps count wants input b1 left w w2 h0 h2 sf sf2 kf kf2 p f.gone f.rest f.all_is f.left_is end.WriteFault out on.passed
-      (appends_trans w w1 w2 (concat p.outputs) k.part written k.appended) on.on tt r
-      (whole_input old now first_steps steps count wants input b1 left w w2 h0 h2 sf sf2 kf kf2 p f.gone f.rest f.all_is f.left_is r are)
-      (writes refl, inr (goes, begun_ends (room_of now.conf) r p.outputs ends.0 out on.passed ends.1 broken)) tt
+      served_by count first now input output p bytes f.gone f.rest f.all_is f.left_is end.WriteFault out on.passed
+      (appends_trans first.output.held now.output.held output.held (concat p.outputs) k.part written k.appended) on.on tt r
+      (whole_input count first now input output p bytes f.gone f.rest f.all_is f.left_is r are)
+      (writes refl, inr (goes, begun_ends (room_of now.board.conf) r p.outputs ends.0 out on.passed ends.1 broken)) tt
   unanswered_at end.Asked r are ends part reads writes all more = absurd ends
   unanswered_at end.Spent r are ends part reads writes all more = absurd ends
   unanswered_at end.OutOfMemory r are ends part reads writes all more = absurd ends
 
 -- ---- what is true of it always
 
-pub goes_of : (old now : BoardContent) (first_steps steps count wants : ℕ) (b b1 : Option (List ℕ)) → count ≤ most_requests → Progress old now first_steps steps count wants b b1 → Goes old now
-goes_of old now first_steps steps count wants b b1 few p = record {
+goes_of : (count : ℕ) (first now : Moment) → count ≤ most_requests → Progress count first now → Goes first.board now.board
+goes_of count first now few p = record {
   conf = p.conf;
   opening = p.opening;
   legal = p.legal;
@@ -340,168 +331,207 @@ goes_of old now first_steps steps count wants b b1 few p = record {
 }
 
 -- how a connection ended
-pub record Ended (old now : BoardContent) (first_steps steps : ℕ) (b left w w2 h0 h2 : Option (List ℕ)) (sf sf2 kf kf2 wants : ℕ) (ended : SessionEnd) : Type 0 where
-  pub goes : Goes old now
-  pub served : IfSome b (λ input. IsServed old now input left w w2 h0 h2 sf sf2 kf kf2 first_steps steps (record { end = ended; wants = wants }))
+record Ended (first last : Moment) (ended : SessionEnd) : Type 0 where
+  pub goes : Goes first.board last.board
+  pub served : IfSome first.input.left (IsServedTo first last ended)
 
--- in the reply to a request that was answered
-module _ (old now new : BoardContent) (first_steps steps steps' count wants wants' : ℕ) (left w w1 w2 h0 h1 h2 : Option (List ℕ)) (sf sf2 kf kf2 : ℕ) (few : count < most_requests) where
-  broken_served : (b b1 b2 : Option (List ℕ)) (g : Going old now first_steps steps count wants b b1 w w1 h0 h1) → BreaksOne count now new steps steps' wants wants' b1 b2 w1 w2 → IfSome b1 (λ all. LeavesPart all left)
-      → Rises kf kf2 → HandsMore w1 h1 h2 → Ended old new first_steps steps' b left w w2 h0 h2 sf sf2 kf kf2 wants' end.WriteFault
-  broken_served b b1 b2 g s part rises more =
+module _ (count : ℕ) (first now new : Moment) (few : count < most_requests) (g : Going count first now) where
+  -- the first of the bytes that the source had were taken
+  front_at : IfSome (unread_of now.input) (λ all. LeavesPart all new.input.left) → (bytes : List ℕ) → first.input.left ≡ Some bytes → LeavesPart bytes new.input.left
+  front_at part bytes is =
+      let before = taken_at count first now g.progress bytes is in
+      front_part (room_of now.board.conf) bytes g.progress.requests before.bytes before.holds new.input.left (told_at (λ all. LeavesPart all new.input.left) (unread_of now.input) before.bytes before.is part)
+
+  -- a last request is one more
+  ends_with : (requests : List Asking) (last : Asking) → requests ≡ g.progress.requests ++ last ∷ [] → EndsWith requests last
+  ends_with requests last is = record { before = g.progress.requests; is = is; went_on = record { none_closes = g.none_closes; few = (let c = g.progress.count_is in omega (arith, c)) } }
+
+  -- in the reply to a request that was answered
+  broken_served : BreaksOne count now new → IfSome (unread_of now.input) (λ all. LeavesPart all new.input.left) → Rises first.output.faults new.output.faults
+      → HandsMore now.output.held now.output.handed_on new.output.handed_on → Ended first new end.WriteFault
+  broken_served s part rises more =
       let p = g.progress in
-      let output = output_of (closes count s.request) s.request.asked s.answer in
-      let pushed = push old now new first_steps steps steps' count wants wants' b b1 b2 p s.request s.answer s.serving s.wants_is in
+      let pushed = push count first now new p s.request s.answer s.serving s.wants_is in
+      let next = pushed.next in
       record {
-        goes = goes_of old new first_steps steps' (count + 1) wants' b b2 (omega arith) pushed.next;
-        served = told b g s part pushed;
+        goes = goes_of (count + 1) first new (omega arith) next;
+        served = known (IsServedTo first new end.WriteFault) first.input.left (λ bytes is.
+            let after = taken_at (count + 1) first new next bytes is in
+            let f = front_at part bytes is in
+            let k = s.broken in
+            let out = concat p.outputs ++ k.part in
+            let on = hands_before p.outputs first.output.held now.output.held first.output.handed_on now.output.handed_on new.output.handed_on g.written_is g.handed_is more in
+            served_by (count + 1) first new new.input new.output next bytes f.gone f.rest f.all_is f.left_is end.WriteFault out on.passed
+            (appends_trans first.output.held now.output.held new.output.held (concat p.outputs) k.part g.written_is k.appended) on.on tt after.bytes
+            (whole_input (count + 1) first new new.input new.output next bytes f.gone f.rest f.all_is f.left_is after.bytes after.holds) (
+              rises,
+              inl (record {
+                last = s.request;
+                ends = ends_with next.requests s.request pushed.requests_are;
+                before = p.outputs;
+                begun = output_of (closes count s.request) s.request.asked s.answer;
+                outputs_are = pushed.outputs_are;
+                broken = record { part = k.part; left = k.left; begun_is = k.begun_is; out_is = refl; more = on.more; handed_is = on.passed_is };
+              }),
+            ) tt);
       }
-    where
-      told : (b : Option (List ℕ)) (g : Going old now first_steps steps count wants b b1 w w1 h0 h1) (s : BreaksOne count now new steps steps' wants wants' b1 b2 w1 w2) → IfSome b1 (λ all. LeavesPart all left)
-          → Pushed old new first_steps steps' count wants' b b2 g.progress.requests g.progress.outputs s.request (output_of (closes count s.request) s.request.asked s.answer)
-          → IfSome b (λ input. IsServed old new input left w w2 h0 h2 sf sf2 kf kf2 first_steps steps' (record { end = end.WriteFault; wants = wants' }))
-      told None g s part pushed = tt
-      told (Some input) g s part pushed =
-          let p = g.progress in
-          let next = pushed.next in
-          let before = there_of _ b1 p.taken in
-          let after = there_of _ b2 next.taken in
-          let f = front_part (room_of now.conf) input p.requests before.bytes before.holds left (told_at (λ all. LeavesPart all left) b1 before.bytes before.is part) in
-          let k = s.broken in
-          let out = concat p.outputs ++ k.part in
-          let on = hands_before p.outputs w w1 h0 h1 h2 g.written_is g.handed_is more in
-          served_by old new first_steps steps' (count + 1) wants' input b2 left w w2 h0 h2 sf sf2 kf kf2 next f.gone f.rest f.all_is f.left_is end.WriteFault out on.passed
-          (appends_trans w w1 w2 (concat p.outputs) k.part g.written_is k.appended) on.on tt after.bytes
-          (whole_input old new first_steps steps' (count + 1) wants' input b2 left w w2 h0 h2 sf sf2 kf kf2 next f.gone f.rest f.all_is f.left_is after.bytes after.holds) (
-            rises,
-            inl (record {
-              last = s.request;
-              ends = record { before = p.requests; is = pushed.requests_are; went_on = record { none_closes = g.none_closes; few = (let c = p.count_is in omega (arith, c)) } };
-              before = p.outputs;
-              begun = output_of (closes count s.request) s.request.asked s.answer;
-              outputs_are = pushed.outputs_are;
-              broken = record { part = k.part; left = k.left; begun_is = k.begun_is; out_is = refl; more = on.more; handed_is = on.passed_is };
-            }),
-          ) tt
 
   -- a request that asked to close was answered
-  pub asked_served : (b b1 b2 : Option (List ℕ)) → Going old now first_steps steps count wants b b1 w w1 h0 h1 → IsServedOne count now new steps steps' wants wants' b1 b2 w1 w2 true → IfSome b1 (λ all. LeavesPart all left)
-      → h2 ≡ w2 → Ended old new first_steps steps' b left w w2 h0 h2 sf sf2 kf kf2 wants' end.Asked
-  asked_served b b1 b2 g s part on =
-      let pushed = push old now new first_steps steps steps' count wants wants' b b1 b2 g.progress s.request s.answer s.serving s.wants_is in
+  asked_served : IsServedOne count now new true → IfSome (unread_of now.input) (λ all. LeavesPart all new.input.left) → new.output.handed_on ≡ new.output.held → Ended first new end.Asked
+  asked_served s part on =
+      let p = g.progress in
+      let pushed = push count first now new p s.request s.answer s.serving s.wants_is in
+      let next = pushed.next in
+      let output = output_of (closes count s.request) s.request.asked s.answer in
+      let written : Appends first.output.held new.output.held (concat next.outputs)
+      = rw pushed.outputs_are (rw (concat-push p.outputs output) (appends_trans first.output.held now.output.held new.output.held (concat p.outputs) output g.written_is s.sent)) in
       record {
-        goes = goes_of old new first_steps steps' (count + 1) wants' b b2 (omega arith) pushed.next;
-        served = told b g s part pushed;
+        goes = goes_of (count + 1) first new (omega arith) next;
+        served = known (IsServedTo first new end.Asked) first.input.left (λ bytes is.
+            let after = taken_at (count + 1) first new next bytes is in
+            let f = front_at part bytes is in
+            served_by (count + 1) first new new.input new.output next bytes f.gone f.rest f.all_is f.left_is end.Asked (concat next.outputs) (concat next.outputs) written
+            (hands_all first.output.held new.output.held first.output.handed_on new.output.handed_on (concat next.outputs) written (inl on)) tt after.bytes
+            (whole_input (count + 1) first new new.input new.output next bytes f.gone f.rest f.all_is f.left_is after.bytes after.holds)
+            ((s.request, ends_with next.requests s.request pushed.requests_are, sym s.closed_is), refl) refl);
       }
-    where
-      told : (b : Option (List ℕ)) (g : Going old now first_steps steps count wants b b1 w w1 h0 h1) (s : IsServedOne count now new steps steps' wants wants' b1 b2 w1 w2 true) → IfSome b1 (λ all. LeavesPart all left)
-          → Pushed old new first_steps steps' count wants' b b2 g.progress.requests g.progress.outputs s.request (output_of (closes count s.request) s.request.asked s.answer)
-          → IfSome b (λ input. IsServed old new input left w w2 h0 h2 sf sf2 kf kf2 first_steps steps' (record { end = end.Asked; wants = wants' }))
-      told None g s part pushed = tt
-      told (Some input) g s part pushed =
-          let p = g.progress in
-          let next = pushed.next in
-          let before = there_of _ b1 p.taken in
-          let after = there_of _ b2 next.taken in
-          let f = front_part (room_of now.conf) input p.requests before.bytes before.holds left (told_at (λ all. LeavesPart all left) b1 before.bytes before.is part) in
-          let output = output_of (closes count s.request) s.request.asked s.answer in
-          let written : Appends w w2 (concat next.outputs) = rw pushed.outputs_are (rw (concat-push p.outputs output) (appends_trans w w1 w2 (concat p.outputs) output g.written_is s.sent)) in
-          served_by old new first_steps steps' (count + 1) wants' input b2 left w w2 h0 h2 sf sf2 kf kf2 next f.gone f.rest f.all_is f.left_is end.Asked (concat next.outputs) (concat next.outputs) written
-          (hands_all w w2 h0 h2 (concat next.outputs) written (inl on)) tt after.bytes
-          (whole_input old new first_steps steps' (count + 1) wants' input b2 left w w2 h0 h2 sf sf2 kf kf2 next f.gone f.rest f.all_is f.left_is after.bytes after.holds)
-          ((s.request, record { before = p.requests; is = pushed.requests_are; went_on = record { none_closes = g.none_closes; few = (let c = p.count_is in omega (arith, c)) } }, sym s.closed_is), refl) refl
 
   -- no request was answered in its place, or its reply wasn't written
-  pub stopped_served : (ended : SessionEnd) (b b1 b2 : Option (List ℕ)) → Going old now first_steps steps count wants b b1 w w1 h0 h1 → StopsOne count (room_of now.conf) now new steps steps' wants wants' b1 b2 left w1 w2 ended
-      → IfSome b1 (λ all. LeavesPart all left) → (ended ≡ end.ReadFault → Rises sf sf2) → (ended ≡ end.WriteFault → Rises kf kf2)
-      → (¬ (ended ≡ end.WriteFault) → HandsOnAll w1 w2 h1 h2) → (ended ≡ end.WriteFault → HandsMore w1 h1 h2)
-      → Ended old new first_steps steps' b left w w2 h0 h2 sf sf2 kf kf2 wants' ended
-  stopped_served ended b b1 b2 g s part reads writes all more = elim s.how [
-    | inl broke ↦ subst (λ (e : SessionEnd). Ended old new first_steps steps' b left w w2 h0 h2 sf sf2 kf kf2 wants' e) (sym broke.0) (broken_served b b1 b2 g broke.1 part (writes broke.0) (more broke.0))
+  stopped_served : (ended : SessionEnd) → StopsOne count now new ended → IfSome (unread_of now.input) (λ all. LeavesPart all new.input.left)
+      → (ended ≡ end.ReadFault → Rises first.input.faults new.input.faults) → (ended ≡ end.WriteFault → Rises first.output.faults new.output.faults)
+      → (¬ (ended ≡ end.WriteFault) → HandsOnAll now.output.held new.output.held now.output.handed_on new.output.handed_on) → (ended ≡ end.WriteFault → HandsMore now.output.held now.output.handed_on new.output.handed_on)
+      → Ended first new ended
+  stopped_served ended s part reads writes all more = elim s.how [
+    | inl broke ↦ subst (λ (e : SessionEnd). Ended first new e) (sym broke.0) (broken_served broke.1 part (writes broke.0) (more broke.0))
     | inr none ↦
-        let base : Ended old now first_steps steps b left w w2 h0 h2 sf sf2 kf kf2 wants ended = record { goes = goes_of old now first_steps steps count wants b b1 (omega arith) g.progress; served = told b g none.1 } in
-        subst (λ (n : BoardContent). Ended old n first_steps steps' b left w w2 h0 h2 sf sf2 kf kf2 wants' ended) (sym none.0.board)
-        (subst (λ (n : ℕ). Ended old now first_steps n b left w w2 h0 h2 sf sf2 kf kf2 wants' ended) (sym none.0.steps_are)
-        (subst (λ (n : ℕ). Ended old now first_steps steps b left w w2 h0 h2 sf sf2 kf kf2 n ended) (sym none.0.wants_are) base))
+        let p = g.progress in
+        let told : IfSome first.input.left (IsServedTo first (moment new.input new.output now.board now.steps now.wants) ended)
+        = known (IsServedTo first (moment new.input new.output now.board now.steps now.wants) ended) first.input.left (λ bytes is.
+        let before = taken_at count first now p bytes is in
+        unanswered_at count first now new.input new.output p bytes g.none_closes g.written_is g.handed_is few ended before.bytes before.holds
+        (told_at (λ unread. EndsOne ended (room_of now.board.conf) unread new.input.left now.output.held new.output.held) (unread_of now.input) before.bytes before.is none.1)
+        (told_at (λ unread. LeavesPart unread new.input.left) (unread_of now.input) before.bytes before.is part) reads writes all more) in
+        record {
+          goes = subst (λ (board : BoardContent). Goes first.board board) (sym none.0.board) (goes_of count first now (omega arith) p);
+          served = subst (λ (board : BoardContent). IfSome first.input.left (IsServedTo first (moment new.input new.output board new.steps new.wants) ended)) (sym none.0.board)
+              (subst (λ (steps : ℕ). IfSome first.input.left (IsServedTo first (moment new.input new.output now.board steps new.wants) ended)) (sym none.0.steps_are)
+              (subst (λ (wants : ℕ). IfSome first.input.left (IsServedTo first (moment new.input new.output now.board now.steps wants) ended)) (sym none.0.wants_are) told));
+        }
   ]
-    where
-      told : (b : Option (List ℕ)) → Going old now first_steps steps count wants b b1 w w1 h0 h1 → IfSome b1 (λ all. EndsOne ended (room_of now.conf) all left w1 w2)
-          → IfSome b (λ input. IsServed old now input left w w2 h0 h2 sf sf2 kf kf2 first_steps steps (record { end = ended; wants = wants }))
-      told None g ends = tt
-      told (Some input) g ends =
-          let p = g.progress in
-          let before = there_of _ b1 p.taken in
-          unanswered_at old now first_steps steps count wants input b1 left w w1 w2 h0 h1 h2 sf sf2 kf kf2 p g.none_closes g.written_is g.handed_is few ended before.bytes before.holds
-          (told_at (λ all. EndsOne ended (room_of now.conf) all left w1 w2) b1 before.bytes before.is ends) (told_at (λ all. LeavesPart all left) b1 before.bytes before.is part) reads writes all more
 
 -- as many requests were answered as may be
-pub spent_served : (old now : BoardContent) (first_steps steps wants : ℕ) (frame : FrameState) (left b w w2 h0 h2 : Option (List ℕ)) (sf sf2 kf kf2 count : ℕ) → count ≡ most_requests
-    → Going old now first_steps steps count wants b (unread frame left) w w2 h0 h2 → Ended old now first_steps steps b left w w2 h0 h2 sf sf2 kf kf2 wants end.Spent
-spent_served old now first_steps steps wants frame left b w w2 h0 h2 sf sf2 kf kf2 count all g =
-    record { goes = goes_of old now first_steps steps count wants b (unread frame left) (omega (arith, all)) g.progress; served = told b g }
-  where
-    told : (b : Option (List ℕ)) → Going old now first_steps steps count wants b (unread frame left) w w2 h0 h2
-        → IfSome b (λ input. IsServed old now input left w w2 h0 h2 sf sf2 kf kf2 first_steps steps (record { end = end.Spent; wants = wants }))
-    told None g = tt
-    told (Some input) g =
-        let p = g.progress in
-        let before = there_of _ (unread frame left) p.taken in
-        let s = split_of before.bytes frame.held left before.is in
-        let f = front_part (room_of now.conf) input p.requests before.bytes before.holds left (record { gone = frame.held; rest = s.rest; left_is = s.left_is; all_is = s.all_is }) in
-        served_by old now first_steps steps count wants input (unread frame left) left w w2 h0 h2 sf sf2 kf kf2 p f.gone f.rest f.all_is f.left_is end.Spent (concat p.outputs) (concat p.outputs) g.written_is
-        (hands_all w w2 h0 h2 (concat p.outputs) g.written_is (has_handed_all p.outputs w w2 h0 h2 g.handed_is)) tt before.bytes
-        (whole_input old now first_steps steps count wants input (unread frame left) left w w2 h0 h2 sf sf2 kf kf2 p f.gone f.rest f.all_is f.left_is before.bytes before.holds)
-        (p.count_is ∙ all, g.none_closes, refl) refl
+spent_served : (count : ℕ) (first now : Moment) → count ≡ most_requests → Going count first now → Ended first now end.Spent
+spent_served count first now all g =
+    let p = g.progress in
+    record {
+      goes = goes_of count first now (omega (arith, all)) p;
+      served = known (IsServedTo first now end.Spent) first.input.left (λ bytes is.
+          let before = taken_at count first now p bytes is in
+          let s = split_of before.bytes now.input.frame.held now.input.left before.is in
+          let f = front_part (room_of now.board.conf) bytes p.requests before.bytes before.holds now.input.left (record { gone = now.input.frame.held; rest = s.rest; left_is = s.left_is; all_is = s.all_is }) in
+          served_by count first now now.input now.output p bytes f.gone f.rest f.all_is f.left_is end.Spent (concat p.outputs) (concat p.outputs) g.written_is
+          (hands_all first.output.held now.output.held first.output.handed_on now.output.handed_on (concat p.outputs) g.written_is
+          (has_handed_all p.outputs first.output.held now.output.held first.output.handed_on now.output.handed_on g.handed_is)) tt before.bytes
+          (whole_input count first now now.input now.output p bytes f.gone f.rest f.all_is f.left_is before.bytes before.holds)
+          (p.count_is ∙ all, g.none_closes, refl) refl);
+    }
 
 -- ---- the loop over the requests
 
-pub record IsLoop (old now : BoardContent) (first_steps steps count wants : ℕ) (frame : FrameState) (left0 left w0 w h0 h : Option (List ℕ)) (sf0 sf kf0 kf top room : ℕ) : Type 0 where
-  pub going : Going old now first_steps steps count wants left0 (unread frame left) w0 w h0 h
-  pub turn : frame.turn ≡ AtHead
-  pub room_is : frame.room ≡ room_of now.conf
-  pub same_room : frame.room ≡ room
-  pub top_is : top ≡ now.conf.shape.top
-  pub few_wants : wants ≤ count
-  pub source : sf0 ≤ sf
-  pub sink : kf0 ≤ kf
-  pub steps_rise : first_steps ≤ steps
+pub record IsLoop (count top : ℕ) (first now : Moment) : Type 0 where
+  pub going : Going count first now
+  pub turn : now.input.frame.turn ≡ AtHead
+  pub room_is : now.input.frame.room ≡ room_of now.board.conf
+  pub same_room : now.input.frame.room ≡ first.input.frame.room
+  pub top_is : top ≡ now.board.conf.shape.top
+  pub few_wants : now.wants ≤ count
+  pub source : first.input.faults ≤ now.input.faults
+  pub sink : first.output.faults ≤ now.output.faults
+  pub steps_rise : first.steps ≤ now.steps
 
 -- a board that holds nothing
-pub holds_none : (board : BoardContent) → board.held ≡ None → board ≡ holding_none board
+holds_none : (board : BoardContent) → board.held ≡ None → board ≡ holding_none board
 holds_none board none = ap (λ (held : Option SurveyState). record board { held = held }) none
 
-pub begins_loop : (old now : BoardContent) (steps : ℕ) (frame : FrameState) (left w h : Option (List ℕ)) (sf kf top room : ℕ) → now ≡ holding_none old → IsHistory now.opening now.history → IsOwned now → frame.held ≡ [] → frame.turn ≡ AtHead
-    → frame.room ≡ room → room ≡ room_of old.conf → top ≡ now.conf.shape.top → IsLoop old now steps steps 0 0 frame left left w w h h sf sf kf kf top room
-begins_loop old now steps frame left w h sf kf top room is legal owned empty turn same room_is top_is = record {
-  going = begins_going old now steps frame left w h is legal owned empty;
+pub begins_loop : (top : ℕ) (first : Moment) → first.board.held ≡ None → IsHistory first.board.opening first.board.history → IsOwned first.board → first.wants ≡ 0 → first.input.frame.held ≡ [] → first.input.frame.turn ≡ AtHead
+    → first.input.frame.room ≡ room_of first.board.conf → top ≡ first.board.conf.shape.top → IsLoop 0 top first first
+begins_loop top first none legal owned none_wanted empty turn room_is top_is = record {
+  going = begins_going first (holds_none first.board none) legal owned empty none_wanted;
   turn = turn;
-  room_is = same ∙ room_is ∙ sym (ap (λ b. room_of b.conf) is);
-  same_room = same;
+  room_is = room_is;
+  same_room = refl;
   top_is = top_is;
-  few_wants = omega arith;
+  few_wants = omega (arith, none_wanted);
   source = omega arith;
   sink = omega arith;
   steps_rise = omega arith;
 }
 
-pub loop_goes_on : (old now new : BoardContent) (first_steps steps steps' count wants wants' : ℕ) (frame frame' : FrameState) (left0 left left' w0 w w' h0 h h' : Option (List ℕ)) (sf0 sf sf' kf0 kf kf' top room : ℕ)
-    → IsLoop old now first_steps steps count wants frame left0 left w0 w h0 h sf0 sf kf0 kf top room
-    → IsServedOne count now new steps steps' wants wants' (unread frame left) (unread frame' left') w w' false → h' ≡ w' → frame'.turn ≡ AtHead → frame'.room ≡ frame.room → wants' ≤ wants + 1
-    → sf ≤ sf' → kf ≤ kf' → steps ≤ steps' → IsLoop old new first_steps steps' (count + 1) wants' frame' left0 left' w0 w' h0 h' sf0 sf' kf0 kf' top room
-loop_goes_on old now new first_steps steps steps' count wants wants' frame frame' left0 left left' w0 w w' h0 h h' sf0 sf sf' kf0 kf kf' top room l s on turn same_room more source sink steps_rise =
-    let conf : new.conf ≡ now.conf = s.serving.serves.conf in
-    let wants_are = l.few_wants in
-    let source_was = l.source in
-    let sink_was = l.sink in
-    let steps_were = l.steps_rise in
+module _ (count top : ℕ) (first now new : Moment) (l : IsLoop count top first now) (never_falls : NeverFalls now new) where
+  pub loop_goes_on : IsServedOne count now new false → new.output.handed_on ≡ new.output.held → new.input.frame.turn ≡ AtHead → IsLoop (count + 1) top first new
+  loop_goes_on s on turn =
+      let conf : new.board.conf ≡ now.board.conf = s.serving.serves.conf in
+      record {
+        going = goes_on count first now new l.going s on;
+        turn = turn;
+        room_is = never_falls.room ∙ l.room_is ∙ sym (ap room_of conf);
+        same_room = never_falls.room ∙ l.same_room;
+        top_is = l.top_is ∙ sym (ap (λ (c : Description). c.shape.top) conf);
+        few_wants = omega (arith, l.few_wants, never_falls.wants);
+        source = omega (arith, l.source, never_falls.source);
+        sink = omega (arith, l.sink, never_falls.sink);
+        steps_rise = omega (arith, l.steps_rise, never_falls.steps);
+      }
+
+  -- what came of all, where it ended here
+  all_of : (ended : SessionEnd) → count < most_requests → Ended first new ended → (ended ≡ end.ReadFault → Rises now.input.faults new.input.faults)
+      → (ended ≡ end.WriteFault → Rises now.output.faults new.output.faults) → (ended ≡ end.OutOfMemory → ⊥)
+      → (¬ (ended ≡ end.WriteFault) → HandsOnAll first.output.held new.output.held first.output.handed_on new.output.handed_on) → ServesAll first new ended
+  all_of ended few e reads writes memory on = record {
+    goes = e.goes;
+    wants = omega (arith, few, l.few_wants, never_falls.wants);
+    read_fault = λ is. rises_from _ _ _ l.source (reads is);
+    write_fault = λ is. rises_from _ _ _ l.sink (writes is);
+    memory = memory;
+    handed_on = on;
+    source_never_falls = omega (arith, l.source, never_falls.source);
+    sink_never_falls = omega (arith, l.sink, never_falls.sink);
+    steps_never_fall = omega (arith, l.steps_rise, never_falls.steps);
+    room = never_falls.room ∙ l.same_room;
+    served = e.served;
+  }
+
+  -- the request asked to close
+  pub asked_all : count < most_requests → ServesOne count now new (Ok true) → ServesAll first new end.Asked
+  asked_all few s =
+      all_of end.Asked few (asked_served count first now new few l.going s.ok s.left s.hands.handed_on) (λ h. absurd (cc)) (λ h. absurd (cc)) (λ h. cc) (λ _. inl s.hands.handed_on)
+
+  -- the connection ended
+  pub stopped_all : (ended : SessionEnd) → count < most_requests → ServesOne count now new (Err ended) → ServesAll first new ended
+  stopped_all ended few s =
+      let reads : ended ≡ end.ReadFault → Rises now.input.faults new.input.faults = λ is. s.faults.read_fault (ap (λ (e : SessionEnd). Err e) is) in
+      let writes : ended ≡ end.WriteFault → Rises now.output.faults new.output.faults = λ is. s.faults.write_fault (ap (λ (e : SessionEnd). Err e) is) in
+      let more : ended ≡ end.WriteFault → HandsMore now.output.held now.output.handed_on new.output.handed_on
+      = λ is. let m = s.hands.breaks (ap (λ (e : SessionEnd). Err e) is) in record { more = m.0; on = m.1 } in
+      all_of ended few
+      (stopped_served count first now new few l.going ended s.stops s.left (λ is. rises_from _ _ _ l.source (reads is)) (λ is. rises_from _ _ _ l.sink (writes is)) s.hands.hands_on more)
+      reads writes s.faults.memory
+      (λ going. hands_all_on l.going.progress.outputs first.output.held now.output.held new.output.held first.output.handed_on now.output.handed_on new.output.handed_on l.going.handed_is (s.hands.hands_on going))
+
+-- as many requests were answered as may be
+pub spent_all : (count top : ℕ) (first now : Moment) → IsLoop count top first now → count ≡ most_requests → ServesAll first now end.Spent
+spent_all count top first now l all =
+    let e = spent_served count first now all l.going in
     record {
-      going = goes_on old now new first_steps steps steps' count wants wants' left0 (unread frame left) (unread frame' left') w0 w w' h0 h h' l.going s on;
-      turn = turn;
-      room_is = same_room ∙ l.room_is ∙ sym (ap room_of conf);
-      same_room = same_room ∙ l.same_room;
-      top_is = l.top_is ∙ sym (ap (λ (c : Description). c.shape.top) conf);
-      few_wants = omega arith;
-      source = omega arith;
-      sink = omega arith;
-      steps_rise = omega arith;
+      goes = e.goes;
+      wants = omega (arith, all, l.few_wants);
+      read_fault = λ h. absurd (cc);
+      write_fault = λ h. absurd (cc);
+      memory = λ h. cc;
+      handed_on = λ _. has_handed_all l.going.progress.outputs first.output.held now.output.held first.output.handed_on now.output.handed_on l.going.handed_is;
+      source_never_falls = l.source;
+      sink_never_falls = l.sink;
+      steps_never_fall = l.steps_rise;
+      room = l.same_room;
+      served = e.served;
     }

@@ -5,7 +5,6 @@ use Rattle.std.specs.Io.KnownBytes.{Appends, prepend_known}
 use Rattle.std.proofs.lemmas.List.{take-append-drop}
 use Rattle.survey_link.specs.Link.{AppendsPrefix, Rises}
 use Rattle.survey_conf.specs.Description.{Description}
-use Rattle.reader_pin.specs.Board.{BoardContent}
 use Rattle.hips_http.specs.declared.call.Call.{Call}
 use Rattle.hips_http.specs.Paths.{IsOfKind}
 use Rattle.http_frame.specs.declared.request.Request.{Request}
@@ -17,6 +16,8 @@ use Rattle.http_frame.specs.Reply.{is_reply_code, continue_bytes}
 use Rattle.hips_http.specs.declared.served.SessionEnd.{SessionEnd}
 use Rattle.hips_http.specs.declared.served.SessionEnd.TheVariants as end
 use Rattle.hips_http.specs.Replies.{Answer, leave_bytes, refusal_bytes}
+use Rattle.hips_http.specs.declared.line.Line.{Line}
+use Rattle.hips_http.specs.Moment.{Input, Output, Moment, moment, unread_of, SameEnds}
 use Rattle.hips_http.specs.SessionRun.{IsCutInput, room_of, most_requests}
 use Rattle.hips_http.specs.Progress.{EndsAt, EndsOne, Breaks, ReadsPart, body_end, ReadsCall, Replied, Halts, Serves, Serving, IsServedOne, BreaksOne, StopsOne, LeavesPart, reply_of}
 use Rattle.hips_http.proofs.Whole.{appends_nothing}
@@ -176,86 +177,6 @@ is_write_fault end.ReadFault = inr (λ h. cc)
 is_write_fault end.WriteFault = inl refl
 is_write_fault end.OutOfMemory = inr (λ h. cc)
 
--- ---- the parts together: the frame before, after the head and after the body, and the sink before, after the leave and after
--- the reply
-
-module _ (count top : ℕ) (fo fm fn : FrameState) (l0 l1 l2 : Option (List ℕ)) (asked : Request) (wanted : Call) (board board' : BoardContent) (steps steps' wants wants' : ℕ) (w0 w1 w2 : Option (List ℕ))
-    (room_is : fo.room ≡ room_of board.conf) (read : ReadsCall top fo fm l0 l1 asked wanted) where
-  module _ (top_is : top ≡ board.conf.shape.top) (leave : Appends w0 w1 (leave_bytes asked)) (close : Bool) (close_is : close ≡ (asked.close || (count + 1 == most_requests)))
-      (answer : Answer) (r : Replied asked wanted fm fn l1 l2 board board' steps steps' wants wants' answer) where
-    serving_of : Serving board board' steps steps' (unread fo l0) (unread fn l2) (record { asked = asked; path = fm.path; body = r.body }) answer
-    serving_of = record {
-      kind = read.kind;
-      of_kind = subst (λ (t : ℕ). IsOfKind t fm.path read.kind) (top_is ∙ ap (λ (c : Description). c.shape.top) (sym r.serves.conf)) read.of_kind;
-      whole = subst (λ (n : ℕ). IfSome (unread fo l0) (λ all. IsSomeAnd (unread fn l2) (λ more. IsWhole n all asked fm.path r.body more))) (room_is ∙ ap room_of (sym r.serves.conf))
-          (whole_of fo.room (unread fo l0) (unread fm l1) (unread fn l2) asked fm.path r.body read.head.next r.takes.bytes r.takes.count_is);
-      serves = subst (λ (w : Call). Serves (record { asked = asked; path = fm.path; body = r.body }) w board board' steps steps' answer) read.call_is r.serves;
-    }
-
-    pub served_one : Appends w1 w2 (reply_of close asked answer) → IsServedOne count board board' steps steps' wants wants' (unread fo l0) (unread fn l2) w0 w2 asked.close
-    served_one sent = record {
-      request = record { asked = asked; path = fm.path; body = r.body };
-      answer = answer;
-      serving = serving_of;
-      sent = subst (λ (b : Bool). Appends w0 w2 (leave_bytes asked ++ reply_of b asked answer)) close_is (appends_trans w0 w1 w2 (leave_bytes asked) (reply_of close asked answer) leave sent);
-      wants_is = r.wants_is;
-      closed_is = refl;
-    }
-
-    pub breaks_one : AppendsPrefix w1 w2 (reply_of close asked answer) → BreaksOne count board board' steps steps' wants wants' (unread fo l0) (unread fn l2) w0 w2
-    breaks_one part = record {
-      request = record { asked = asked; path = fm.path; body = r.body };
-      answer = answer;
-      serving = serving_of;
-      broken = subst (λ (b : Bool). Breaks w0 w2 (leave_bytes asked ++ reply_of b asked answer)) close_is
-          (breaks_after w0 w1 w2 (leave_bytes asked) (reply_of close asked answer) leave (breaks_of w1 w2 (reply_of close asked answer) part));
-      wants_is = r.wants_is;
-    }
-
-  -- the body isn't whole
-  pub halts_one : Appends w0 w1 (leave_bytes asked) → (faults faults' : ℕ) (ended : SessionEnd) → Halts asked fm fn l1 l2 faults faults' board board' steps steps' wants wants' w1 w2 ended
-      → StopsOne count (room_of board.conf) board board' steps steps' wants wants' (unread fo l0) (unread fn l2) l2 w0 w2 ended
-  halts_one leave faults faults' ended h =
-      let ends : IfSome (unread fo l0) (λ all. EndsOne (body_end h.stop) fo.room all l2 w0 w2) =
-      body_ends fo.room asked fm.path fm fn l1 l2 faults faults' w0 w2 (unread fo l0) (unread fm l1) refl read.head.next h.stop h.leaves.why h.leaves.kept
-      (appends_kept w0 w1 w2 (leave_bytes asked) leave h.written_is) in
-      let room : IfSome (unread fo l0) (λ all. EndsOne (body_end h.stop) (room_of board.conf) all l2 w0 w2)
-      = subst (λ (n : ℕ). IfSome (unread fo l0) (λ all. EndsOne (body_end h.stop) n all l2 w0 w2)) room_is ends in
-      record {
-        how = inr (
-          record { board = h.board_is; steps_are = h.steps_are; wants_are = h.wants_are },
-          subst (λ (e : SessionEnd). IfSome (unread fo l0) (λ all. EndsOne e (room_of board.conf) all l2 w0 w2)) (sym h.end_is) room,
-        );
-      }
-
-  -- the leave wasn't written
-  pub leave_stops : asked.expects ≡ true → AppendsPrefix w0 w1 continue_bytes
-      → StopsOne count (room_of board.conf) board board steps steps wants wants (unread fo l0) (unread fm l1) l1 w0 w1 end.WriteFault
-  leave_stops waits part = record {
-    how = inr (
-      record { board = refl; steps_are = refl; wants_are = refl },
-      subst (λ (n : ℕ). IfSome (unread fo l0) (λ all. EndsOne end.WriteFault n all l1 w0 w1)) room_is
-          (leave_breaks fo.room (unread fo l0) (unread fm l1) l1 asked fm.path w0 w1 read.head.next waits part),
-    );
-  }
-
--- no head was read
-pub head_stops : (count : ℕ) (fo fm : FrameState) (l0 l1 : Option (List ℕ)) (faults faults' : ℕ) (board : BoardContent) (steps wants : ℕ) (w0 w1 : Option (List ℕ)) (stop : Stop) (ended : SessionEnd)
-    → fo.room ≡ room_of board.conf → StopsHead fo fm l0 faults faults' stop → KeepsUnread fo fm l0 l1 → EndsAt stop w0 w1 ended
-    → StopsOne count (room_of board.conf) board board steps steps wants wants (unread fo l0) (unread fm l1) l1 w0 w1 ended
-head_stops count fo fm l0 l1 faults faults' board steps wants w0 w1 stop ended room_is why kept ends = record {
-  how = inr (
-    record { board = refl; steps_are = refl; wants_are = refl },
-    subst (λ (n : ℕ). IfSome (unread fo l0) (λ all. EndsOne ended n all l1 w0 w1)) room_is (head_ends fo fm l0 l1 faults faults' w0 w1 stop ended why kept ends),
-  );
-}
-
-pub stops_by_read : (fo fm : FrameState) (l0 : Option (List ℕ)) (faults faults' : ℕ) (stop : Stop) → stop ≡ ReadFault → StopsHead fo fm l0 faults faults' stop → Rises faults faults'
-stops_by_read fo fm l0 faults faults' ReadFault is why = why.0
-stops_by_read fo fm l0 faults faults' End is why = absurd (cc)
-stops_by_read fo fm l0 faults faults' Cut is why = absurd (cc)
-stops_by_read fo fm l0 faults faults' (Refuse code) is why = absurd (cc)
-
 -- ---- what the source has left
 
 some_split : (all held : List ℕ) (left : Option (List ℕ)) (front : List ℕ) (after : List ℕ) → all ≡ front ++ after → prepend_known held left ≡ Some after → LeavesPart all left
@@ -290,14 +211,121 @@ part_by_kept room None m asked path held left head kept = tt
 part_by_kept room (Some all) None asked path held left head kept = absurd head
 part_by_kept room (Some all) (Some after) asked path held left head kept = some_split all held left (take head.head_length all) after (found_rest room all asked path after head) kept
 
-pub head_part : (top : ℕ) (fo fm : FrameState) (l0 l1 : Option (List ℕ)) (asked : Request) (wanted : Call) → ReadsCall top fo fm l0 l1 asked wanted → IfSome (unread fo l0) (λ all. LeavesPart all l1)
-head_part top fo fm l0 l1 asked wanted read = part_by_head fo.room (unread fo l0) (unread fm l1) asked fm.path fm.held l1 refl read.head.next
+pub head_part : (top : ℕ) (old new : Input) (asked : Request) (wanted : Call) → ReadsCall top old new asked wanted → IfSome (unread_of old) (λ all. LeavesPart all new.left)
+head_part top old new asked wanted read = part_by_head old.frame.room (unread_of old) (unread_of new) asked new.frame.path new.frame.held new.left refl read.head.next
 
-pub body_part : (top : ℕ) (fo fm fn : FrameState) (l0 l1 l2 : Option (List ℕ)) (asked : Request) (wanted : Call) → ReadsCall top fo fm l0 l1 asked wanted → (body : List ℕ)
-    → IfSome (unread fm l1) (λ after. IsSomeAnd (unread fn l2) (λ rest. after ≡ body ++ rest)) → IfSome (unread fo l0) (λ all. LeavesPart all l2)
-body_part top fo fm fn l0 l1 l2 asked wanted read body takes =
-    part_by_body fo.room (unread fo l0) (unread fm l1) (unread fn l2) asked fm.path body fn.held l2 refl read.head.next takes
+-- ---- the parts together: `old` is the moment before, `input` and `output` are those after the head and the leave, and `new` is
+-- the moment after the reply
 
-pub no_body_part : (top : ℕ) (fo fm fn : FrameState) (l0 l1 l2 : Option (List ℕ)) (asked : Request) (wanted : Call) → ReadsCall top fo fm l0 l1 asked wanted
-    → KeepsUnread fm fn l1 l2 → IfSome (unread fo l0) (λ all. LeavesPart all l2)
-no_body_part top fo fm fn l0 l1 l2 asked wanted read kept = part_by_kept fo.room (unread fo l0) (unread fm l1) asked fm.path fn.held l2 read.head.next kept
+module _ (count top : ℕ) (old : Moment) (input : Input) (output : Output) (asked : Request) (wanted : Call) (room_is : old.input.frame.room ≡ room_of old.board.conf)
+    (read : ReadsCall top old.input input asked wanted) where
+  -- the leave wasn't written
+  pub leave_stops : asked.expects ≡ true → AppendsPrefix old.output.held output.held continue_bytes
+      → StopsOne count old (moment input output old.board old.steps old.wants) end.WriteFault
+  leave_stops waits part = record {
+    how = inr (
+      record { board = refl; steps_are = refl; wants_are = refl },
+      subst (λ (n : ℕ). IfSome (unread_of old.input) (λ all. EndsOne end.WriteFault n all input.left old.output.held output.held)) room_is
+          (leave_breaks old.input.frame.room (unread_of old.input) (unread_of input) input.left asked input.frame.path old.output.held output.held read.head.next waits part),
+    );
+  }
+
+  module _ (new : Moment) (leave : Appends old.output.held output.held (leave_bytes asked)) where
+    module _ (top_is : top ≡ old.board.conf.shape.top) (close : Bool) (close_is : close ≡ (asked.close || (count + 1 == most_requests)))
+        (answer : Answer) (r : Replied asked wanted (moment input output old.board old.steps old.wants) new answer) where
+      serving_of : Serving old new (record { asked = asked; path = input.frame.path; body = r.body }) answer
+      serving_of = record {
+        kind = read.kind;
+        of_kind = subst (λ (t : ℕ). IsOfKind t input.frame.path read.kind) (top_is ∙ ap (λ (c : Description). c.shape.top) (sym r.serves.conf)) read.of_kind;
+        whole = subst (λ (n : ℕ). IfSome (unread_of old.input) (λ all. IsSomeAnd (unread_of new.input) (λ more. IsWhole n all asked input.frame.path r.body more))) (room_is ∙ ap room_of (sym r.serves.conf))
+            (whole_of old.input.frame.room (unread_of old.input) (unread_of input) (unread_of new.input) asked input.frame.path r.body read.head.next r.takes.bytes r.takes.count_is);
+        serves = subst (λ (w : Call). Serves (record { asked = asked; path = input.frame.path; body = r.body }) w old.board new.board old.steps new.steps answer) read.call_is r.serves;
+      }
+
+      pub served_one : Appends output.held new.output.held (reply_of close asked answer) → IsServedOne count old new asked.close
+      served_one sent = record {
+        request = record { asked = asked; path = input.frame.path; body = r.body };
+        answer = answer;
+        serving = serving_of;
+        sent = subst (λ (b : Bool). Appends old.output.held new.output.held (leave_bytes asked ++ reply_of b asked answer)) close_is
+            (appends_trans old.output.held output.held new.output.held (leave_bytes asked) (reply_of close asked answer) leave sent);
+        wants_is = r.wants_is;
+        closed_is = refl;
+      }
+
+      pub breaks_one : AppendsPrefix output.held new.output.held (reply_of close asked answer) → BreaksOne count old new
+      breaks_one part = record {
+        request = record { asked = asked; path = input.frame.path; body = r.body };
+        answer = answer;
+        serving = serving_of;
+        broken = subst (λ (b : Bool). Breaks old.output.held new.output.held (leave_bytes asked ++ reply_of b asked answer)) close_is
+            (breaks_after old.output.held output.held new.output.held (leave_bytes asked) (reply_of close asked answer) leave (breaks_of output.held new.output.held (reply_of close asked answer) part));
+        wants_is = r.wants_is;
+      }
+
+      -- what the source has left
+      pub replied_part : IfSome (unread_of old.input) (λ all. LeavesPart all new.input.left)
+      replied_part =
+          part_by_body old.input.frame.room (unread_of old.input) (unread_of input) (unread_of new.input) asked input.frame.path r.body new.input.frame.held new.input.left refl read.head.next r.takes.bytes
+
+    -- the body isn't whole
+    module _ (ended : SessionEnd) (h : Halts asked (moment input output old.board old.steps old.wants) new ended) where
+      pub halts_one : StopsOne count old new ended
+      halts_one =
+          let ends : IfSome (unread_of old.input) (λ all. EndsOne (body_end h.stop) old.input.frame.room all new.input.left old.output.held new.output.held) =
+          body_ends old.input.frame.room asked input.frame.path input.frame new.input.frame input.left new.input.left input.faults new.input.faults old.output.held new.output.held
+          (unread_of old.input) (unread_of input) refl read.head.next h.stop h.leaves.why h.leaves.kept (appends_kept old.output.held output.held new.output.held (leave_bytes asked) leave h.written_is) in
+          let room : IfSome (unread_of old.input) (λ all. EndsOne (body_end h.stop) (room_of old.board.conf) all new.input.left old.output.held new.output.held)
+          = subst (λ (n : ℕ). IfSome (unread_of old.input) (λ all. EndsOne (body_end h.stop) n all new.input.left old.output.held new.output.held)) room_is ends in
+          record {
+            how = inr (
+              record { board = h.untouched.board; steps_are = h.untouched.steps_are; wants_are = h.untouched.wants_are },
+              subst (λ (e : SessionEnd). IfSome (unread_of old.input) (λ all. EndsOne e (room_of old.board.conf) all new.input.left old.output.held new.output.held)) (sym h.end_is) room,
+            );
+          }
+
+      pub halted_part : IfSome (unread_of old.input) (λ all. LeavesPart all new.input.left)
+      halted_part = part_by_kept old.input.frame.room (unread_of old.input) (unread_of input) asked input.frame.path new.input.frame.held new.input.left read.head.next h.leaves.kept
+
+-- no head was read
+pub head_stops : (count : ℕ) (old : Moment) (input : Input) (output : Output) (stop : Stop) (ended : SessionEnd)
+    → old.input.frame.room ≡ room_of old.board.conf → StopsHead old.input.frame input.frame old.input.left old.input.faults input.faults stop
+    → KeepsUnread old.input.frame input.frame old.input.left input.left → EndsAt stop old.output.held output.held ended
+    → StopsOne count old (moment input output old.board old.steps old.wants) ended
+head_stops count old input output stop ended room_is why kept ends = record {
+  how = inr (
+    record { board = refl; steps_are = refl; wants_are = refl },
+    subst (λ (n : ℕ). IfSome (unread_of old.input) (λ all. EndsOne ended n all input.left old.output.held output.held)) room_is
+        (head_ends old.input.frame input.frame old.input.left input.left old.input.faults input.faults old.output.held output.held stop ended why kept ends),
+  );
+}
+
+pub stops_by_read : (fo fm : FrameState) (l0 : Option (List ℕ)) (faults faults' : ℕ) (stop : Stop) → stop ≡ ReadFault → StopsHead fo fm l0 faults faults' stop → Rises faults faults'
+stops_by_read fo fm l0 faults faults' ReadFault is why = why.0
+stops_by_read fo fm l0 faults faults' End is why = absurd (cc)
+stops_by_read fo fm l0 faults faults' Cut is why = absurd (cc)
+stops_by_read fo fm l0 faults faults' (Refuse code) is why = absurd (cc)
+
+pub rises_from : (first old new : ℕ) → first ≤ old → Rises old new → Rises first new
+rises_from first old new h r = omega arith
+
+-- no body ends a connection by a failed writing
+pub body_reads : (stop : Stop) → body_end stop ≡ end.WriteFault → ⊥
+body_reads End is = cc
+body_reads Cut is = cc
+body_reads ReadFault is = cc
+body_reads (Refuse code) is = cc
+
+pub halts_by_read : (asked : Request) (old new : Moment) (ended : SessionEnd) → Halts asked old new ended → ended ≡ end.ReadFault → Rises old.input.faults new.input.faults
+halts_by_read asked old new ended h is = by_stop h.stop (sym is ∙ h.end_is) h.leaves.why
+  where
+    by_stop : (stop : Stop) → end.ReadFault ≡ body_end stop → StopsBody asked.length old.input.frame new.input.frame old.input.left old.input.faults new.input.faults stop → Rises old.input.faults new.input.faults
+    by_stop End is why = absurd (cc)
+    by_stop Cut is why = absurd (cc)
+    by_stop ReadFault is why = why.0
+    by_stop (Refuse code) is why = absurd (cc)
+
+-- ---- the ends
+
+pub same_ends : {B S K : Type 0} (a b c : Line B S K) → SameEnds a b → SameEnds b c → SameEnds a c
+same_ends a b c h k = record { frame = k.frame ∙ h.frame; board = k.board ∙ h.board; src = k.src ∙ h.src; sink = k.sink ∙ h.sink; steps = k.steps ∙ h.steps }

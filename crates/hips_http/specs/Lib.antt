@@ -3,6 +3,7 @@ pub mod Verdict
 pub mod Replies
 pub mod Answers
 pub mod SessionRun
+pub mod Moment
 pub mod Readings
 pub mod Progress
 pub mod Fulfilled

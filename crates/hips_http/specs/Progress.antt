@@ -1,18 +1,18 @@
 -- What one call of the server does to a board, a source and a sink, from the bytes that were unread to those that are unread
 -- then: the parts of which a connection's run is made.
-use Rattle.std.specs.Prelude.{◌≡◌, ◌⊎◌, ℕ, ◌+◌, ◌<◌, ◌≤◌, ◌==◌, Bool, true, false, List, [], ◌++◌, length, slice_get, All, Option, Some, None, Result, OnOk, OnErr, IfSome, IsSomeAnd, if◌then◌else◌}
+use Rattle.std.specs.Prelude.{◌≡◌, ◌≢◌, ◌⊎◌, ℕ, ◌+◌, ◌<◌, ◌≤◌, ◌==◌, Bool, true, false, List, [], ◌++◌, length, slice_get, All, Option, Some, None, Result, Err, OnOk, OnErr, IfOk, IfErr, IfSome, IsSomeAnd, if◌then◌else◌}
 use Rattle.std.specs.List.{concat}
 use Rattle.std.specs.Io.KnownBytes.{Appends}
 use Rattle.healpix_nested.specs.Cells.{cell_count}
 use Rattle.tile_path.specs.declared.path.Path.{Path}
-use Rattle.survey_link.specs.Link.{AppendsPrefix}
+use Rattle.survey_link.specs.Link.{AppendsPrefix, Rises}
 use Rattle.survey_link.specs.declared.faults.Failed.{Failed}
 use Rattle.http_frame.specs.declared.request.Request.{Request}
 use Rattle.http_frame.specs.declared.stop.Stop.{Stop}
 use Rattle.http_frame.specs.declared.stop.Stop.TheVariants as stop
 use Rattle.http_frame.specs.declared.stop.Stop.TheVariants.{End, Refuse}
 use Rattle.http_frame.specs.declared.stop.Turn.TheVariants.{AtHead}
-use Rattle.http_frame.specs.Frame.{FrameState, unread, ReadsHead, StopsBody, KeepsUnread}
+use Rattle.http_frame.specs.Frame.{ReadsHead, StopsBody, KeepsUnread}
 use Rattle.http_frame.specs.Reply.{is_reply_code, reply_bytes, continue_bytes}
 use Rattle.survey_core.specs.History.{SurveyState, IsHistory, Begins}
 use Rattle.reader_pin.specs.Board.{BoardContent, KeepsSeat}
@@ -20,11 +20,12 @@ use Rattle.hips_http.specs.declared.call.PathKind.{PathKind}
 use Rattle.hips_http.specs.declared.call.Call.{Call}
 use Rattle.hips_http.specs.declared.call.Call.TheVariants as call
 use Rattle.hips_http.specs.declared.served.SessionEnd.{SessionEnd}
-use Rattle.hips_http.specs.declared.served.SessionEnd.TheVariants.{Closed, Refused, Cut, ReadFault, WriteFault}
+use Rattle.hips_http.specs.declared.served.SessionEnd.TheVariants.{Closed, Refused, Cut, ReadFault, WriteFault, OutOfMemory}
 use Rattle.hips_http.specs.Paths.{IsPathOf, IsOfKind, call_of}
 use Rattle.http_frame.specs.Next.{IsFound, IsWhole, IsRefusedNext}
 use Rattle.hips_http.specs.Replies.{Answer, head_of, sent_body, output_of, refusal_bytes}
-use Rattle.hips_http.specs.SessionRun.{closes, room_of, IsCutInput, AreRequests, AreAnswered, first_point}
+use Rattle.hips_http.specs.Moment.{Input, Output, Moment, unread_of, NeverFalls}
+use Rattle.hips_http.specs.SessionRun.{closes, room_of, most_requests, IsCutInput, AreRequests, AreAnswered, first_point, HandsOn, HandsOnAll, IsServed, Goes}
 use Rattle.hips_http.specs.Answers.{Asking, Point, Answers, cost_of}
 
 -- the state at the place is the one that is held
@@ -67,24 +68,31 @@ pub record Serves (request : Asking) (call : Call) (old new : BoardContent) (ste
 -- ---- a file
 
 -- these bytes were written; or a writing failed, and some first ones of them were
-pub record Sends (written written' : Option (List ℕ)) (bytes : List ℕ) (result : Result (Unit {0}) Failed) : Type 0 where
-  pub whole : OnOk result (Appends written written' bytes)
-  pub part : OnErr result (AppendsPrefix written written' bytes)
+pub record Sends (old new : Output) (bytes : List ℕ) (result : Result (Unit {0}) Failed) : Type 0 where
+  pub whole : OnOk result (Appends old.held new.held bytes)
+  pub part : OnErr result (AppendsPrefix old.held new.held bytes)
+
+-- all that is held was handed on; or the sink failed, and no more was handed on
+pub record HandsReply (old new : Output) (result : Result (Unit {0}) Failed) : Type 0 where
+  pub handed_on : OnOk result (new.handed_on ≡ new.held)
+  pub stays : OnErr result (new.handed_on ≡ old.handed_on)
+  pub failed : OnErr result (Rises old.faults new.faults)
+  pub never_falls : old.faults ≤ new.faults
 
 -- a file, or that there is none, is answered and sent
-pub record Gives (request : Asking) (file : Option Path) (close : Bool) (old new : BoardContent) (steps : ℕ) (written written' : Option (List ℕ)) (result : Result (Unit {0}) Failed) : Type 0 where
+pub record Gives (request : Asking) (file : Option Path) (close : Bool) (old new : BoardContent) (steps : ℕ) (output output' : Output) (result : Result (Unit {0}) Failed) : Type 0 where
   pub answer : Answer
   pub serves : Serves request (call.File file) old new steps steps answer
   pub finds : (answer.code == 503) ≡ false
-  pub sends : Sends written written' (reply_bytes (head_of close answer) (sent_body request.asked.method answer.body)) result
+  pub sends : Sends output output' (reply_bytes (head_of close answer) (sent_body request.asked.method answer.body)) result
 
 -- ---- one request
 
 -- a head was read, which asks for this call
-pub record ReadsCall (top : ℕ) (old new : FrameState) (left left' : Option (List ℕ)) (request : Request) (asked : Call) : Type 0 where
-  pub head : ReadsHead old new left left' request
+pub record ReadsCall (top : ℕ) (old new : Input) (request : Request) (asked : Call) : Type 0 where
+  pub head : ReadsHead old.frame new.frame old.left new.left request
   pub kind : PathKind
-  pub of_kind : IsOfKind top new.path kind
+  pub of_kind : IsOfKind top new.frame.path kind
   pub call_is : asked ≡ call_of request.method kind
 
 -- the leaf of a call is one of the survey's
@@ -114,20 +122,20 @@ EndsAt (Refuse code) written written' end = is_reply_code code ≡ true
 -- ---- a body
 
 -- a body of so many bytes was read
-pub record TakesBody (count : ℕ) (old new : FrameState) (left left' : Option (List ℕ)) (body : List ℕ) : Type 0 where
-  pub bytes : IfSome (unread old left) (λ bytes. IsSomeAnd (unread new left') (λ rest. bytes ≡ body ++ rest))
+pub record TakesBody (count : ℕ) (old new : Input) (body : List ℕ) : Type 0 where
+  pub bytes : IfSome (unread_of old) (λ bytes. IsSomeAnd (unread_of new) (λ rest. bytes ≡ body ++ rest))
   pub count_is : length body ≡ count
-  pub turn : new.turn ≡ AtHead
+  pub turn : new.frame.turn ≡ AtHead
 
 -- no body was read
-pub record LeavesNoBody (count : ℕ) (old new : FrameState) (left left' : Option (List ℕ)) (faults faults' : ℕ) (stop : Stop) : Type 0 where
-  pub why : StopsBody count old new left faults faults' stop
-  pub kept : KeepsUnread old new left left'
+pub record LeavesNoBody (count : ℕ) (old new : Input) (stop : Stop) : Type 0 where
+  pub why : StopsBody count old.frame new.frame old.left old.faults new.faults stop
+  pub kept : KeepsUnread old.frame new.frame old.left new.left
 
 -- a body was read, and the call is answered
-pub record RepliesTo (asked : Request) (wanted : Call) (old new : FrameState) (left left' : Option (List ℕ)) (board board' : BoardContent) (steps steps' : ℕ) (answer : Answer) : Type 0 where
+pub record RepliesTo (asked : Request) (wanted : Call) (old new : Input) (board board' : BoardContent) (steps steps' : ℕ) (answer : Answer) : Type 0 where
   pub body : List ℕ
-  pub takes : TakesBody asked.length old new left left' body
+  pub takes : TakesBody asked.length old new body
   pub serves : (path : Option (List ℕ)) → Serves (record { asked = asked; path = path; body = body }) wanted board board' steps steps' answer
 
 -- ---- writing that fails
@@ -167,28 +175,28 @@ pub record ReadsPart (room : ℕ) (all rest : List ℕ) (written written' : Opti
 -- ---- one request, whole
 
 -- a request was read and answered
-pub record Serving (old new : BoardContent) (steps steps' : ℕ) (bytes bytes' : Option (List ℕ)) (request : Asking) (answer : Answer) : Type 0 where
+pub record Serving (old new : Moment) (request : Asking) (answer : Answer) : Type 0 where
   pub kind : PathKind
-  pub of_kind : IsOfKind new.conf.shape.top request.path kind
-  pub whole : IfSome bytes (λ all. IsSomeAnd bytes' (λ more. IsWhole (room_of new.conf) all request.asked request.path request.body more))
-  pub serves : Serves request (call_of request.asked.method kind) old new steps steps' answer
+  pub of_kind : IsOfKind new.board.conf.shape.top request.path kind
+  pub whole : IfSome (unread_of old.input) (λ all. IsSomeAnd (unread_of new.input) (λ more. IsWhole (room_of new.board.conf) all request.asked request.path request.body more))
+  pub serves : Serves request (call_of request.asked.method kind) old.board new.board old.steps new.steps answer
 
--- a request was read and answered, and its reply was written
-pub record IsServedOne (count : ℕ) (old new : BoardContent) (steps steps' wants wants' : ℕ) (bytes bytes' written written' : Option (List ℕ)) (closed : Bool) : Type 0 where
+-- a request was read and answered, and its reply was written; `count` others came before it
+pub record IsServedOne (count : ℕ) (old new : Moment) (closed : Bool) : Type 0 where
   pub request : Asking
   pub answer : Answer
-  pub serving : Serving old new steps steps' bytes bytes' request answer
-  pub sent : Appends written written' (output_of (closes count request) request.asked answer)
-  pub wants_is : wants' ≡ wants_after wants answer
+  pub serving : Serving old new request answer
+  pub sent : Appends old.output.held new.output.held (output_of (closes count request) request.asked answer)
+  pub wants_is : new.wants ≡ wants_after old.wants answer
   pub closed_is : closed ≡ request.asked.close
 
 -- a writing failed in what is written for a request that was answered
-pub record BreaksOne (count : ℕ) (old new : BoardContent) (steps steps' wants wants' : ℕ) (bytes bytes' written written' : Option (List ℕ)) : Type 0 where
+pub record BreaksOne (count : ℕ) (old new : Moment) : Type 0 where
   pub request : Asking
   pub answer : Answer
-  pub serving : Serving old new steps steps' bytes bytes' request answer
-  pub broken : Breaks written written' (output_of (closes count request) request.asked answer)
-  pub wants_is : wants' ≡ wants_after wants answer
+  pub serving : Serving old new request answer
+  pub broken : Breaks old.output.held new.output.held (output_of (closes count request) request.asked answer)
+  pub wants_is : new.wants ≡ wants_after old.wants answer
 
 -- why no request was answered, where these were the unread bytes
 abbrev pub EndsOne : SessionEnd → ℕ → List ℕ → Option (List ℕ) → Option (List ℕ) → Option (List ℕ) → Type 0
@@ -200,24 +208,53 @@ EndsOne WriteFault room all left written written' = (begun : List ℕ) × IsBegu
 EndsOne end room all left written written' = ⊥
 
 -- nothing happened on the board
-pub record Untouched (old new : BoardContent) (steps steps' wants wants' : ℕ) : Type 0 where
-  pub board : new ≡ old
-  pub steps_are : steps' ≡ steps
-  pub wants_are : wants' ≡ wants
+pub record Untouched (old new : Moment) : Type 0 where
+  pub board : new.board ≡ old.board
+  pub steps_are : new.steps ≡ old.steps
+  pub wants_are : new.wants ≡ old.wants
 
 -- how a connection ended instead of a request that was answered and written whole
-pub record StopsOne (count room : ℕ) (old new : BoardContent) (steps steps' wants wants' : ℕ) (bytes bytes' left written written' : Option (List ℕ)) (end : SessionEnd) : Type 0 where
-  pub how : ((end ≡ WriteFault) × BreaksOne count old new steps steps' wants wants' bytes bytes' written written')
-      ⊎ (Untouched old new steps steps' wants wants' × IfSome bytes (λ all. EndsOne end room all left written written'))
+pub record StopsOne (count : ℕ) (old new : Moment) (end : SessionEnd) : Type 0 where
+  pub how : ((end ≡ WriteFault) × BreaksOne count old new)
+      ⊎ (Untouched old new × IfSome (unread_of old.input) (λ all. EndsOne end (room_of old.board.conf) all new.input.left old.output.held new.output.held))
+
+-- the first of the unread bytes were taken, and the source has the rest
+pub record LeavesPart (all : List ℕ) (left : Option (List ℕ)) : Type 0 where
+  pub gone : List ℕ
+  pub rest : List ℕ
+  pub left_is : left ≡ Some rest
+  pub all_is : all ≡ gone ++ rest
+
+-- all that is held was handed on, or nothing was written and nothing handed on; where a writing failed, some more may have been
+pub record HandsOne (old new : Output) (result : Result Bool SessionEnd) : Type 0 where
+  pub handed_on : OnOk result (new.handed_on ≡ new.held)
+  pub hands_on : IfErr result (λ end. ¬ (end ≡ WriteFault) → HandsOnAll old.held new.held old.handed_on new.handed_on)
+  pub breaks : result ≡ Err WriteFault → (more : List ℕ) × HandsOn old.held old.handed_on new.handed_on more
+
+-- source or sink failed only where its count of faults rose, and no end is for want of memory
+pub record FaultsOne (old new : Moment) (result : Result Bool SessionEnd) : Type 0 where
+  pub read_fault : result ≡ Err ReadFault → Rises old.input.faults new.input.faults
+  pub write_fault : result ≡ Err WriteFault → Rises old.output.faults new.output.faults
+  pub memory : IfErr result (λ end. end ≢ OutOfMemory)
+
+-- what came of the next request, where `count` others came before it; `Ok` tells whether it asked to close
+pub record ServesOne (count : ℕ) (old new : Moment) (result : Result Bool SessionEnd) : Type 0 where
+  pub ok : IfOk result (IsServedOne count old new)
+  pub stops : IfErr result (StopsOne count old new)
+  pub left : IfSome (unread_of old.input) (λ all. LeavesPart all new.input.left)
+  pub turn : OnOk result (new.input.frame.turn ≡ AtHead)
+  pub hands : HandsOne old.output new.output result
+  pub faults : FaultsOne old new result
+  pub never_falls : NeverFalls old new
 
 -- ---- after a head
 
 -- a body was read, and the call is answered
-pub record Replied (asked : Request) (wanted : Call) (old new : FrameState) (left left' : Option (List ℕ)) (board board' : BoardContent) (steps steps' wants wants' : ℕ) (answer : Answer) : Type 0 where
+pub record Replied (asked : Request) (wanted : Call) (old new : Moment) (answer : Answer) : Type 0 where
   pub body : List ℕ
-  pub takes : TakesBody asked.length old new left left' body
-  pub serves : Serves (record { asked = asked; path = old.path; body = body }) wanted board board' steps steps' answer
-  pub wants_is : wants' ≡ wants_after wants answer
+  pub takes : TakesBody asked.length old.input new.input body
+  pub serves : Serves (record { asked = asked; path = old.input.frame.path; body = body }) wanted old.board new.board old.steps new.steps answer
+  pub wants_is : new.wants ≡ wants_after old.wants answer
 
 -- the bytes of a reply
 abbrev pub reply_of : Bool → Request → Answer → List ℕ
@@ -229,48 +266,76 @@ body_end stop.ReadFault = ReadFault
 body_end _ = Cut
 
 -- no body was read, and nothing else happened
-pub record Halts (asked : Request) (old new : FrameState) (left left' : Option (List ℕ)) (faults faults' : ℕ) (board board' : BoardContent) (steps steps' wants wants' : ℕ)
-    (written written' : Option (List ℕ)) (end : SessionEnd) : Type 0 where
+pub record Halts (asked : Request) (old new : Moment) (end : SessionEnd) : Type 0 where
   pub stop : Stop
-  pub leaves : LeavesNoBody asked.length old new left left' faults faults' stop
+  pub leaves : LeavesNoBody asked.length old.input new.input stop
   pub end_is : end ≡ body_end stop
-  pub board_is : board' ≡ board
-  pub steps_are : steps' ≡ steps
-  pub wants_are : wants' ≡ wants
-  pub written_is : written' ≡ written
+  pub untouched : Untouched old new
+  pub written_is : new.output.held ≡ old.output.held
 
--- the first of the unread bytes were taken, and the source has the rest
-pub record LeavesPart (all : List ℕ) (left : Option (List ℕ)) : Type 0 where
-  pub gone : List ℕ
-  pub rest : List ℕ
-  pub left_is : left ≡ Some rest
-  pub all_is : all ≡ gone ++ rest
+-- all that is held was handed on; or no more was, and nothing was written unless a writing failed
+pub record HandsCall (old new : Output) (result : Result (Unit {0}) SessionEnd) : Type 0 where
+  pub handed_on : OnOk result (new.handed_on ≡ new.held)
+  pub stays : OnErr result (new.handed_on ≡ old.handed_on)
+  pub unwritten : IfErr result (λ end. ¬ (end ≡ WriteFault) → new.held ≡ old.held)
+  pub write_fault : result ≡ Err WriteFault → Rises old.faults new.faults
+  pub memory : IfErr result (λ end. end ≢ OutOfMemory)
+
+-- what came of a call: it was answered, and its reply was written; or a writing failed in the reply; or the body isn't whole
+pub record ServesCall (asked : Request) (wanted : Call) (close : Bool) (old new : Moment) (result : Result (Unit {0}) SessionEnd) : Type 0 where
+  pub ok : OnOk result ((answer : Answer) × Replied asked wanted old new answer × Appends old.output.held new.output.held (reply_of close asked answer))
+  pub broken : result ≡ Err WriteFault → (answer : Answer) × Replied asked wanted old new answer × AppendsPrefix old.output.held new.output.held (reply_of close asked answer)
+  pub halted : IfErr result (λ end. ¬ (end ≡ WriteFault) → Halts asked old new end)
+  pub hands : HandsCall old.output new.output result
+  pub never_falls : NeverFalls old new
 
 -- ---- many requests
 
--- what was answered so far, of the bytes that were unread at first, by a board that was `old` then
-pub record Progress (old now : BoardContent) (first_steps steps count wants : ℕ) (bytes bytes' : Option (List ℕ)) : Type 0 where
-  pub conf : now.conf ≡ old.conf
-  pub opening : now.opening ≡ old.opening
-  pub legal : IsHistory now.opening now.history
-  pub begins : Begins old.history now.history
-  pub seat : KeepsSeat old now
+-- what was answered so far, of the bytes that the source had left at first
+pub record Progress (count : ℕ) (first now : Moment) : Type 0 where
+  pub conf : now.board.conf ≡ first.board.conf
+  pub opening : now.board.opening ≡ first.board.opening
+  pub legal : IsHistory now.board.opening now.board.history
+  pub begins : Begins first.board.history now.board.history
+  pub seat : KeepsSeat first.board now.board
   pub requests : List Asking
   pub outputs : List (List ℕ)
   pub last : Point
   pub count_is : length requests ≡ count
   pub few : length last.own ≤ count
-  pub at : IsAt old.own first_steps now steps wants last
-  pub answered : AreAnswered now.conf now.opening now.history 0 (first_point old.history) requests last outputs
-  pub taken : IfSome bytes (λ all. IsSomeAnd bytes' (λ rest. AreRequests (room_of now.conf) all requests rest))
+  pub at : IsAt first.board.own first.steps now.board now.steps now.wants last
+  pub answered : AreAnswered now.board.conf now.board.opening now.board.history 0 (first_point first.board.history) requests last outputs
+  pub taken : IfSome first.input.left (λ all. IsSomeAnd (unread_of now.input) (λ rest. AreRequests (room_of now.board.conf) all requests rest))
 
 -- none was answered, and nothing was written or handed on; or all that is held was handed on
 abbrev pub HasHandedOn : List (List ℕ) → Option (List ℕ) → Option (List ℕ) → Option (List ℕ) → Option (List ℕ) → Type 0
 HasHandedOn outputs held held' handed handed' = ((outputs ≡ []) × (held' ≡ held) × (handed' ≡ handed)) ⊎ (handed' ≡ held')
 
 -- none of these asked to close, and all that they were answered was written and handed on
-pub record Going (old now : BoardContent) (first_steps steps count wants : ℕ) (bytes bytes' written written' handed handed' : Option (List ℕ)) : Type 0 where
-  pub progress : Progress old now first_steps steps count wants bytes bytes'
+pub record Going (count : ℕ) (first now : Moment) : Type 0 where
+  pub progress : Progress count first now
   pub none_closes : All (λ request. request.asked.close ≡ false) progress.requests
-  pub written_is : Appends written written' (concat progress.outputs)
-  pub handed_is : HasHandedOn progress.outputs written written' handed handed'
+  pub written_is : Appends first.output.held now.output.held (concat progress.outputs)
+  pub handed_is : HasHandedOn progress.outputs first.output.held now.output.held first.output.handed_on now.output.handed_on
+
+-- ---- a whole connection
+
+-- it is served from its first moment to its last, where its source had these bytes
+abbrev pub IsServedTo : Moment → Moment → SessionEnd → List ℕ → Type 0
+IsServedTo first last end bytes =
+    IsServed first.board last.board bytes last.input.left first.output.held last.output.held first.output.handed_on last.output.handed_on
+    first.input.faults last.input.faults first.output.faults last.output.faults first.steps last.steps (record { end = end; wants = last.wants })
+
+-- what came of its requests
+pub record ServesAll (first last : Moment) (end : SessionEnd) : Type 0 where
+  pub goes : Goes first.board last.board
+  pub wants : last.wants ≤ most_requests
+  pub read_fault : end ≡ ReadFault → Rises first.input.faults last.input.faults
+  pub write_fault : end ≡ WriteFault → Rises first.output.faults last.output.faults
+  pub memory : end ≢ OutOfMemory
+  pub handed_on : ¬ (end ≡ WriteFault) → HandsOnAll first.output.held last.output.held first.output.handed_on last.output.handed_on
+  pub source_never_falls : first.input.faults ≤ last.input.faults
+  pub sink_never_falls : first.output.faults ≤ last.output.faults
+  pub steps_never_fall : first.steps ≤ last.steps
+  pub room : last.input.frame.room ≡ first.input.frame.room
+  pub served : IfSome first.input.left (IsServedTo first last end)

@@ -2,9 +2,9 @@
 ghost use Rattle.std.specs.Prelude.{◌≡◌, ◌≤◌, ◌<◌, true, ℕ, List, Option, OnOk, OnErr, IfOk, IfErr};
 ghost use Rattle.http_frame.specs.declared.stop.Turn.TheVariants.{AtBody};
 ghost use Rattle.http_frame.specs.Frame.{IsShort};
-ghost use Rattle.http_frame.specs.Readings.{ReadsWhile};
 ghost use Rattle.hips_http.specs.declared.call.Call.TheVariants as call;
 ghost use Rattle.hips_http.specs.Answers.{Asking};
+ghost use Rattle.hips_http.specs.Moment.{input_at, ReadsWhere};
 ghost use Rattle.hips_http.specs.Progress.{Serves, HasLeaf, is_text, TakesBody, LeavesNoBody, RepliesTo};
 
 use crate::call::Call;
@@ -44,9 +44,9 @@ pub(crate) fn reply_to<
     requires turn { frame.old.turn ≡ AtBody request.now.length }
     requires text { is_text call ≡ true }
     requires leaf { HasLeaf (B.content board.old).conf.shape.top call }
-    ensures replied { IfOk result (RepliesTo request.now call frame.old frame.new (S.left src.old) (S.left src.new) (B.content board.old) (B.content board.new) steps.old steps.new) }
-    ensures stop { IfErr result (LeavesNoBody request.now.length frame.old frame.new (S.left src.old) (S.left src.new) (S.faults src.old) (S.faults src.new)) }
-    ensures needed { (came : List ℕ) × ReadsWhile S.left S.readings (IsShort request.now.length) frame.old.held src.old src.new came }
+    ensures replied { IfOk result (RepliesTo request.now call (input_at S.Source frame.old src.old) (input_at S.Source frame.new src.new) (B.content board.old) (B.content board.new) steps.old steps.new) }
+    ensures stop { IfErr result (LeavesNoBody request.now.length (input_at S.Source frame.old src.old) (input_at S.Source frame.new src.new)) }
+    ensures needed { ReadsWhere S.Source (IsShort request.now.length) frame.old.held src.old src.new }
     ensures unchanged { OnErr result (B.content board.new ≡ B.content board.old) }
     ensures no_steps { OnErr result (steps.new ≡ steps.old) }
     ensures source_never_falls { S.faults src.old ≤ S.faults src.new }
@@ -67,9 +67,9 @@ pub(crate) fn reply_to<
 /// As the frame stops.
 pub(crate) fn pass_body<S: Source>(frame: &mut Frame, src: &mut S, count: u64) -> Result<(), Stop>
     requires { frame.old.turn ≡ AtBody count }
-    ensures read { OnOk result ((body : List ℕ) × TakesBody count frame.old frame.new (S.left src.old) (S.left src.new) body) }
-    ensures stop { IfErr result (LeavesNoBody count frame.old frame.new (S.left src.old) (S.left src.new) (S.faults src.old) (S.faults src.new)) }
-    ensures needed { (came : List ℕ) × ReadsWhile S.left S.readings (IsShort count) frame.old.held src.old src.new came }
+    ensures read { OnOk result ((body : List ℕ) × TakesBody count (input_at S.Source frame.old src.old) (input_at S.Source frame.new src.new) body) }
+    ensures stop { IfErr result (LeavesNoBody count (input_at S.Source frame.old src.old) (input_at S.Source frame.new src.new)) }
+    ensures needed { ReadsWhere S.Source (IsShort count) frame.old.held src.old src.new }
     ensures never_falls { S.faults src.old ≤ S.faults src.new }
     ensures room { frame.new.room ≡ frame.old.room }
     ensures path { frame.new.path ≡ frame.old.path }

@@ -1,13 +1,17 @@
 //! One connection, whole.
-ghost use Rattle.std.specs.Prelude.{◌≡◌, ◌≢◌, ◌≤◌, ◌↔◌, ℕ, List, [], None, IfSome, IsSome, IsNone};
+ghost use Rattle.std.specs.Prelude.{◌≡◌, ◌≤◌, ◌↔◌, ℕ, List, [], None, IfSome, IsSome, IsNone};
 ghost use Rattle.survey_link.specs.Link.{Rises};
 ghost use Rattle.http_frame.specs.Readings.{ReadsWhile};
 ghost use Rattle.survey_core.specs.History.{IsHistory};
 ghost use Rattle.reader_pin.specs.Board.{IsOwned};
+ghost use Rattle.http_frame.specs.declared.stop.Turn.TheVariants.{AtHead};
 ghost use Rattle.hips_http.specs.SessionRun.{IsServed, Goes, HandsOnAll, room_of, most_requests};
+ghost use Rattle.hips_http.specs.Moment.{input_at, output_at, moment, moment_of, SameEnds, ReadsWhere};
+ghost use Rattle.hips_http.specs.Progress.{ServesAll};
 ghost use Rattle.hips_http.specs.Readings.{NeedsNext};
 ghost use Rattle.hips_http.specs.declared.served.SessionEnd.TheVariants.{ReadFault, WriteFault, OutOfMemory};
 
+use crate::line::Line;
 use crate::served::{Served, SessionEnd};
 use crate::step::{MOST_REQUESTS, serve_one};
 use http_frame::Frame;
@@ -105,6 +109,7 @@ pub fn session_in<
     let top = top_of(board);
     match frame {
         Some(frame) => {
+            frame.clear();
             return serve_all(rt, alloc, frame, board, src, sink, gate, steps, top);
         }
         None => {
@@ -117,7 +122,8 @@ pub fn session_in<
     }
 }
 
-// Serves one connection over a frame, by a board that holds no state; `top` is the order of the survey's leaves.
+// Serves one connection over a frame that holds nothing, by a board that holds no state; `top` is the order of the survey's
+// leaves.
 fn serve_all<
     R: Threads + Sync + Clock + Log,
     B: ChangedWith<R>,
@@ -135,50 +141,68 @@ fn serve_all<
     steps: &mut Steps,
     top: u8,
 ) -> Served
+    requires empty { frame.old.held ≡ [] }
+    requires turn { frame.old.turn ≡ AtHead }
     requires room { frame.old.room ≡ room_of (B.content board.old).conf }
     requires top { top ≡ (B.content board.old).conf.shape.top }
     requires small { top ≤ 11 }
     requires legal { IsHistory (B.content board.old).opening (B.content board.old).history }
     requires owned { IsOwned (B.content board.old) }
     requires released { (B.content board.old).held ≡ None }
-    ensures goes { Goes (B.content board.old) (B.content board.new) }
-    ensures wants { result.wants ≤ most_requests }
-    ensures read_fault { result.end ≡ ReadFault → Rises (S.faults src.old) (S.faults src.new) }
-    ensures write_fault { result.end ≡ WriteFault → Rises (K.faults sink.old) (K.faults sink.new) }
-    // Unless writing failed all that is held was handed on, also what was held back before; or nothing was written.
-    ensures handed_on { ¬ (result.end ≡ WriteFault) → HandsOnAll (K.held sink.old) (K.held sink.new) (K.handed_on sink.old) (K.handed_on sink.new) }
-    ensures source_never_falls { S.faults src.old ≤ S.faults src.new }
-    ensures sink_never_falls { K.faults sink.old ≤ K.faults sink.new }
-    ensures steps_never_fall { steps.old ≤ steps.new }
-    // Where the source tells its bytes, the connection is a run of the definition, from the states seen before to those seen
-    // then; where the sink doesn't tell its bytes, with some bytes as those written.
-    ensures served { IfSome (S.left src.old) (λ input. IsServed (B.content board.old) (B.content board.new) input (S.left src.new)
-        (K.held sink.old) (K.held sink.new) (K.handed_on sink.old) (K.handed_on sink.new) (S.faults src.old) (S.faults src.new) (K.faults sink.old) (K.faults sink.new) steps.old steps.new result) }
-    // There it is read only while what came ends before or within the next request: so not once a request asked to close.
-    ensures reads { IsSome (S.left src.old) → (came : List ℕ) × ReadsWhile S.left S.readings (NeedsNext (room_of (B.content board.old).conf)) [] src.old src.new came }
-    ensures begins { result.end ≢ OutOfMemory }
-    ensures room { frame.new.room ≡ frame.old.room }
+    ensures serves { ServesAll (moment (input_at S.Source frame.old src.old) (output_at K.Sink sink.old) (B.content board.old) steps.old 0)
+        (moment (input_at S.Source frame.new src.new) (output_at K.Sink sink.new) (B.content board.new) steps.new result.wants) result.end }
+    ensures reads { IsSome (S.left src.old) → ReadsWhere S.Source (NeedsNext (room_of (B.content board.old).conf)) [] src.old src.new }
 {
-    frame.clear();
-    let mut wants = 0;
+    let mut line = Line {
+        frame,
+        board,
+        src,
+        sink,
+        steps,
+        wants: 0,
+    };
+    let end = serve_line(rt, alloc, gate, &mut line, top);
+    Served {
+        end,
+        wants: line.wants,
+    }
+}
+
+// Serves the requests of an open connection, one after another.
+fn serve_line<
+    R: Threads + Sync + Clock + Log,
+    B: ChangedWith<R>,
+    S: Source,
+    K: Sink,
+    G: Gate + Sync,
+>(
+    rt: &R,
+    alloc: Global,
+    gate: &G,
+    line: &mut Line<'_, '_, '_, '_, '_, B, S, K>,
+    top: u8,
+) -> SessionEnd
+    requires empty { line.old.frame.now.held ≡ [] }
+    requires turn { line.old.frame.now.turn ≡ AtHead }
+    requires room { line.old.frame.now.room ≡ room_of (B.content line.old.board.now).conf }
+    requires top { top ≡ (B.content line.old.board.now).conf.shape.top }
+    requires small { top ≤ 11 }
+    requires legal { IsHistory (B.content line.old.board.now).opening (B.content line.old.board.now).history }
+    requires owned { IsOwned (B.content line.old.board.now) }
+    requires released { (B.content line.old.board.now).held ≡ None }
+    requires wants { line.old.wants ≡ 0 }
+    ensures serves { ServesAll (moment_of S.Source K.Sink B.content line.old) (moment_of S.Source K.Sink B.content line.new) result }
+    ensures reads { IsSome (S.left line.old.src.now) → ReadsWhere S.Source (NeedsNext (room_of (B.content line.old.board.now).conf)) [] line.old.src.now line.new.src.now }
+    ensures same { SameEnds line.old line.new }
+{
     for count in 0..MOST_REQUESTS {
-        match serve_one(
-            rt, alloc, frame, board, src, sink, gate, steps, top, count, &mut wants,
-        ) {
-            Ok(true) => {
-                return Served {
-                    end: SessionEnd::Asked,
-                    wants,
-                };
-            }
+        match serve_one(rt, alloc, gate, line, top, count) {
+            Ok(true) => return SessionEnd::Asked,
             Ok(false) => {}
-            Err(end) => return Served { end, wants },
+            Err(end) => return end,
         }
     }
-    Served {
-        end: SessionEnd::Spent,
-        wants,
-    }
+    SessionEnd::Spent
 }
 
 /// A frame with room for the longest body of the board's survey; `None` where there is no memory for it.

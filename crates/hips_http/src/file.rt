@@ -1,13 +1,12 @@
 //! Files of a published generation.
-ghost use Rattle.std.specs.Prelude.{◌≡◌, ℕ, ◌≤◌, ◌++◌, ◌+◌, ◌<◌, ◌^◌, true, length, take, OnOk, OnErr, option_map, option_copied, Some, None, IfSome};
-ghost use Rattle.std.specs.Io.KnownBytes.{Appends};
-ghost use Rattle.survey_link.specs.Link.{AppendsPrefix, Rises};
+ghost use Rattle.std.specs.Prelude.{◌≡◌, ℕ, ◌+◌, ◌<◌, option_copied, Some, None};
 ghost use Rattle.http_frame.specs.Reply.{reply_bytes};
 ghost use Rattle.survey_core.specs.State.{survey_state};
 ghost use Rattle.tile_path.specs.Spelling.{spelling};
 ghost use Rattle.hips_http.specs.Paths.{IsPathOf};
 ghost use Rattle.hips_http.specs.Answers.{Asking};
-ghost use Rattle.hips_http.specs.Progress.{Gives};
+ghost use Rattle.hips_http.specs.Moment.{output_at};
+ghost use Rattle.hips_http.specs.Progress.{Gives, HandsReply, Sends};
 ghost use Rattle.hips_http.specs.Replies.{head_of, sent_body, file_answer, path_answer, not_found};
 
 use crate::reply::TextReply;
@@ -28,14 +27,9 @@ fn send_path<R: Clock + Log, K: Sink>(
     file: Option<Path>,
 ) -> Result<(), Failed>
     requires file { IsPathOf (option_copied due.path) file }
-    ensures whole { OnOk result (let answer = file_answer state.now.conf state.now.opening (survey_state state.now) (option_copied due.entry.path) in
-        Appends (K.held sink.old) (K.held sink.new) (reply_bytes (head_of due.entry.close answer) (sent_body due.entry.method answer.body))) }
-    ensures part { OnErr result (let answer = file_answer state.now.conf state.now.opening (survey_state state.now) (option_copied due.entry.path) in
-        AppendsPrefix (K.held sink.old) (K.held sink.new) (reply_bytes (head_of due.entry.close answer) (sent_body due.entry.method answer.body))) }
-    ensures handed_on { OnOk result (K.handed_on sink.new ≡ K.held sink.new) }
-    ensures stays { OnErr result (K.handed_on sink.new ≡ K.handed_on sink.old) }
-    ensures failed { OnErr result (Rises (K.faults sink.old) (K.faults sink.new)) }
-    ensures never_falls { K.faults sink.old ≤ K.faults sink.new }
+    ensures sends { let answer = file_answer state.now.conf state.now.opening (survey_state state.now) (option_copied due.entry.path) in
+        Sends (output_at K.Sink sink.old) (output_at K.Sink sink.new) (reply_bytes (head_of due.entry.close answer) (sent_body due.entry.method answer.body)) result }
+    ensures hands { HandsReply (output_at K.Sink sink.old) (output_at K.Sink sink.new) result }
 {
     match file {
         Some(file) => return send_known(rt, sink, due, state, &file),
@@ -51,14 +45,9 @@ fn send_known<R: Clock + Log, K: Sink>(
     state: &State,
     file: &Path,
 ) -> Result<(), Failed>
-    ensures whole { OnOk result (let answer = path_answer state.now.conf state.now.opening (survey_state state.now) (spelling file.now) in
-        Appends (K.held sink.old) (K.held sink.new) (reply_bytes (head_of due.entry.close answer) (sent_body due.entry.method answer.body))) }
-    ensures part { OnErr result (let answer = path_answer state.now.conf state.now.opening (survey_state state.now) (spelling file.now) in
-        AppendsPrefix (K.held sink.old) (K.held sink.new) (reply_bytes (head_of due.entry.close answer) (sent_body due.entry.method answer.body))) }
-    ensures handed_on { OnOk result (K.handed_on sink.new ≡ K.held sink.new) }
-    ensures stays { OnErr result (K.handed_on sink.new ≡ K.handed_on sink.old) }
-    ensures failed { OnErr result (Rises (K.faults sink.old) (K.faults sink.new)) }
-    ensures never_falls { K.faults sink.old ≤ K.faults sink.new }
+    ensures sends { let answer = path_answer state.now.conf state.now.opening (survey_state state.now) (spelling file.now) in
+        Sends (output_at K.Sink sink.old) (output_at K.Sink sink.new) (reply_bytes (head_of due.entry.close answer) (sent_body due.entry.method answer.body)) result }
+    ensures hands { HandsReply (output_at K.Sink sink.old) (output_at K.Sink sink.new) result }
 {
     let mut front = [0u8; 2880];
     match state.generation().file_parts(file, &mut front) {
@@ -87,14 +76,9 @@ fn send_unknown<R: Clock + Log, K: Sink>(
     state: &State,
 ) -> Result<(), Failed>
     requires unknown { IsPathOf (option_copied due.path) None }
-    ensures whole { OnOk result (let answer = file_answer state.now.conf state.now.opening (survey_state state.now) (option_copied due.entry.path) in
-        Appends (K.held sink.old) (K.held sink.new) (reply_bytes (head_of due.entry.close answer) (sent_body due.entry.method answer.body))) }
-    ensures part { OnErr result (let answer = file_answer state.now.conf state.now.opening (survey_state state.now) (option_copied due.entry.path) in
-        AppendsPrefix (K.held sink.old) (K.held sink.new) (reply_bytes (head_of due.entry.close answer) (sent_body due.entry.method answer.body))) }
-    ensures handed_on { OnOk result (K.handed_on sink.new ≡ K.held sink.new) }
-    ensures stays { OnErr result (K.handed_on sink.new ≡ K.handed_on sink.old) }
-    ensures failed { OnErr result (Rises (K.faults sink.old) (K.faults sink.new)) }
-    ensures never_falls { K.faults sink.old ≤ K.faults sink.new }
+    ensures sends { let answer = file_answer state.now.conf state.now.opening (survey_state state.now) (option_copied due.entry.path) in
+        Sends (output_at K.Sink sink.old) (output_at K.Sink sink.new) (reply_bytes (head_of due.entry.close answer) (sent_body due.entry.method answer.body)) result }
+    ensures hands { HandsReply (output_at K.Sink sink.old) (output_at K.Sink sink.new) result }
 {
     let _orders = state.conf().shape();
     send_not_found(rt, sink, due, state)
@@ -107,12 +91,8 @@ fn send_not_found<R: Clock + Log, K: Sink>(
     due: Due<'_>,
     state: &State,
 ) -> Result<(), Failed>
-    ensures whole { OnOk result (Appends (K.held sink.old) (K.held sink.new) (reply_bytes (head_of due.entry.close (not_found state.now.tip)) (sent_body due.entry.method (not_found state.now.tip).body))) }
-    ensures part { OnErr result (AppendsPrefix (K.held sink.old) (K.held sink.new) (reply_bytes (head_of due.entry.close (not_found state.now.tip)) (sent_body due.entry.method (not_found state.now.tip).body))) }
-    ensures handed_on { OnOk result (K.handed_on sink.new ≡ K.held sink.new) }
-    ensures stays { OnErr result (K.handed_on sink.new ≡ K.handed_on sink.old) }
-    ensures failed { OnErr result (Rises (K.faults sink.old) (K.faults sink.new)) }
-    ensures never_falls { K.faults sink.old ≤ K.faults sink.new }
+    ensures sends { Sends (output_at K.Sink sink.old) (output_at K.Sink sink.new) (reply_bytes (head_of due.entry.close (not_found state.now.tip)) (sent_body due.entry.method (not_found state.now.tip).body)) result }
+    ensures hands { HandsReply (output_at K.Sink sink.old) (output_at K.Sink sink.new) result }
 {
     let reply = TextReply::not_found(state.tip());
     send_text(rt, sink, due, &reply)
@@ -133,11 +113,8 @@ pub(crate) fn give_file<R: Clock + Log, B: Board, K: Sink>(
 ) -> Result<(), Failed>
     requires file { IsPathOf (option_copied due.path) file }
     ensures gives { (request : Asking) (steps : ℕ) → request.path ≡ option_copied due.entry.path → request.asked.method ≡ due.entry.method
-        → Gives request file due.entry.close (B.content board.old) (B.content board.new) steps (K.held sink.old) (K.held sink.new) result }
-    ensures handed_on { OnOk result (K.handed_on sink.new ≡ K.held sink.new) }
-    ensures stays { OnErr result (K.handed_on sink.new ≡ K.handed_on sink.old) }
-    ensures failed { OnErr result (Rises (K.faults sink.old) (K.faults sink.new)) }
-    ensures never_falls { K.faults sink.old ≤ K.faults sink.new }
+        → Gives request file due.entry.close (B.content board.old) (B.content board.new) steps (output_at K.Sink sink.old) (output_at K.Sink sink.new) result }
+    ensures hands { HandsReply (output_at K.Sink sink.old) (output_at K.Sink sink.new) result }
 {
     let _legal = board.last();
     match board.held() {
@@ -156,11 +133,8 @@ fn give_newest<R: Clock + Log, B: Board, K: Sink>(
 ) -> Result<(), Failed>
     requires file { IsPathOf (option_copied due.path) file }
     ensures gives { (request : Asking) (steps : ℕ) → (B.content board.old).held ≡ None → request.path ≡ option_copied due.entry.path → request.asked.method ≡ due.entry.method
-        → Gives request file due.entry.close (B.content board.old) (B.content board.new) steps (K.held sink.old) (K.held sink.new) result }
-    ensures handed_on { OnOk result (K.handed_on sink.new ≡ K.held sink.new) }
-    ensures stays { OnErr result (K.handed_on sink.new ≡ K.handed_on sink.old) }
-    ensures failed { OnErr result (Rises (K.faults sink.old) (K.faults sink.new)) }
-    ensures never_falls { K.faults sink.old ≤ K.faults sink.new }
+        → Gives request file due.entry.close (B.content board.old) (B.content board.new) steps (output_at K.Sink sink.old) (output_at K.Sink sink.new) result }
+    ensures hands { HandsReply (output_at K.Sink sink.old) (output_at K.Sink sink.new) result }
 {
     board.pin();
     send_path(rt, sink, due, board.last(), file)

@@ -12,6 +12,7 @@ mod connection;
 mod control;
 mod file;
 pub mod laws;
+mod line;
 mod reply;
 mod saying;
 mod send;

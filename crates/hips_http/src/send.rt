@@ -1,9 +1,9 @@
 //! Replies are written.
-ghost use Rattle.std.specs.Prelude.{◌≡◌, ◌≤◌, ◌++◌, ◌+◌, ◌<◌, ◌^◌, [], true, length, take, OnOk, OnErr, option_map, Some, None, IfSome};
-ghost use Rattle.std.specs.Io.KnownBytes.{Appends};
-ghost use Rattle.survey_link.specs.Link.{AppendsPrefix, Rises};
+ghost use Rattle.std.specs.Prelude.{◌≡◌, ◌++◌, ◌+◌, ◌<◌, ◌^◌, [], true, length};
 ghost use Rattle.http_frame.specs.Reply.{is_reply_code, reply_bytes};
 ghost use Rattle.tile_path.specs.Spelling.{spelling};
+ghost use Rattle.hips_http.specs.Moment.{output_at};
+ghost use Rattle.hips_http.specs.Progress.{HandsReply, Sends};
 ghost use Rattle.hips_http.specs.Replies.{head_of, sent_body, refusal_bytes, file_kind, found_answer};
 
 use crate::reply::TextReply;
@@ -36,12 +36,8 @@ pub(crate) fn send_text<R: Clock + Log, K: Sink>(
     due: Due<'_>,
     reply: &TextReply,
 ) -> Result<(), Failed>
-    ensures whole { OnOk result (Appends (K.held sink.old) (K.held sink.new) (reply_bytes (head_of due.entry.close reply.now) (sent_body due.entry.method reply.now.body))) }
-    ensures part { OnErr result (AppendsPrefix (K.held sink.old) (K.held sink.new) (reply_bytes (head_of due.entry.close reply.now) (sent_body due.entry.method reply.now.body))) }
-    ensures handed_on { OnOk result (K.handed_on sink.new ≡ K.held sink.new) }
-    ensures stays { OnErr result (K.handed_on sink.new ≡ K.handed_on sink.old) }
-    ensures failed { OnErr result (Rises (K.faults sink.old) (K.faults sink.new)) }
-    ensures never_falls { K.faults sink.old ≤ K.faults sink.new }
+    ensures sends { Sends (output_at K.Sink sink.old) (output_at K.Sink sink.new) (reply_bytes (head_of due.entry.close reply.now) (sent_body due.entry.method reply.now.body)) result }
+    ensures hands { HandsReply (output_at K.Sink sink.old) (output_at K.Sink sink.new) result }
 {
     let sent = write_text(sink, due.method, due.close, reply);
     say_text(rt, due.watch, due.method, due.path, reply);
@@ -55,12 +51,8 @@ fn write_text<K: Sink>(
     close: bool,
     reply: &TextReply,
 ) -> Result<(), Failed>
-    ensures whole { OnOk result (Appends (K.held sink.old) (K.held sink.new) (reply_bytes (head_of close reply.now) (sent_body method reply.now.body))) }
-    ensures part { OnErr result (AppendsPrefix (K.held sink.old) (K.held sink.new) (reply_bytes (head_of close reply.now) (sent_body method reply.now.body))) }
-    ensures handed_on { OnOk result (K.handed_on sink.new ≡ K.held sink.new) }
-    ensures stays { OnErr result (K.handed_on sink.new ≡ K.handed_on sink.old) }
-    ensures failed { OnErr result (Rises (K.faults sink.old) (K.faults sink.new)) }
-    ensures never_falls { K.faults sink.old ≤ K.faults sink.new }
+    ensures sends { Sends (output_at K.Sink sink.old) (output_at K.Sink sink.new) (reply_bytes (head_of close reply.now) (sent_body method reply.now.body)) result }
+    ensures hands { HandsReply (output_at K.Sink sink.old) (output_at K.Sink sink.new) result }
 {
     let head = Reply {
         code: reply.code,
@@ -94,12 +86,8 @@ pub(crate) fn send_file<'a, R: Clock + Log, K: Sink>(
     zeros: &'a [u8],
 ) -> Result<(), Failed>
     requires short { length front.now + length kept.now + length zeros.now < 2 ^ 64 }
-    ensures whole { OnOk result (Appends (K.held sink.old) (K.held sink.new) (reply_bytes (head_of due.entry.close (found_answer tip (spelling file.now) (front.now ++ kept.now ++ zeros.now))) (sent_body due.entry.method (front.now ++ kept.now ++ zeros.now)))) }
-    ensures part { OnErr result (AppendsPrefix (K.held sink.old) (K.held sink.new) (reply_bytes (head_of due.entry.close (found_answer tip (spelling file.now) (front.now ++ kept.now ++ zeros.now))) (sent_body due.entry.method (front.now ++ kept.now ++ zeros.now)))) }
-    ensures handed_on { OnOk result (K.handed_on sink.new ≡ K.held sink.new) }
-    ensures stays { OnErr result (K.handed_on sink.new ≡ K.handed_on sink.old) }
-    ensures failed { OnErr result (Rises (K.faults sink.old) (K.faults sink.new)) }
-    ensures never_falls { K.faults sink.old ≤ K.faults sink.new }
+    ensures sends { Sends (output_at K.Sink sink.old) (output_at K.Sink sink.new) (reply_bytes (head_of due.entry.close (found_answer tip (spelling file.now) (front.now ++ kept.now ++ zeros.now))) (sent_body due.entry.method (front.now ++ kept.now ++ zeros.now))) result }
+    ensures hands { HandsReply (output_at K.Sink sink.old) (output_at K.Sink sink.new) result }
 {
     let length = front.len() as u64 + kept.len() as u64 + zeros.len() as u64;
     let sent = write_file(sink, due.method, due.close, tip, file, front, kept, zeros);
@@ -119,12 +107,8 @@ fn write_file<'a, K: Sink>(
     zeros: &'a [u8],
 ) -> Result<(), Failed>
     requires short { length front.now + length kept.now + length zeros.now < 2 ^ 64 }
-    ensures whole { OnOk result (Appends (K.held sink.old) (K.held sink.new) (reply_bytes (head_of close (found_answer tip (spelling file.now) (front.now ++ kept.now ++ zeros.now))) (sent_body method (front.now ++ kept.now ++ zeros.now)))) }
-    ensures part { OnErr result (AppendsPrefix (K.held sink.old) (K.held sink.new) (reply_bytes (head_of close (found_answer tip (spelling file.now) (front.now ++ kept.now ++ zeros.now))) (sent_body method (front.now ++ kept.now ++ zeros.now)))) }
-    ensures handed_on { OnOk result (K.handed_on sink.new ≡ K.held sink.new) }
-    ensures stays { OnErr result (K.handed_on sink.new ≡ K.handed_on sink.old) }
-    ensures failed { OnErr result (Rises (K.faults sink.old) (K.faults sink.new)) }
-    ensures never_falls { K.faults sink.old ≤ K.faults sink.new }
+    ensures sends { Sends (output_at K.Sink sink.old) (output_at K.Sink sink.new) (reply_bytes (head_of close (found_answer tip (spelling file.now) (front.now ++ kept.now ++ zeros.now))) (sent_body method (front.now ++ kept.now ++ zeros.now))) result }
+    ensures hands { HandsReply (output_at K.Sink sink.old) (output_at K.Sink sink.new) result }
 {
     let head = Reply {
         code: 200,
@@ -162,12 +146,8 @@ pub(crate) fn send_refusal<R: Clock + Log, K: Sink>(
     code: u16,
 ) -> Result<(), Failed>
     requires known { is_reply_code code ≡ true }
-    ensures whole { OnOk result (Appends (K.held sink.old) (K.held sink.new) (refusal_bytes code)) }
-    ensures part { OnErr result (AppendsPrefix (K.held sink.old) (K.held sink.new) (refusal_bytes code)) }
-    ensures handed_on { OnOk result (K.handed_on sink.new ≡ K.held sink.new) }
-    ensures stays { OnErr result (K.handed_on sink.new ≡ K.handed_on sink.old) }
-    ensures failed { OnErr result (Rises (K.faults sink.old) (K.faults sink.new)) }
-    ensures never_falls { K.faults sink.old ≤ K.faults sink.new }
+    ensures sends { Sends (output_at K.Sink sink.old) (output_at K.Sink sink.new) (refusal_bytes code) result }
+    ensures hands { HandsReply (output_at K.Sink sink.old) (output_at K.Sink sink.new) result }
 {
     let watch = Stopwatch::start(rt);
     let head = Reply {

@@ -1,31 +1,32 @@
 //! One request: its head, its body, and the reply.
-ghost use Rattle.std.specs.Prelude.{◌≡◌, ◌≢◌, ◌||◌, ◌==◌, ◌≤◌, ◌+◌, ◌<◌, true, ℕ, List, Err, OnOk, OnErr, IfOk, IfErr, IfSome, IsSome, ◌++◌};
+ghost use Rattle.std.specs.Prelude.{◌≡◌, ◌≢◌, ◌||◌, ◌==◌, ◌≤◌, ◌+◌, ◌<◌, true, ℕ, List, Err, OnOk, OnErr, IfOk, IfErr, IsSome, ◌++◌};
 ghost use Rattle.hips_http.specs.declared.call.Call.TheVariants as call;
 ghost use Rattle.std.specs.Io.KnownBytes.{Appends};
 ghost use Rattle.survey_link.specs.Link.{AppendsPrefix, Rises};
-ghost use Rattle.http_frame.specs.Frame.{StopsHead, KeepsUnread, IsShort, unread};
+ghost use Rattle.http_frame.specs.Frame.{StopsHead, KeepsUnread, IsShort};
 ghost use Rattle.http_frame.specs.Next.{NeedsMore, IsFound};
 ghost use Rattle.http_frame.specs.Readings.{ReadsWhile};
 ghost use Rattle.http_frame.specs.declared.stop.Turn.TheVariants.{AtHead, AtBody};
 ghost use Rattle.http_frame.specs.declared.stop.Stop.TheVariants as Stopped;
 ghost use Rattle.http_frame.specs.Reply.{is_reply_code, continue_bytes};
 ghost use Rattle.hips_http.specs.declared.served.SessionEnd.TheVariants.{ReadFault, WriteFault, OutOfMemory};
-ghost use Rattle.hips_http.specs.Replies.{Answer, leave_bytes};
+ghost use Rattle.hips_http.specs.Replies.{leave_bytes};
 ghost use Rattle.hips_http.specs.Paths.{IsPathOf};
-ghost use Rattle.hips_http.specs.Progress.{ReadsCall, HasLeaf, HasFile, EndsAt, is_text, Replied, reply_of, body_end, Halts, wants_after, IsServedOne, StopsOne, LeavesPart};
-ghost use Rattle.hips_http.specs.SessionRun.{HandsOn, HandsOnAll, room_of, most_requests};
+ghost use Rattle.hips_http.specs.Moment.{input_at, moment_of, SameEnds, ReadsWhere};
+ghost use Rattle.hips_http.specs.Progress.{ReadsCall, HasLeaf, HasFile, EndsAt, is_text, body_end, wants_after, ServesCall, ServesOne};
+ghost use Rattle.hips_http.specs.SessionRun.{HandsOnAll, room_of, most_requests};
 ghost use Rattle.hips_http.specs.Readings.{NeedsRest, HoldsBehind};
 
 use crate::answer::{pass_body, reply_to};
 use crate::call::{Call, call_of, path_kind};
 use crate::file::give_file;
+use crate::line::Line;
 use crate::reply::TextReply;
 use crate::saying::Stopwatch;
 use crate::send::{Due, send_refusal, send_text};
 use crate::served::SessionEnd;
 use http_frame::{Frame, Request, Stop, write_continue};
 use log::Log;
-use parent_rule::Steps;
 use reader_pin::{Board, ChangedWith};
 use std::alloc::Global;
 use std::thread::Threads;
@@ -44,7 +45,7 @@ pub(crate) fn next_call<S: Source>(
 ) -> Result<(Request, Call), Stop>
     requires turn { frame.old.turn ≡ AtHead }
     requires top { top ≤ 11 }
-    ensures read { IfOk result (λ next. ReadsCall top frame.old frame.new (S.left src.old) (S.left src.new) next.0 next.1) }
+    ensures read { IfOk result (λ next. ReadsCall top (input_at S.Source frame.old src.old) (input_at S.Source frame.new src.new) next.0 next.1) }
     ensures stop { IfErr result (StopsHead frame.old frame.new (S.left src.old) (S.faults src.old) (S.faults src.new)) }
     ensures kept { OnErr result (KeepsUnread frame.old frame.new (S.left src.old) (S.left src.new)) }
     ensures turn { IfOk result (λ next. frame.new.turn ≡ AtBody next.0.length) }
@@ -133,57 +134,42 @@ fn body_end(stop: Stop) -> SessionEnd
 /// # Errors
 ///
 /// How the connection ends: `WriteFault` where the reply couldn't be written, else as the body isn't whole.
-pub(crate) fn serve_file<R: Clock + Log, B: Board, S: Source, K: Sink>(
+fn serve_file<R: Clock + Log, B: Board, S: Source, K: Sink>(
     rt: &R,
-    frame: &mut Frame,
-    board: &mut B,
-    src: &mut S,
-    sink: &mut K,
+    line: &mut Line<'_, '_, '_, '_, '_, B, S, K>,
     request: &Request,
     file: Option<Path>,
     close: bool,
 ) -> Result<(), SessionEnd>
-    requires turn { frame.old.turn ≡ AtBody request.now.length }
-    requires file { IsPathOf frame.old.path file }
-    ensures ok { (steps wants : ℕ) → OnOk result ((answer : Answer) × Replied request.now (call.File file) frame.old frame.new (S.left src.old) (S.left src.new) (B.content board.old) (B.content board.new) steps steps wants wants answer
-        × Appends (K.held sink.old) (K.held sink.new) (reply_of close request.now answer)) }
-    ensures broken { (steps wants : ℕ) → result ≡ Err WriteFault → (answer : Answer) × Replied request.now (call.File file) frame.old frame.new (S.left src.old) (S.left src.new) (B.content board.old) (B.content board.new) steps steps wants wants answer
-        × AppendsPrefix (K.held sink.old) (K.held sink.new) (reply_of close request.now answer) }
-    ensures halted { (steps wants : ℕ) → IfErr result (λ end. ¬ (end ≡ WriteFault) → Halts request.now frame.old frame.new (S.left src.old) (S.left src.new) (S.faults src.old) (S.faults src.new)
-        (B.content board.old) (B.content board.new) steps steps wants wants (K.held sink.old) (K.held sink.new) end) }
-    ensures handed_on { OnOk result (K.handed_on sink.new ≡ K.held sink.new) }
-    ensures stays { OnErr result (K.handed_on sink.new ≡ K.handed_on sink.old) }
-    ensures unwritten { IfErr result (λ end. ¬ (end ≡ WriteFault) → K.held sink.new ≡ K.held sink.old) }
-    ensures needed { (came : List ℕ) × ReadsWhile S.left S.readings (IsShort request.now.length) frame.old.held src.old src.new came }
-    ensures write_fault { result ≡ Err WriteFault → Rises (K.faults sink.old) (K.faults sink.new) }
-    ensures memory { IfErr result (λ end. end ≢ OutOfMemory) }
-    ensures source_never_falls { S.faults src.old ≤ S.faults src.new }
-    ensures sink_never_falls { K.faults sink.old ≤ K.faults sink.new }
-    ensures room { frame.new.room ≡ frame.old.room }
+    requires turn { line.old.frame.now.turn ≡ AtBody request.now.length }
+    requires file { IsPathOf line.old.frame.now.path file }
+    ensures serves { ServesCall request.now (call.File file) close (moment_of S.Source K.Sink B.content line.old) (moment_of S.Source K.Sink B.content line.new) result }
+    ensures needed { ReadsWhere S.Source (IsShort request.now.length) line.old.frame.now.held line.old.src.now line.new.src.now }
+    ensures same { SameEnds line.old line.new }
 {
     let watch = Stopwatch::start(rt);
-    match pass_body(frame, src, request.length) {
+    match pass_body(line.frame, line.src, request.length) {
         Ok(()) => {}
         Err(stop) => return Err(body_end(stop)),
     }
     let due = Due {
         watch,
         method: request.method,
-        path: frame.path(),
+        path: line.frame.path(),
         close,
     };
-    match give_file(rt, sink, board, due, file) {
+    match give_file(rt, line.sink, line.board, due, file) {
         Ok(()) => return Ok(()),
         Err(_) => return Err(SessionEnd::WriteFault),
     }
 }
 
-/// Reads the body of a request for anything else, and answers it; `wants` is how many requests have found no memory.
+/// Reads the body of a request for anything else, and answers it.
 ///
 /// # Errors
 ///
 /// How the connection ends: `WriteFault` where the reply couldn't be written, else as the body isn't whole.
-pub(crate) fn serve_text<
+fn serve_text<
     R: Threads + Sync + Clock + Log,
     B: ChangedWith<R>,
     S: Source,
@@ -192,58 +178,41 @@ pub(crate) fn serve_text<
 >(
     rt: &R,
     alloc: Global,
-    frame: &mut Frame,
-    board: &mut B,
-    src: &mut S,
-    sink: &mut K,
     gate: &G,
-    steps: &mut Steps,
+    line: &mut Line<'_, '_, '_, '_, '_, B, S, K>,
     request: &Request,
     call: Call,
     close: bool,
-    wants: &mut u32,
 ) -> Result<(), SessionEnd>
-    requires turn { frame.old.turn ≡ AtBody request.now.length }
+    requires turn { line.old.frame.now.turn ≡ AtBody request.now.length }
     requires text { is_text call ≡ true }
-    requires leaf { HasLeaf (B.content board.old).conf.shape.top call }
-    requires few { wants.old < 65536 }
-    ensures ok { OnOk result ((answer : Answer) × Replied request.now call frame.old frame.new (S.left src.old) (S.left src.new) (B.content board.old) (B.content board.new) steps.old steps.new wants.old wants.new answer
-        × Appends (K.held sink.old) (K.held sink.new) (reply_of close request.now answer)) }
-    ensures broken { result ≡ Err WriteFault → (answer : Answer) × Replied request.now call frame.old frame.new (S.left src.old) (S.left src.new) (B.content board.old) (B.content board.new) steps.old steps.new wants.old wants.new answer
-        × AppendsPrefix (K.held sink.old) (K.held sink.new) (reply_of close request.now answer) }
-    ensures halted { IfErr result (λ end. ¬ (end ≡ WriteFault) → Halts request.now frame.old frame.new (S.left src.old) (S.left src.new) (S.faults src.old) (S.faults src.new)
-        (B.content board.old) (B.content board.new) steps.old steps.new wants.old wants.new (K.held sink.old) (K.held sink.new) end) }
-    ensures handed_on { OnOk result (K.handed_on sink.new ≡ K.held sink.new) }
-    ensures stays { OnErr result (K.handed_on sink.new ≡ K.handed_on sink.old) }
-    ensures unwritten { IfErr result (λ end. ¬ (end ≡ WriteFault) → K.held sink.new ≡ K.held sink.old) }
-    ensures needed { (came : List ℕ) × ReadsWhile S.left S.readings (IsShort request.now.length) frame.old.held src.old src.new came }
-    ensures write_fault { result ≡ Err WriteFault → Rises (K.faults sink.old) (K.faults sink.new) }
-    ensures memory { IfErr result (λ end. end ≢ OutOfMemory) }
-    ensures source_never_falls { S.faults src.old ≤ S.faults src.new }
-    ensures sink_never_falls { K.faults sink.old ≤ K.faults sink.new }
-    ensures steps_never_fall { steps.old ≤ steps.new }
-    ensures wants { wants.new ≤ wants.old + 1 }
-    ensures room { frame.new.room ≡ frame.old.room }
+    requires leaf { HasLeaf (B.content line.old.board.now).conf.shape.top call }
+    requires few { line.old.wants < 65536 }
+    ensures serves { ServesCall request.now call close (moment_of S.Source K.Sink B.content line.old) (moment_of S.Source K.Sink B.content line.new) result }
+    ensures needed { ReadsWhere S.Source (IsShort request.now.length) line.old.frame.now.held line.old.src.now line.new.src.now }
+    ensures same { SameEnds line.old line.new }
 {
     let watch = Stopwatch::start(rt);
-    let reply = match reply_to(rt, alloc, frame, board, src, gate, steps, request, call) {
+    let reply = match reply_to(
+        rt, alloc, line.frame, line.board, line.src, gate, line.steps, request, call,
+    ) {
         Ok(reply) => reply,
         Err(stop) => return Err(body_end(stop)),
     };
-    count_want(wants, &reply);
+    line.wants = count_want(line.wants, &reply);
     let due = Due {
         watch,
         method: request.method,
-        path: frame.path(),
+        path: line.frame.path(),
         close,
     };
-    match send_text(rt, sink, due, &reply) {
+    match send_text(rt, line.sink, due, &reply) {
         Ok(()) => return Ok(()),
         Err(_) => return Err(SessionEnd::WriteFault),
     }
 }
 
-/// Reads the body of a request and answers it; `wants` is how many requests have found no memory.
+/// Reads the body of a request and answers it.
 ///
 /// # Errors
 ///
@@ -257,51 +226,28 @@ fn serve_call<
 >(
     rt: &R,
     alloc: Global,
-    frame: &mut Frame,
-    board: &mut B,
-    src: &mut S,
-    sink: &mut K,
     gate: &G,
-    steps: &mut Steps,
+    line: &mut Line<'_, '_, '_, '_, '_, B, S, K>,
     request: &Request,
     call: Call,
     close: bool,
-    wants: &mut u32,
 ) -> Result<(), SessionEnd>
-    requires turn { frame.old.turn ≡ AtBody request.now.length }
-    requires leaf { HasLeaf (B.content board.old).conf.shape.top call }
-    requires file { HasFile frame.old.path call }
-    requires few { wants.old < 65536 }
-    ensures ok { OnOk result ((answer : Answer) × Replied request.now call frame.old frame.new (S.left src.old) (S.left src.new) (B.content board.old) (B.content board.new) steps.old steps.new wants.old wants.new answer
-        × Appends (K.held sink.old) (K.held sink.new) (reply_of close request.now answer)) }
-    ensures broken { result ≡ Err WriteFault → (answer : Answer) × Replied request.now call frame.old frame.new (S.left src.old) (S.left src.new) (B.content board.old) (B.content board.new) steps.old steps.new wants.old wants.new answer
-        × AppendsPrefix (K.held sink.old) (K.held sink.new) (reply_of close request.now answer) }
-    ensures halted { IfErr result (λ end. ¬ (end ≡ WriteFault) → Halts request.now frame.old frame.new (S.left src.old) (S.left src.new) (S.faults src.old) (S.faults src.new)
-        (B.content board.old) (B.content board.new) steps.old steps.new wants.old wants.new (K.held sink.old) (K.held sink.new) end) }
-    ensures handed_on { OnOk result (K.handed_on sink.new ≡ K.held sink.new) }
-    ensures stays { OnErr result (K.handed_on sink.new ≡ K.handed_on sink.old) }
-    ensures unwritten { IfErr result (λ end. ¬ (end ≡ WriteFault) → K.held sink.new ≡ K.held sink.old) }
-    ensures needed { (came : List ℕ) × ReadsWhile S.left S.readings (IsShort request.now.length) frame.old.held src.old src.new came }
-    ensures write_fault { result ≡ Err WriteFault → Rises (K.faults sink.old) (K.faults sink.new) }
-    ensures memory { IfErr result (λ end. end ≢ OutOfMemory) }
-    ensures source_never_falls { S.faults src.old ≤ S.faults src.new }
-    ensures sink_never_falls { K.faults sink.old ≤ K.faults sink.new }
-    ensures steps_never_fall { steps.old ≤ steps.new }
-    ensures wants { wants.new ≤ wants.old + 1 }
-    ensures room { frame.new.room ≡ frame.old.room }
+    requires turn { line.old.frame.now.turn ≡ AtBody request.now.length }
+    requires leaf { HasLeaf (B.content line.old.board.now).conf.shape.top call }
+    requires file { HasFile line.old.frame.now.path call }
+    requires few { line.old.wants < 65536 }
+    ensures serves { ServesCall request.now call close (moment_of S.Source K.Sink B.content line.old) (moment_of S.Source K.Sink B.content line.new) result }
+    ensures needed { ReadsWhere S.Source (IsShort request.now.length) line.old.frame.now.held line.old.src.now line.new.src.now }
+    ensures same { SameEnds line.old line.new }
 {
     if let Call::File(file) = call {
-        let _wants = *wants;
-        let _steps = steps.count();
-        return serve_file(rt, frame, board, src, sink, request, file, close);
+        return serve_file(rt, line, request, file, close);
     }
-    serve_text(
-        rt, alloc, frame, board, src, sink, gate, steps, request, call, close, wants,
-    )
+    serve_text(rt, alloc, gate, line, request, call, close)
 }
 
-/// Reads one request and answers it: `top` is the order of the survey's leaves, `count` how many requests came before it, and
-/// `wants` how many of them have found no memory. It answers whether the request asked to close.
+/// Reads one request and answers it: `top` is the order of the survey's leaves, `count` how many requests came before it. It
+/// answers whether the request asked to close.
 ///
 /// # Errors
 ///
@@ -315,59 +261,36 @@ pub(crate) fn serve_one<
 >(
     rt: &R,
     alloc: Global,
-    frame: &mut Frame,
-    board: &mut B,
-    src: &mut S,
-    sink: &mut K,
     gate: &G,
-    steps: &mut Steps,
+    line: &mut Line<'_, '_, '_, '_, '_, B, S, K>,
     top: u8,
     count: u32,
-    wants: &mut u32,
 ) -> Result<bool, SessionEnd>
-    requires turn { frame.old.turn ≡ AtHead }
-    requires room { frame.old.room ≡ room_of (B.content board.old).conf }
-    requires top { top ≡ (B.content board.old).conf.shape.top }
+    requires turn { line.old.frame.now.turn ≡ AtHead }
+    requires room { line.old.frame.now.room ≡ room_of (B.content line.old.board.now).conf }
+    requires top { top ≡ (B.content line.old.board.now).conf.shape.top }
     requires small { top ≤ 11 }
     requires few { count < 65536 }
-    requires wants { wants.old ≤ count }
-    ensures ok { IfOk result (IsServedOne count (B.content board.old) (B.content board.new) steps.old steps.new wants.old wants.new
-        (unread frame.old (S.left src.old)) (unread frame.new (S.left src.new)) (K.held sink.old) (K.held sink.new)) }
-    ensures stops { IfErr result (StopsOne count (room_of (B.content board.old).conf) (B.content board.old) (B.content board.new) steps.old steps.new wants.old wants.new
-        (unread frame.old (S.left src.old)) (unread frame.new (S.left src.new)) (S.left src.new) (K.held sink.old) (K.held sink.new)) }
-    ensures left { IfSome (unread frame.old (S.left src.old)) (λ all. LeavesPart all (S.left src.new)) }
-    ensures handed_on { OnOk result (K.handed_on sink.new ≡ K.held sink.new) }
-    ensures hands_on { IfErr result (λ end. ¬ (end ≡ WriteFault) → HandsOnAll (K.held sink.old) (K.held sink.new) (K.handed_on sink.old) (K.handed_on sink.new)) }
-    ensures breaks { result ≡ Err WriteFault → (more : List ℕ) × HandsOn (K.held sink.old) (K.handed_on sink.old) (K.handed_on sink.new) more }
-    ensures turn { OnOk result (frame.new.turn ≡ AtHead) }
-    ensures reads { IsSome (S.left src.old) → (came : List ℕ) × ReadsWhile S.left S.readings (NeedsRest frame.old.room) frame.old.held src.old src.new came
-        × HoldsBehind frame.old.room (frame.old.held ++ came) frame.new.held result }
-    ensures read_fault { result ≡ Err ReadFault → Rises (S.faults src.old) (S.faults src.new) }
-    ensures write_fault { result ≡ Err WriteFault → Rises (K.faults sink.old) (K.faults sink.new) }
-    ensures memory { IfErr result (λ end. end ≢ OutOfMemory) }
-    ensures source_never_falls { S.faults src.old ≤ S.faults src.new }
-    ensures sink_never_falls { K.faults sink.old ≤ K.faults sink.new }
-    ensures steps_never_fall { steps.old ≤ steps.new }
-    ensures wants { wants.new ≤ wants.old + 1 }
-    ensures room { frame.new.room ≡ frame.old.room }
+    requires wants { line.old.wants ≤ count }
+    ensures serves { ServesOne count (moment_of S.Source K.Sink B.content line.old) (moment_of S.Source K.Sink B.content line.new) result }
+    ensures reads { IsSome (S.left line.old.src.now) → (came : List ℕ) × ReadsWhile S.left S.readings (NeedsRest line.old.frame.now.room) line.old.frame.now.held line.old.src.now line.new.src.now came
+        × HoldsBehind line.old.frame.now.room (line.old.frame.now.held ++ came) line.new.frame.now.held result }
+    ensures same { SameEnds line.old line.new }
 {
-    let (request, call) = match next_call(frame, src, top) {
+    let (request, call) = match next_call(line.frame, line.src, top) {
         Ok(next) => next,
-        Err(stop) => return Err(end_at(rt, sink, stop)),
+        Err(stop) => return Err(end_at(rt, line.sink, stop)),
     };
-    match grant(sink, &request) {
+    match grant(line.sink, &request) {
         Ok(()) => {}
         Err(_) => return Err(SessionEnd::WriteFault),
     }
     let close = closes(request.close, count);
-    match serve_call(
-        rt, alloc, frame, board, src, sink, gate, steps, &request, call, close, wants,
-    ) {
+    match serve_call(rt, alloc, gate, line, &request, call, close) {
         Ok(()) => return Ok(request.close),
         Err(end) => return Err(end),
     }
 }
-
 // Whether the connection is closed after a reply: the request asked for it, or it is the last that may be answered.
 fn closes(asked: bool, count: u32) -> bool
     requires { count < 65536 }
@@ -376,13 +299,11 @@ fn closes(asked: bool, count: u32) -> bool
     asked || count + 1 == MOST_REQUESTS
 }
 
-// Counts a reply that tells want of memory.
-fn count_want(wants: &mut u32, reply: &TextReply)
-    requires { wants.old < 65536 }
-    ensures counted { wants.new ≡ wants_after wants.old reply.now }
-    ensures one { wants.new ≤ wants.old + 1 }
+// How many requests have found no memory after a reply.
+fn count_want(wants: u32, reply: &TextReply) -> u32
+    requires { wants < 65536 }
+    ensures counted { result ≡ wants_after wants reply.now }
+    ensures one { result ≤ wants + 1 }
 {
-    if reply.code == 503 {
-        *wants += 1;
-    }
+    if reply.code == 503 { wants + 1 } else { wants }
 }

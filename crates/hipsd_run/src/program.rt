@@ -12,7 +12,7 @@ ghost use Rattle.leaf_probe.specs.Merging.{steps_after};
 ghost use Rattle.leaf_probe.specs.Reading.{ReadsToTheEnd};
 ghost use Rattle.hipsd_run.specs.Run.{usage_text, EndsBy};
 ghost use Rattle.survey_commands.specs.Survey.{RunsExport, RunsVerify};
-ghost use Rattle.survey_commands.specs.Session.{RunsSession, ends_of};
+ghost use Rattle.survey_commands.specs.Session.{RunsSession, connection_of};
 ghost use Rattle.survey_commands.specs.Make.{RunsMake};
 ghost use Rattle.hips_place.specs.Place.{SomeRises};
 ghost use Rattle.survey_commands.specs.Serve.{RunsServe};
@@ -123,26 +123,22 @@ where
     // A connection over the source and the sink, where the source tells its input.
     ensures session { (input : List ℕ) → Asks (texts words.now) Session → S.left source.old ≡ Some input
         → RunsSession (H.files shelf.old) input
-        (ends_of (S.left source.old) (K.held sink.old) (K.handed_on sink.old) (S.faults source.old) (K.faults sink.old))
-        (ends_of (S.left source.new) (K.held sink.new) (K.handed_on sink.new) (S.faults source.new) (K.faults sink.new))
+        (connection_of S.Source K.Sink source.old sink.old) (connection_of S.Source K.Sink source.new sink.new)
         result }
     ensures session_unread { Asks (texts words.now) Session → (result ≡ 2) ⊎ (result ≡ 3) → source.new ≡ source.old }
 
     // Records about past states over the source and the sink, where the source tells its input.
     ensures past { (cache : ℕ) (input : List ℕ) → Asks (texts words.now) (Past cache) → S.left source.old ≡ Some input
         → RunsPast (H.files shelf.old) input
-        (ends_of (S.left source.old) (K.held sink.old) (K.handed_on sink.old) (S.faults source.old) (K.faults sink.old))
-        (ends_of (S.left source.new) (K.held sink.new) (K.handed_on sink.new) (S.faults source.new) (K.faults sink.new))
+        (connection_of S.Source K.Sink source.old sink.old) (connection_of S.Source K.Sink source.new sink.new)
         steps.old steps.new result }
 
     // The same whatever the source tells: of the bytes that were read.
     ensures past_over { (cache : ℕ) → Asks (texts words.now) (Past cache) → RunsPastOver (H.files shelf.old)
-        (ends_of (S.left source.old) (K.held sink.old) (K.handed_on sink.old) (S.faults source.old) (K.faults sink.old))
-        (ends_of (S.left source.new) (K.held sink.new) (K.handed_on sink.new) (S.faults source.new) (K.faults sink.new))
+        (connection_of S.Source K.Sink source.old sink.old) (connection_of S.Source K.Sink source.new sink.new)
         steps.old steps.new result }
     ensures past_handed_on { (cache : ℕ) → Asks (texts words.now) (Past cache) → HandsOnPast result
-        (ends_of (S.left source.old) (K.held sink.old) (K.handed_on sink.old) (S.faults source.old) (K.faults sink.old))
-        (ends_of (S.left source.new) (K.held sink.new) (K.handed_on sink.new) (S.faults source.new) (K.faults sink.new)) }
+        (connection_of S.Source K.Sink source.old sink.old) (connection_of S.Source K.Sink source.new sink.new) }
     ensures past_unread { (cache : ℕ) → Asks (texts words.now) (Past cache) → (result ≡ 2) ⊎ (result ≡ 3) → source.new ≡ source.old }
 
     // A catalogue, where the source tells its input.
@@ -154,8 +150,7 @@ where
 
     // A copy of a peer's survey, whatever the source tells.
     ensures mirror { Asks (texts words.now) Mirror → RunsMirror (copying_of
-        (ends_of (S.left source.old) (K.held sink.old) (K.handed_on sink.old) (S.faults source.old) (K.faults sink.old))
-        (ends_of (S.left source.new) (K.held sink.new) (K.handed_on sink.new) (S.faults source.new) (K.faults sink.new))
+        (connection_of S.Source K.Sink source.old sink.old) (connection_of S.Source K.Sink source.new sink.new)
         (H.files shelf.old) (H.files shelf.new) steps.old steps.new) result }
 
     // A made survey.

@@ -1,12 +1,12 @@
 -- What `mirror` does: it copies one published state of a peer's survey onto the shelf. The source has what the peer sends, and
 -- the sink gets the requests.
 use Rattle.std.specs.Prelude.{◌≡◌, ◌≢◌, ◌⊎◌, ℕ, Option, Result, Ok, Err, IfSome}
+use Rattle.survey_link.specs.Door.{Connection}
 use Rattle.survey_link.specs.Shelf.{ShelfFiles}
 use Rattle.shelf_io.specs.Survey.{OthersStay}
 use Rattle.hips_mirror.specs.Mirror.{Copies, Refuses, Talks, StepsFit}
 use Rattle.hips_mirror.specs.declared.refusal.MirrorRefusal.{MirrorRefusal}
 use Rattle.hips_mirror.specs.declared.refusal.MirrorRefusal.TheVariants.{Reply, Properties, Cover, TooLarge, Leaf, Differs, Cut, ReadFault, WriteFault, ShelfFault, OutOfMemory}
-use Rattle.survey_commands.specs.Session.{Ends}
 
 -- ---- the status
 
@@ -27,8 +27,8 @@ refusal_status OutOfMemory = 11
 
 -- what a run is told of: the source, the sink, the files and the count of steps, before and after
 pub record Copying : Type 0 where
-  pub old : Ends
-  pub new : Ends
+  pub old : Connection
+  pub new : Connection
   pub files : Option ShelfFiles
   pub files_then : Option ShelfFiles
   pub steps : ℕ
@@ -36,16 +36,16 @@ pub record Copying : Type 0 where
 
 -- the shelf's files of a survey became those of the copy, so many, and all requests were written and handed on
 pub record IsCopied (run : Copying) (count : ℕ) : Type 0 where
-  pub copies : Copies run.old.left run.old.held run.new.held run.files run.files_then run.steps run.steps_then count
-  pub handed_on : run.new.handed_on ≡ run.new.held
+  pub copies : Copies run.old.unread run.old.written run.new.written run.files run.files_then run.steps run.steps_then count
+  pub handed_on : run.new.handed_on ≡ run.new.written
 
 -- it came no further for this refusal, the first that what the peer sends gives. The files stay, unless the shelf failed or
 -- there was no memory once all replies were read; all files stay that no survey can have
 pub record IsRefused (run : Copying) (refusal : MirrorRefusal) : Type 0 where
-  pub refused : IfSome run.old.left (λ bytes. Refuses bytes refusal)
+  pub refused : IfSome run.old.unread (λ bytes. Refuses bytes refusal)
   pub untouched : refusal ≢ ShelfFault → refusal ≢ OutOfMemory → run.files_then ≡ run.files
-  pub last : (run.files_then ≡ run.files) ⊎ (Talks run.old.left run.old.held run.new.held × OthersStay run.files run.files_then)
-  pub steps : (run.steps_then ≡ run.steps) ⊎ StepsFit run.old.left run.steps run.steps_then
+  pub last : (run.files_then ≡ run.files) ⊎ (Talks run.old.unread run.old.written run.new.written × OthersStay run.files run.files_then)
+  pub steps : (run.steps_then ≡ run.steps) ⊎ StepsFit run.old.unread run.steps run.steps_then
 
 abbrev pub MirrorOf : Copying → ℕ → Result ℕ MirrorRefusal → Type 0
 MirrorOf run status (Ok count) = (status ≡ 0) × IsCopied run count
@@ -55,6 +55,6 @@ MirrorOf run status (Err refusal) = (status ≡ refusal_status refusal) × IsRef
 abbrev pub RunsMirror : Copying → ℕ → Type 0
 RunsMirror run status = (outcome : Result ℕ MirrorRefusal) × MirrorOf run status outcome
 
-abbrev pub copying_of : Ends → Ends → Option ShelfFiles → Option ShelfFiles → ℕ → ℕ → Copying
+abbrev pub copying_of : Connection → Connection → Option ShelfFiles → Option ShelfFiles → ℕ → ℕ → Copying
 copying_of old new files files_then steps steps_then =
     record { old = old; new = new; files = files; files_then = files_then; steps = steps; steps_then = steps_then }

@@ -1,6 +1,7 @@
 -- What `past` does: it opens the shelf, and answers records about past states of its survey, over the source and the sink.
 use Rattle.std.specs.Prelude.{◌≡◌, ℕ, ◌+◌, ◌≤◌, List, [], length, Option, Some, Result, Ok, Err, IfSome}
 use Rattle.std.specs.Io.KnownBytes.{Consumes}
+use Rattle.survey_link.specs.Door.{Connection}
 use Rattle.survey_link.specs.Shelf.{ShelfFiles}
 use Rattle.generation.specs.Files.{leaf_map}
 use Rattle.generation.specs.Steps.{tiles_above}
@@ -10,7 +11,7 @@ use Rattle.past_session.specs.Run.{SinkBytes, HandsOnAll, PastRun}
 use Rattle.past_session.specs.declared.ending.PastEnd.{PastEnd}
 use Rattle.past_session.specs.declared.ending.PastEnd.TheVariants.{Done, Cut, BadLine, Spent, ReadFault, WriteFault, OutOfMemory}
 use Rattle.survey_commands.specs.Survey.{SaysWhy}
-use Rattle.survey_commands.specs.Session.{Ends, OpensAs, OpensNot}
+use Rattle.survey_commands.specs.Session.{OpensAs, OpensNot}
 
 -- ---- what is asked
 
@@ -32,17 +33,17 @@ past_status (BadLine at) = 17
 
 -- ---- the run
 
-abbrev pub sink_of : Ends → SinkBytes
-sink_of ends = record { held = ends.held; handed_on = ends.handed_on }
+abbrev pub sink_of : Connection → SinkBytes
+sink_of connection = record { held = connection.written; handed_on = connection.handed_on }
 
 -- unless a writing failed, all that the sink holds was handed on, or nothing was written
-abbrev pub HandsOnPast : ℕ → Ends → Ends → Type 0
+abbrev pub HandsOnPast : ℕ → Connection → Connection → Type 0
 HandsOnPast status old new = (status ≡ 6 → ⊥) → HandsOnAll (sink_of old) (sink_of new)
 
 -- the records of the survey were answered, whose source had this input; the count of steps before and after
-pub record AnswersPast (survey : OpenedSurvey) (input : List ℕ) (old new : Ends) (steps steps' status : ℕ) : Type 0 where
+pub record AnswersPast (survey : OpenedSurvey) (input : List ℕ) (old new : Connection) (steps steps' status : ℕ) : Type 0 where
   pub end : PastEnd
-  pub run : PastRun survey.conf survey.leaves input new.left (sink_of old) (sink_of new) steps steps' end
+  pub run : PastRun survey.conf survey.leaves input new.unread (sink_of old) (sink_of new) steps steps' end
   pub status_is : status ≡ past_status end
 
 -- how many steps opening it takes at most: one for each leaf, and one for each tile above them
@@ -50,33 +51,33 @@ abbrev pub opened_cost : OpenedSurvey → ℕ
 opened_cost survey = length survey.leaves + tiles_above survey.conf.shape (leaf_map survey.leaves)
 
 -- the files open as this survey, and then its records were answered
-pub record OpensAndAnswers (found : Option ShelfFiles) (survey : OpenedSurvey) (input : List ℕ) (old new : Ends) (steps steps' status : ℕ) : Type 0 where
+pub record OpensAndAnswers (found : Option ShelfFiles) (survey : OpenedSurvey) (input : List ℕ) (old new : Connection) (steps steps' status : ℕ) : Type 0 where
   pub opens : OpensAs found survey
   pub steps_then : ℕ
   pub cost : steps_then ≤ steps + opened_cost survey
   pub answers : AnswersPast survey input old new steps_then steps' status
 
 -- they open as none, which is said
-pub record OpensAndSays (found : Option ShelfFiles) (refusal : LoadRefusal) (old new : Ends) (steps steps' status : ℕ) : Type 0 where
+pub record OpensAndSays (found : Option ShelfFiles) (refusal : LoadRefusal) (old new : Connection) (steps steps' status : ℕ) : Type 0 where
   pub opens_not : OpensNot found refusal
-  pub unread : new.left ≡ old.left
-  pub says : SaysWhy refusal status old.held new.held old.handed_on new.handed_on
+  pub unread : new.unread ≡ old.unread
+  pub says : SaysWhy refusal status old.written new.written old.handed_on new.handed_on
   pub cost : IfSome found (λ files. steps' ≤ steps + opening_steps files)
 
 -- `past`, over the files and an input, by what the files open as
-abbrev pub PastOf : Option ShelfFiles → List ℕ → Ends → Ends → ℕ → ℕ → ℕ → Result OpenedSurvey LoadRefusal → Type 0
+abbrev pub PastOf : Option ShelfFiles → List ℕ → Connection → Connection → ℕ → ℕ → ℕ → Result OpenedSurvey LoadRefusal → Type 0
 PastOf found input old new steps steps' status (Ok survey) = OpensAndAnswers found survey input old new steps steps' status
 PastOf found input old new steps steps' status (Err refusal) = OpensAndSays found refusal old new steps steps' status
 
-abbrev pub RunsPast : Option ShelfFiles → List ℕ → Ends → Ends → ℕ → ℕ → ℕ → Type 0
+abbrev pub RunsPast : Option ShelfFiles → List ℕ → Connection → Connection → ℕ → ℕ → ℕ → Type 0
 RunsPast found input old new steps steps' status = (opened : Result OpenedSurvey LoadRefusal) × PastOf found input old new steps steps' status opened
 
--- the same ends, where the source tells these bytes
-abbrev pub telling : List ℕ → Ends → Ends
-telling bytes ends = record { left = Some bytes; held = ends.held; handed_on = ends.handed_on; source_faults = ends.source_faults; sink_faults = ends.sink_faults }
+-- the same connection, where the source tells these bytes
+abbrev pub telling : List ℕ → Connection → Connection
+telling bytes connection = record connection { unread = Some bytes }
 
 -- whatever the source tells, it is so of the bytes that were read, as though the input ended behind them
-pub record RunsPastOver (found : Option ShelfFiles) (old new : Ends) (steps steps' status : ℕ) : Type 0 where
+pub record RunsPastOver (found : Option ShelfFiles) (old new : Connection) (steps steps' status : ℕ) : Type 0 where
   pub came : List ℕ
-  pub consumed : Consumes old.left new.left came
+  pub consumed : Consumes old.unread new.unread came
   pub run : RunsPast found came (telling came old) (telling [] new) steps steps' status

@@ -4,7 +4,10 @@ use Rattle.std.specs.Prelude.{◌≡◌, ◌⊎◌, ℕ, ◌-◌, ◌≤◌, Lis
 use Rattle.std.specs.List.{range_with_len}
 use Rattle.std.specs.Result.{result_err}
 use Rattle.std.specs.Io.KnownBytes.{Appends}
+use Rattle.survey_link.specs.Door.{Connection}
 use Rattle.survey_link.specs.Link.{Rises}
+use Rattle.survey_link.specs.declared.source.Source as source
+use Rattle.survey_link.specs.declared.sink.Sink as sink
 use Rattle.survey_link.specs.Shelf.{ShelfFiles}
 use Rattle.shelf_io.specs.Opening.{OpenedSurvey, opening, IsRefusedBy}
 use Rattle.shelf_io.specs.declared.refusal.LoadRefusal.{LoadRefusal}
@@ -42,24 +45,22 @@ end_status (Refused code) = 14
 
 -- ---- the run
 
--- the source and the sink: the bytes left and those held and handed on, where they are told, and the counts of faults
-pub record Ends : Type 0 where
-  pub left : Option (List ℕ)
-  pub held : Option (List ℕ)
-  pub handed_on : Option (List ℕ)
-  pub source_faults : ℕ
-  pub sink_faults : ℕ
-
-abbrev pub ends_of : Option (List ℕ) → Option (List ℕ) → Option (List ℕ) → ℕ → ℕ → Ends
-ends_of left held handed source_faults sink_faults =
-    record { left = left; held = held; handed_on = handed; source_faults = source_faults; sink_faults = sink_faults }
+-- a source and a sink as the ends of one connection
+abbrev pub connection_of : {S K : Type 0} → source.Ghosts S → sink.Ghosts K → S → K → Connection
+connection_of told_source told_sink src end = record {
+  unread = told_source.left src;
+  written = told_sink.held end;
+  handed_on = told_sink.handed_on end;
+  source_faults = told_source.faults src;
+  sink_faults = told_sink.faults end;
+}
 
 -- a connection as the ends tell it, whose source had this input; handing on what was written comes after it, at which the sink
 -- may fail too
-pub record IsTold (input : List ℕ) (old new : Ends) (exchange : Exchange) : Type 0 where
+pub record IsTold (input : List ℕ) (old new : Connection) (exchange : Exchange) : Type 0 where
   pub input_is : input ≡ input_of exchange
-  pub left : new.left ≡ Some exchange.left
-  pub written : Appends old.held new.held exchange.written
+  pub left : new.unread ≡ Some exchange.left
+  pub written : Appends old.written new.written exchange.written
   pub source_faults : exchange.source_faults ≡ old.source_faults
   pub source_faults_then : exchange.source_faults_then ≡ new.source_faults
   pub sink_faults : exchange.sink_faults ≡ old.sink_faults
@@ -67,12 +68,12 @@ pub record IsTold (input : List ℕ) (old new : Ends) (exchange : Exchange) : Ty
 
 -- the status is that of the end, and all that was written is handed on; or the sink failed at that, and what the connection had
 -- handed on stays
-abbrev pub EndsWith : SessionEnd → ℕ → Exchange → Ends → Ends → Type 0
-EndsWith end status exchange old new = ((status ≡ end_status end) × (new.handed_on ≡ new.held))
-    ⊎ ((status ≡ 6) × Rises old.sink_faults new.sink_faults × HandsOn old.held old.handed_on new.handed_on exchange.handed_on)
+abbrev pub EndsWith : SessionEnd → ℕ → Exchange → Connection → Connection → Type 0
+EndsWith end status exchange old new = ((status ≡ end_status end) × (new.handed_on ≡ new.written))
+    ⊎ ((status ≡ 6) × Rises old.sink_faults new.sink_faults × HandsOn old.written old.handed_on new.handed_on exchange.handed_on)
 
 -- one connection of the survey was served, whose source had this input
-pub record Serves (survey : OpenedSurvey) (input : List ℕ) (old new : Ends) (status : ℕ) : Type 0 where
+pub record Serves (survey : OpenedSurvey) (input : List ℕ) (old new : Connection) (status : ℕ) : Type 0 where
   pub exchange : Exchange
   pub told : IsTold input old new exchange
   pub states : List SurveyState
@@ -89,10 +90,10 @@ abbrev pub OpensNot : Option ShelfFiles → LoadRefusal → Type 0
 OpensNot found refusal = IfSome found (λ files. IsRefusedBy (result_err (opening files)) refusal)
 
 -- `session`, over the files and an input: the survey that the files open as is served; or they open as none, which is said
-abbrev pub SessionOf : Option ShelfFiles → List ℕ → Ends → Ends → ℕ → Result OpenedSurvey LoadRefusal → Type 0
+abbrev pub SessionOf : Option ShelfFiles → List ℕ → Connection → Connection → ℕ → Result OpenedSurvey LoadRefusal → Type 0
 SessionOf found input old new status (Ok survey) = OpensAs found survey × Serves survey input old new status
-SessionOf found input old new status (Err refusal) = OpensNot found refusal × (new.left ≡ old.left)
-    × SaysWhy refusal status old.held new.held old.handed_on new.handed_on
+SessionOf found input old new status (Err refusal) = OpensNot found refusal × (new.unread ≡ old.unread)
+    × SaysWhy refusal status old.written new.written old.handed_on new.handed_on
 
-abbrev pub RunsSession : Option ShelfFiles → List ℕ → Ends → Ends → ℕ → Type 0
+abbrev pub RunsSession : Option ShelfFiles → List ℕ → Connection → Connection → ℕ → Type 0
 RunsSession found input old new status = (opened : Result OpenedSurvey LoadRefusal) × SessionOf found input old new status opened

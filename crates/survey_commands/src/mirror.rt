@@ -2,7 +2,7 @@
 ghost use Rattle.std.specs.Prelude.{◌≡◌, ◌≢◌, ◌≤◌};
 ghost use Rattle.survey_link.specs.Link.{Rises};
 ghost use Rattle.hips_mirror.specs.declared.refusal.MirrorRefusal.TheVariants.{ReadFault, WriteFault, ShelfFault};
-ghost use Rattle.survey_commands.specs.Session.{ends_of};
+ghost use Rattle.survey_commands.specs.Session.{connection_of};
 ghost use Rattle.survey_commands.specs.Mirror.{RunsMirror, copying_of, refusal_status};
 
 use hips_mirror::{MirrorRefusal, mirror};
@@ -42,8 +42,7 @@ where
     H: Shelf,
     G: Gate + Sync,
     ensures run { RunsMirror (copying_of
-        (ends_of (S.left source.old) (K.held sink.old) (K.handed_on sink.old) (S.faults source.old) (K.faults sink.old))
-        (ends_of (S.left source.new) (K.held sink.new) (K.handed_on sink.new) (S.faults source.new) (K.faults sink.new))
+        (connection_of S.Source K.Sink source.old sink.old) (connection_of S.Source K.Sink source.new sink.new)
         (H.files shelf.old) (H.files shelf.new) steps.old steps.new) result }
     ensures not_usage { result ≢ 1 }
     ensures not_opened { (result ≢ 2) × (result ≢ 3) }

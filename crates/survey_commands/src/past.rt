@@ -7,7 +7,7 @@ ghost use Rattle.edit_journal.specs.Faults.{most_charge};
 ghost use Rattle.past_session.specs.Run.{RunsOver};
 ghost use Rattle.past_session.specs.declared.ending.PastEnd.{PastEnd as Ending};
 ghost use Rattle.shelf_io.specs.Opening.{OpenedSurvey, opening_steps};
-ghost use Rattle.survey_commands.specs.Session.{OpensAs, OpensNot, ends_of};
+ghost use Rattle.survey_commands.specs.Session.{OpensAs, OpensNot, connection_of};
 ghost use Rattle.survey_commands.specs.Past.{IsPast, RunsPast, RunsPastOver, HandsOnPast, AnswersPast, opened_cost, past_status};
 
 use crate::refusing::say_why;
@@ -51,16 +51,13 @@ where
     G: Gate + Sync,
     requires cache { IsPast cache }
     ensures run { (input : List ℕ) → S.left source.old ≡ Some input → RunsPast (H.files shelf.old) input
-        (ends_of (S.left source.old) (K.held sink.old) (K.handed_on sink.old) (S.faults source.old) (K.faults sink.old))
-        (ends_of (S.left source.new) (K.held sink.new) (K.handed_on sink.new) (S.faults source.new) (K.faults sink.new))
+        (connection_of S.Source K.Sink source.old sink.old) (connection_of S.Source K.Sink source.new sink.new)
         steps.old steps.new result }
     ensures over { RunsPastOver (H.files shelf.old)
-        (ends_of (S.left source.old) (K.held sink.old) (K.handed_on sink.old) (S.faults source.old) (K.faults sink.old))
-        (ends_of (S.left source.new) (K.held sink.new) (K.handed_on sink.new) (S.faults source.new) (K.faults sink.new))
+        (connection_of S.Source K.Sink source.old sink.old) (connection_of S.Source K.Sink source.new sink.new)
         steps.old steps.new result }
     ensures handed_on { HandsOnPast result
-        (ends_of (S.left source.old) (K.held sink.old) (K.handed_on sink.old) (S.faults source.old) (K.faults sink.old))
-        (ends_of (S.left source.new) (K.held sink.new) (K.handed_on sink.new) (S.faults source.new) (K.faults sink.new)) }
+        (connection_of S.Source K.Sink source.old sink.old) (connection_of S.Source K.Sink source.new sink.new) }
     ensures kept { H.files shelf.new ≡ H.files shelf.old }
     ensures unread { (result ≡ 2) ⊎ (result ≡ 3) → source.new ≡ source.old }
     ensures not_usage { result ≢ 1 }
@@ -128,15 +125,13 @@ where
     requires charge { charge_of (arc_value opening).leaves [] ≤ most_charge }
     ensures answered { (input : List ℕ) → S.left source.old ≡ Some input
         → AnswersPast (record { conf = (arc_value opening).conf; leaves = (arc_value opening).leaves }) input
-        (ends_of (S.left source.old) (K.held sink.old) (K.handed_on sink.old) (S.faults source.old) (K.faults sink.old))
-        (ends_of (S.left source.new) (K.held sink.new) (K.handed_on sink.new) (S.faults source.new) (K.faults sink.new))
+        (connection_of S.Source K.Sink source.old sink.old) (connection_of S.Source K.Sink source.new sink.new)
         steps.old steps.new result }
     ensures over { (end : Ending) × RunsOver (arc_value opening).conf (arc_value opening).leaves (S.left source.old) (S.left source.new)
         (record { held = K.held sink.old; handed_on = K.handed_on sink.old }) (record { held = K.held sink.new; handed_on = K.handed_on sink.new }) steps.old steps.new end
         × (result ≡ past_status end) }
     ensures handed_on { HandsOnPast result
-        (ends_of (S.left source.old) (K.held sink.old) (K.handed_on sink.old) (S.faults source.old) (K.faults sink.old))
-        (ends_of (S.left source.new) (K.held sink.new) (K.handed_on sink.new) (S.faults source.new) (K.faults sink.new)) }
+        (connection_of S.Source K.Sink source.old sink.old) (connection_of S.Source K.Sink source.new sink.new) }
     ensures no_refusal { (result ≢ 1) × (result ≢ 2) × (result ≢ 3) × (result ≢ 7) × (result ≢ 8) }
     ensures read_fault { result ≡ 5 → Rises (S.faults source.old) (S.faults source.new) }
     ensures write_fault { result ≡ 6 → Rises (K.faults sink.old) (K.faults sink.new) }

@@ -1,18 +1,16 @@
 //! The command `serve`: the connections of many doors at once, over one survey.
-ghost use Rattle.std.specs.Prelude.{◌≡◌, ◌≢◌, ◌⊎◌, ◌<◌, ◌≤◌, [], map, length, take, drop, IfOk, IfErr, IsErrOf};
+ghost use Rattle.std.specs.Prelude.{◌≡◌, ◌≢◌, ◌⊎◌, ◌<◌, ◌≤◌, [], map, length, take, drop};
 ghost use Rattle.survey_link.specs.Link.{Rises};
 ghost use Rattle.hips_place.specs.Place.{SomeRises};
 ghost use Rattle.shelf_io.specs.Opening.{OpenedSurvey};
-ghost use Rattle.survey_commands.specs.Session.{OpensAs, OpensNot};
 ghost use Rattle.survey_commands.specs.Serve.{IsServe, state_of, Serves, RunsServe, place_status};
 
 use crate::refusing::say_why;
-use crate::session::first_state;
+use crate::session::open_state;
 use generation::Generation;
 use hips_place::{PlaceEnd, serve_doors};
 use log::{Log, error, info};
 use parent_rule::Steps;
-use shelf_io::{LoadRefusal, load};
 use std::alloc::AllocError;
 use std::sync::Wait;
 use std::thread::Threads;
@@ -63,33 +61,14 @@ where
     ensures steps_never_fall { steps.old ≤ steps.new }
 {
     let (served, _) = doors.split_at_mut(places);
+    let begun = Instant::now(rt).ok();
     match open_state(rt, shelf, gate, steps) {
-        Ok(state) => serve_state(rt, state, connections, gate, served),
+        Ok(state) => {
+            say_loaded(rt, state.generation(), begun);
+            serve_state(rt, state, connections, gate, served)
+        }
         Err(refusal) => say_why(rt.alloc(), sink, &refusal),
     }
-}
-
-// The first state of the survey that the shelf describes.
-fn open_state<R, H, G>(
-    rt: &R,
-    shelf: &mut H,
-    gate: &G,
-    steps: &mut Steps,
-) -> Result<State, LoadRefusal>
-where
-    R: AllocGlobal + Threads + Sync + Clock + Log,
-    H: Shelf,
-    G: Gate + Sync,
-    ensures opened { IfOk result (λ state. (survey : OpenedSurvey) × OpensAs (H.files shelf.old) survey × (state ≡ state_of survey)) }
-    ensures refused { IfErr result (OpensNot (H.files shelf.old)) }
-    ensures kept { H.files shelf.new ≡ H.files shelf.old }
-    ensures failed { IsErrOf result LoadRefusal.ShelfFault → Rises (H.faults shelf.old) (H.faults shelf.new) }
-    ensures steps_never_fall { steps.old ≤ steps.new }
-{
-    let begun = Instant::now(rt).ok();
-    let generation = load(rt, rt.alloc(), shelf, gate, steps)?;
-    say_loaded(rt, &generation, begun);
-    Ok(first_state(rt.alloc(), generation)?)
 }
 
 // Says what was loaded since then.

@@ -5,7 +5,7 @@ ghost use Rattle.edit_journal.specs.Leaves.{charge_of};
 ghost use Rattle.edit_journal.specs.Faults.{most_charge};
 ghost use Rattle.shelf_io.specs.Opening.{OpenedSurvey};
 ghost use Rattle.survey_commands.specs.Serve.{state_of};
-ghost use Rattle.survey_commands.specs.Session.{OpensAs, OpensNot, Serves, RunsSession, board_of, ends_of, end_status};
+ghost use Rattle.survey_commands.specs.Session.{OpensAs, OpensNot, Serves, RunsSession, board_of, connection_of, end_status};
 
 use crate::refusing::say_why;
 use edit_journal::StartRefusal;
@@ -48,8 +48,7 @@ where
     H: Shelf,
     G: Gate + Sync,
     ensures run { (input : List ℕ) → S.left source.old ≡ Some input → RunsSession (H.files shelf.old) input
-        (ends_of (S.left source.old) (K.held sink.old) (K.handed_on sink.old) (S.faults source.old) (K.faults sink.old))
-        (ends_of (S.left source.new) (K.held sink.new) (K.handed_on sink.new) (S.faults source.new) (K.faults sink.new))
+        (connection_of S.Source K.Sink source.old sink.old) (connection_of S.Source K.Sink source.new sink.new)
         result }
     ensures kept { H.files shelf.new ≡ H.files shelf.old }
     ensures unread { (result ≡ 2) ⊎ (result ≡ 3) → source.new ≡ source.old }
@@ -83,8 +82,33 @@ where
     ensures failed { IsErrOf result LoadRefusal.ShelfFault → Rises (H.faults shelf.old) (H.faults shelf.new) }
     ensures steps_never_fall { steps.old ≤ steps.new }
 {
+    let state = open_state(rt, shelf, gate, steps)?;
+    Ok(Solo::new(rt.alloc(), state)?)
+}
+
+/// The first state of the survey that the shelf describes.
+///
+/// # Errors
+///
+/// Why the shelf isn't opened, or that there was no memory. The shelf's files stay.
+pub(crate) fn open_state<R, H, G>(
+    rt: &R,
+    shelf: &mut H,
+    gate: &G,
+    steps: &mut Steps,
+) -> Result<State, LoadRefusal>
+where
+    R: AllocGlobal + Threads + Sync + Clock + Log,
+    H: Shelf,
+    G: Gate + Sync,
+    ensures opened { IfOk result (λ state. (survey : OpenedSurvey) × OpensAs (H.files shelf.old) survey × (state ≡ state_of survey)) }
+    ensures refused { IfErr result (OpensNot (H.files shelf.old)) }
+    ensures kept { H.files shelf.new ≡ H.files shelf.old }
+    ensures failed { IsErrOf result LoadRefusal.ShelfFault → Rises (H.faults shelf.old) (H.faults shelf.new) }
+    ensures steps_never_fall { steps.old ≤ steps.new }
+{
     let generation = load(rt, rt.alloc(), shelf, gate, steps)?;
-    Ok(first_board(rt.alloc(), generation)?)
+    Ok(first_state(rt.alloc(), generation)?)
 }
 
 /// The board of a survey of which this is the first generation.
@@ -100,12 +124,8 @@ pub fn first_board(alloc: Global, generation: Generation) -> Result<Solo, AllocE
     Solo::new(alloc, first_state(alloc, generation)?)
 }
 
-/// The first state of a survey of which this is the first generation.
-///
-/// # Errors
-///
-/// `AllocError` where there is no memory for it.
-pub fn first_state(alloc: Global, generation: Generation) -> Result<State, AllocError>
+// The first state of a survey of which this is the first generation.
+fn first_state(alloc: Global, generation: Generation) -> Result<State, AllocError>
     requires first { generation.prefix ≡ 0 }
     requires charge { charge_of generation.leaves [] ≤ most_charge }
     ensures { IfOk result (λ state. state ≡ state_of (record { conf = generation.conf; leaves = generation.leaves })) }
@@ -133,8 +153,7 @@ where
     G: Gate + Sync,
     ensures served { (survey : OpenedSurvey) (input : List ℕ) → board.old ≡ board_of survey → S.left source.old ≡ Some input
         → Serves survey input
-        (ends_of (S.left source.old) (K.held sink.old) (K.handed_on sink.old) (S.faults source.old) (K.faults sink.old))
-        (ends_of (S.left source.new) (K.held sink.new) (K.handed_on sink.new) (S.faults source.new) (K.faults sink.new))
+        (connection_of S.Source K.Sink source.old sink.old) (connection_of S.Source K.Sink source.new sink.new)
         result }
     ensures no_refusal { (result ≢ 1) × (result ≢ 2) × (result ≢ 3) × (result ≢ 7) × (result ≢ 8) }
     ensures read_fault { result ≡ 5 → Rises (S.faults source.old) (S.faults source.new) }

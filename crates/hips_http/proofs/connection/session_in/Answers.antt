@@ -10,13 +10,13 @@ use Rattle.hips_http.proofs.Whole.{no_memory_served, no_memory_goes, goes_from, 
 use Rattle.hips_http.proofs.connection.session_in.Goals as goal
 
 pub returns-in-Some-clause-goes : goal.returns-in-Some-clause-goes
-returns-in-Some-clause-goes g c = goes_from _ (g.B.Board.content c.release.new.self) _ c.release.ensures c.serve_all.ensures.goes
+returns-in-Some-clause-goes g c = goes_from _ (g.B.Board.content c.release.new.self) _ c.release.ensures c.serve_all.ensures.serves.goes
 
 pub returns-in-Some-clause-served : goal.returns-in-Some-clause-served
 returns-in-Some-clause-served g c =
     served_from (g.B.Board.content c.args.board.now) (g.B.Board.content c.release.new.self) (g.B.Board.content c.serve_all.new.board) (g.S.Source.left c.args.src.now) (g.S.Source.left c.serve_all.new.src)
     (g.K.Sink.held c.args.sink.now) (g.K.Sink.held c.serve_all.new.sink) (g.K.Sink.handed_on c.args.sink.now) (g.K.Sink.handed_on c.serve_all.new.sink) (g.S.Source.faults c.args.src.now) (g.S.Source.faults c.serve_all.new.src) (g.K.Sink.faults c.args.sink.now)
-    (g.K.Sink.faults c.serve_all.new.sink) c.args.steps.now c.serve_all.new.steps c.serve_all.result c.release.ensures c.serve_all.ensures.served
+    (g.K.Sink.faults c.serve_all.new.sink) c.args.steps.now c.serve_all.new.steps c.serve_all.result c.release.ensures c.serve_all.ensures.serves.served
 
 pub returns-in-None-clause-goes : goal.returns-in-None-clause-goes
 returns-in-None-clause-goes g c = no_memory_goes _ _ c.top_of-top.ensures.legal c.top_of-top.ensures.owned c.release.ensures

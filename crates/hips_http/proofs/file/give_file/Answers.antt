@@ -11,7 +11,7 @@ returns-in-Some-clause-gives g c = λ request steps path method.
       answer = file_answer state.conf state.opening (survey_state state) (option_copied c.args.due.path);
       serves = held_serves request c.args.file (option_copied c.args.due.path) path steps _ state c.last-legal.ensures.legal c.last-legal.ensures.owned (held_known _ _ state c.in-Some.ensures);
       finds = file_found state.conf state.opening (survey_state state) (option_copied c.args.due.path);
-      sends = record { whole = rw method c.send_path.ensures.whole; part = rw method c.send_path.ensures.part };
+      sends = rw method c.send_path.ensures.sends;
     }
 
 pub returns-in-None-clause-gives : goal.returns-in-None-clause-gives

@@ -11,5 +11,5 @@ returns-clause-gives g c = λ request steps none path method.
       answer = file_answer state.conf state.opening (survey_state state) (option_copied c.args.due.path);
       serves = newest_serves request c.args.file (option_copied c.args.due.path) path steps _ _ state c.pin.ensures none c.last.ensures.last;
       finds = file_found state.conf state.opening (survey_state state) (option_copied c.args.due.path);
-      sends = record { whole = rw method c.send_path.ensures.whole; part = rw method c.send_path.ensures.part };
+      sends = rw method c.send_path.ensures.sends;
     }

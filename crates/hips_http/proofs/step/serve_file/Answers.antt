@@ -1,17 +1,53 @@
-use Rattle.std.proofs.Common.{sym, ◌∙◌, refl}
+use Rattle.std.proofs.Common.{◌≡◌, sym, ◌∙◌, refl, arith}
+use Rattle.hips_http.specs.declared.served.SessionEnd.TheVariants.{WriteFault}
 use Rattle.hips_http.proofs.Points.{wants_found}
+use Rattle.hips_http.proofs.Steps.{body_reads}
 use Rattle.hips_http.proofs.step.serve_file.Goals as goal
 
-pub returns-in-Ok-give_file-clause-ok : goal.returns-in-Ok-give_file-clause-ok
-returns-in-Ok-give_file-clause-ok g c = λ steps wants.
-    let t = c.in-Ok.ensures.read in
-    let path = sym (c.path.ensures ∙ c.in-Ok.ensures.path) in
-    let f = c.in-Ok-give_file.ensures.gives (record { asked = c.args.request.now; path = c.args.frame.now.path; body = t.0 }) steps path refl in
-    (f.answer, record { body = t.0; takes = t.1; serves = f.serves; wants_is = sym (wants_found wants f.answer f.finds) }, f.sends.whole)
+pub returns-in-Err-clause-serves : goal.returns-in-Err-clause-serves
+returns-in-Err-clause-serves g c =
+    let ended = c.body_end.ensures.end in
+    let e = c.in-Err.ensures in
+    record {
+      ok = tt;
+      broken = λ is. let wrote : c.body_end.result ≡ WriteFault = cc in absurd (body_reads c.in-Err.stop (sym ended ∙ wrote));
+      halted = λ _. record { stop = c.in-Err.stop; leaves = e.stop; end_is = ended; untouched = record { board = refl; steps_are = refl; wants_are = refl }; written_is = refl };
+      hands = record {
+        handed_on = tt;
+        stays = refl;
+        unwritten = λ _. refl;
+        write_fault = λ is. let wrote : c.body_end.result ≡ WriteFault = cc in absurd (body_reads c.in-Err.stop (sym ended ∙ wrote));
+        memory = c.body_end.ensures.memory;
+      };
+      never_falls = record { source = e.never_falls; sink = omega arith; steps = omega arith; wants = omega arith; room = e.room };
+    }
 
-pub returns-in-Err-give_file-clause-broken : goal.returns-in-Err-give_file-clause-broken
-returns-in-Err-give_file-clause-broken g c = λ steps wants _.
+pub returns-in-Ok-give_file-clause-serves : goal.returns-in-Ok-give_file-clause-serves
+returns-in-Ok-give_file-clause-serves g c =
+    let line = c.args.line.now in
     let t = c.in-Ok.ensures.read in
+    let e = c.in-Ok-give_file.ensures in
     let path = sym (c.path.ensures ∙ c.in-Ok.ensures.path) in
-    let f = c.in-Err-give_file.ensures.gives (record { asked = c.args.request.now; path = c.args.frame.now.path; body = t.0 }) steps path refl in
-    (f.answer, record { body = t.0; takes = t.1; serves = f.serves; wants_is = sym (wants_found wants f.answer f.finds) }, f.sends.part)
+    let f = e.gives (record { asked = c.args.request.now; path = line.frame.now.path; body = t.0 }) line.steps.now path refl in
+    record {
+      ok = (f.answer, record { body = t.0; takes = t.1; serves = f.serves; wants_is = sym (wants_found line.wants f.answer f.finds) }, f.sends.whole);
+      broken = λ is. absurd (cc);
+      halted = tt;
+      hands = record { handed_on = e.hands.handed_on; stays = tt; unwritten = tt; write_fault = λ is. absurd (cc); memory = tt };
+      never_falls = record { source = c.in-Ok.ensures.never_falls; sink = e.hands.never_falls; steps = omega arith; wants = omega arith; room = c.in-Ok.ensures.room };
+    }
+
+pub returns-in-Err-give_file-clause-serves : goal.returns-in-Err-give_file-clause-serves
+returns-in-Err-give_file-clause-serves g c =
+    let line = c.args.line.now in
+    let t = c.in-Ok.ensures.read in
+    let e = c.in-Err-give_file.ensures in
+    let path = sym (c.path.ensures ∙ c.in-Ok.ensures.path) in
+    let f = e.gives (record { asked = c.args.request.now; path = line.frame.now.path; body = t.0 }) line.steps.now path refl in
+    record {
+      ok = tt;
+      broken = λ _. (f.answer, record { body = t.0; takes = t.1; serves = f.serves; wants_is = sym (wants_found line.wants f.answer f.finds) }, f.sends.part);
+      halted = λ other. absurd (other refl);
+      hands = record { handed_on = tt; stays = e.hands.stays; unwritten = λ other. absurd (other refl); write_fault = λ _. e.hands.failed; memory = λ is. cc };
+      never_falls = record { source = c.in-Ok.ensures.never_falls; sink = e.hands.never_falls; steps = omega arith; wants = omega arith; room = c.in-Ok.ensures.room };
+    }

@@ -1,11 +1,46 @@
+use Rattle.std.proofs.Common.{◌≡◌, sym, ◌∙◌, refl, arith}
+use Rattle.hips_http.specs.declared.served.SessionEnd.TheVariants.{WriteFault}
+use Rattle.hips_http.proofs.Steps.{body_reads}
 use Rattle.hips_http.proofs.step.serve_text.Goals as goal
 
-pub returns-in-Ok-send_text-clause-ok : goal.returns-in-Ok-send_text-clause-ok
-returns-in-Ok-send_text-clause-ok g c =
-    let r = c.in-Ok.ensures.replied in
-    (c.in-Ok.reply, record { body = r.body; takes = r.takes; serves = r.serves c.args.frame.now.path; wants_is = c.count_want.ensures.counted }, c.in-Ok-send_text.ensures.whole)
+pub returns-in-Err-clause-serves : goal.returns-in-Err-clause-serves
+returns-in-Err-clause-serves g c =
+    let ended = c.body_end.ensures.end in
+    let e = c.in-Err.ensures in
+    record {
+      ok = tt;
+      broken = λ is. let wrote : c.body_end.result ≡ WriteFault = cc in absurd (body_reads c.in-Err.stop (sym ended ∙ wrote));
+      halted = λ _. record { stop = c.in-Err.stop; leaves = e.stop; end_is = ended; untouched = record { board = e.unchanged; steps_are = e.no_steps; wants_are = refl }; written_is = refl };
+      hands = record {
+        handed_on = tt;
+        stays = refl;
+        unwritten = λ _. refl;
+        write_fault = λ is. let wrote : c.body_end.result ≡ WriteFault = cc in absurd (body_reads c.in-Err.stop (sym ended ∙ wrote));
+        memory = c.body_end.ensures.memory;
+      };
+      never_falls = record { source = e.source_never_falls; sink = omega arith; steps = e.steps_never_fall; wants = omega arith; room = e.room };
+    }
 
-pub returns-in-Err-send_text-clause-broken : goal.returns-in-Err-send_text-clause-broken
-returns-in-Err-send_text-clause-broken g c = λ _.
+pub returns-in-Ok-send_text-clause-serves : goal.returns-in-Ok-send_text-clause-serves
+returns-in-Ok-send_text-clause-serves g c =
     let r = c.in-Ok.ensures.replied in
-    (c.in-Ok.reply, record { body = r.body; takes = r.takes; serves = r.serves c.args.frame.now.path; wants_is = c.count_want.ensures.counted }, c.in-Err-send_text.ensures.part)
+    let e = c.in-Ok-send_text.ensures in
+    record {
+      ok = (c.in-Ok.reply, record { body = r.body; takes = r.takes; serves = r.serves c.args.line.now.frame.now.path; wants_is = c.count_want-line.ensures.counted }, e.sends.whole);
+      broken = λ is. absurd (cc);
+      halted = tt;
+      hands = record { handed_on = e.hands.handed_on; stays = tt; unwritten = tt; write_fault = λ is. absurd (cc); memory = tt };
+      never_falls = record { source = c.in-Ok.ensures.source_never_falls; sink = e.hands.never_falls; steps = c.in-Ok.ensures.steps_never_fall; wants = c.count_want-line.ensures.one; room = c.in-Ok.ensures.room };
+    }
+
+pub returns-in-Err-send_text-clause-serves : goal.returns-in-Err-send_text-clause-serves
+returns-in-Err-send_text-clause-serves g c =
+    let r = c.in-Ok.ensures.replied in
+    let e = c.in-Err-send_text.ensures in
+    record {
+      ok = tt;
+      broken = λ _. (c.in-Ok.reply, record { body = r.body; takes = r.takes; serves = r.serves c.args.line.now.frame.now.path; wants_is = c.count_want-line.ensures.counted }, e.sends.part);
+      halted = λ other. absurd (other refl);
+      hands = record { handed_on = tt; stays = e.hands.stays; unwritten = λ other. absurd (other refl); write_fault = λ _. e.hands.failed; memory = λ is. cc };
+      never_falls = record { source = c.in-Ok.ensures.source_never_falls; sink = e.hands.never_falls; steps = c.in-Ok.ensures.steps_never_fall; wants = c.count_want-line.ensures.one; room = c.in-Ok.ensures.room };
+    }

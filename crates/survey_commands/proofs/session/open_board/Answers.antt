@@ -1,8 +1,8 @@
+use Rattle.std.proofs.Common.{ap, ◌∙◌}
+use Rattle.reader_pin.specs.Solo.{opened}
 use Rattle.survey_commands.proofs.session.open_board.Goals as goal
 
 pub returns-clause-opened : goal.returns-clause-opened
-returns-clause-opened g c = (
-  record { conf = c.in_ok-generation.generation.conf; leaves = c.in_ok-generation.generation.leaves },
-  c.in_ok-generation.ensures.opened,
-  c.in_ok-first_board.ensures,
-)
+returns-clause-opened g c =
+    let found = c.in_ok-state.ensures.opened in
+    (found.0, found.1, c.in_ok-new.ensures ∙ ap opened found.2)

@@ -11,18 +11,18 @@ use Rattle.hips_catalog.proofs.catalog.Catalog.remove.Goals as goal
 pub rise-requires-clause-tiles : goal.rise-requires-clause-tiles
 rise-requires-clause-tiles c =
     let there : StandsAt c.args.id.now (sources c.self.inside.ids) c.in-Ok.at = subst (λ ss. StandsAt c.args.id.now ss c.in-Ok.at) (sym (ap (λ (k : Catalogue). k.rows) c.self.view_is)) c.in-Ok.ensures.there in
-    let one = one_taken c.self.inside.ids c.remove-row.new.self c.in-Ok.at c.remove-row.result c.deref.result.now there.within (c.deref.ensures ∙ ap arc_value c.item.ensures) c.remove-row.ensures.item c.remove-row.ensures.items in (
+    let one = one_taken c.self.inside.ids c.remove-row.new.self c.in-Ok.at c.remove-row.result c.row-in-Ok.result.now there.within (c.row-in-Ok.ensures ∙ ap arc_value c.item.ensures) c.remove-row.ensures.item c.remove-row.ensures.items in (
       in_order (sources c.remove-row.new.self),
       in_order (sources c.self.inside.ids),
       c.self.invariant.tiles_are,
-      differ_less c.self.inside.top c.self.inside.per_tile (sources c.self.inside.ids) (sources c.remove-row.new.self) c.deref.result.now c.self.invariant.is one,
+      differ_less c.self.inside.top c.self.inside.per_tile (sources c.self.inside.ids) (sources c.remove-row.new.self) c.row-in-Ok.result.now c.self.invariant.is one,
     )
 
 pub invariant_of-self : goal.invariant_of-self
 invariant_of-self c =
     let there : StandsAt c.args.id.now (sources c.self.inside.ids) c.in-Ok.at = subst (λ ss. StandsAt c.args.id.now ss c.in-Ok.at) (sym (ap (λ (k : Catalogue). k.rows) c.self.view_is)) c.in-Ok.ensures.there in
-    kept_less c.self.inside.top c.self.inside.per_tile (sources c.self.inside.ids) (sources c.remove-row.new.self) c.self.inside.tiles c.rise.new.tiles c.deref.result.now
-    (one_taken c.self.inside.ids c.remove-row.new.self c.in-Ok.at c.remove-row.result c.deref.result.now there.within (c.deref.ensures ∙ ap arc_value c.item.ensures) c.remove-row.ensures.item c.remove-row.ensures.items)
+    kept_less c.self.inside.top c.self.inside.per_tile (sources c.self.inside.ids) (sources c.remove-row.new.self) c.self.inside.tiles c.rise.new.tiles c.row-in-Ok.result.now
+    (one_taken c.self.inside.ids c.remove-row.new.self c.in-Ok.at c.remove-row.result c.row-in-Ok.result.now there.within (c.row-in-Ok.ensures ∙ ap arc_value c.item.ensures) c.remove-row.ensures.item c.remove-row.ensures.items)
     c.self.invariant c.rise.ensures.listed c.rise.ensures.full c.rise.ensures.tiles
 
 pub returns-in-Ok-clause-done : goal.returns-in-Ok-clause-done

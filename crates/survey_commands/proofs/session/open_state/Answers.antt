@@ -1,4 +1,4 @@
-use Rattle.survey_commands.proofs.serve.open_state.Goals as goal
+use Rattle.survey_commands.proofs.session.open_state.Goals as goal
 
 pub returns-clause-opened : goal.returns-clause-opened
 returns-clause-opened g c = (

@@ -1,0 +1,5 @@
+use Rattle.std.proofs.Common.{arith}
+use Rattle.hips_catalog.proofs.named.id_head.Goals as goal
+
+pub returns : goal.returns
+returns c = record { head_is = c.head_on.ensures; are_bytes = λ i. omega (arith, c.type_inv.id i) }

@@ -1,0 +1,98 @@
+use Rattle.std.proofs.Common.{◌≡◌, ℕ, [], ◌++◌, refl, subst, arith}
+use Rattle.http_frame.specs.Readings.{ReadsWhile}
+use Rattle.hips_http.specs.Moment.{moment_of}
+use Rattle.hips_http.specs.SessionRun.{most_requests}
+use Rattle.hips_http.specs.Readings.{NeedsNext}
+use Rattle.hips_http.proofs.ReadRequests.{has_read_none, has_read_more, has_read_left, reads_on}
+use Rattle.hips_http.proofs.Steps.{same_ends}
+use Rattle.hips_http.proofs.Sessions.{begins_loop, loop_goes_on, asked_all, stopped_all, spent_all}
+use Rattle.hips_http.proofs.connection.serve_line.Goals as goal
+
+pub loop-count-init : goal.loop-count-init
+loop-count-init g c =
+    let line = c.args.line.now in
+    let r = c.requires in (
+      record { frame = refl; board = refl; src = refl; sink = refl; steps = refl },
+      begins_loop c.args.top (moment_of g.S.Source g.K.Sink g.B.Board.content line) r.released r.legal r.owned r.wants r.empty r.turn r.room r.top,
+      λ _. has_read_none g.S.Source.left g.S.Source.readings line.frame.now.room line.frame.now.held line.src.now r.empty,
+    )
+
+pub loop-count-preserved : goal.loop-count-preserved
+loop-count-preserved g c =
+    let at = moment_of g.S.Source g.K.Sink g.B.Board.content in
+    let first = c.args.line.now in
+    let now = c.loop-count.line in
+    let new = c.serve_one.new.line in
+    let i = c.loop-count.invariant in
+    let e = c.in-Ok-false.ensures in
+    let s = rw c.in-Ok-false.field-0-test at e.serves in (
+      same_ends first now new i.0 e.same,
+      loop_goes_on c.loop-count.count c.args.top (at first) (at now) (at new) i.1 s.never_falls s.ok s.hands.handed_on s.turn,
+      λ some.
+          let so = i.2 some in
+          let took = e.reads (has_read_left g.S.Source.left g.S.Source.readings first.frame.now.room c.loop-count.count now.frame.now.held first.src.now now.src.now so some) in
+          has_read_more g.S.Source.left g.S.Source.readings first.frame.now.room c.loop-count.count now.frame.now.held first.src.now now.src.now new.src.now so c.loop-count-test.true took.0 (rw i.1.same_room at took.1)
+          new.frame.now.held (rw (i.1.same_room, c.in-Ok-false.field-0-test) at took.2),
+    )
+
+pub returns-in-Ok-true-clause-serves : goal.returns-in-Ok-true-clause-serves
+returns-in-Ok-true-clause-serves g c =
+    let at = moment_of g.S.Source g.K.Sink g.B.Board.content in
+    let s = rw c.in-Ok-true.field-0-test at c.in-Ok-true.ensures.serves in
+    asked_all c.loop-count.count c.args.top (at c.args.line.now) (at c.loop-count.line) (at c.serve_one.new.line) c.loop-count.invariant.1 s.never_falls c.loop-count-test.true s
+
+pub returns-in-Err-clause-serves : goal.returns-in-Err-clause-serves
+returns-in-Err-clause-serves g c =
+    let at = moment_of g.S.Source g.K.Sink g.B.Board.content in
+    let s = c.in-Err.ensures.serves in
+    stopped_all c.loop-count.count c.args.top (at c.args.line.now) (at c.loop-count.line) (at c.serve_one.new.line) c.loop-count.invariant.1 s.never_falls c.in-Err.end c.loop-count-test.true s
+
+pub returns-clause-serves : goal.returns-clause-serves
+returns-clause-serves g c =
+    let at = moment_of g.S.Source g.K.Sink g.B.Board.content in
+    let all : c.loop-count.count ≡ most_requests = omega arith in
+    spent_all c.loop-count.count c.args.top (at c.args.line.now) (at c.loop-count.line) c.loop-count.invariant.1 all
+
+-- ---- the ends
+
+pub returns-in-Ok-true-clause-same : goal.returns-in-Ok-true-clause-same
+returns-in-Ok-true-clause-same g c = same_ends c.args.line.now c.loop-count.line c.serve_one.new.line c.loop-count.invariant.0 c.in-Ok-true.ensures.same
+
+pub returns-in-Err-clause-same : goal.returns-in-Err-clause-same
+returns-in-Err-clause-same g c = same_ends c.args.line.now c.loop-count.line c.serve_one.new.line c.loop-count.invariant.0 c.in-Err.ensures.same
+
+-- ---- what was read
+
+pub returns-in-Ok-true-clause-reads : goal.returns-in-Ok-true-clause-reads
+returns-in-Ok-true-clause-reads g c = λ some.
+    let first = c.args.line.now in
+    let now = c.loop-count.line in
+    let new = c.serve_one.new.line in
+    let i = c.loop-count.invariant in
+    let so = i.2 some in
+    let took = c.in-Ok-true.ensures.reads (has_read_left g.S.Source.left g.S.Source.readings first.frame.now.room c.loop-count.count now.frame.now.held first.src.now now.src.now so some) in (
+      so.came ++ took.0,
+      subst (λ (room : ℕ). ReadsWhile g.S.Source.left g.S.Source.readings (NeedsNext room) [] first.src.now new.src.now (so.came ++ took.0)) c.requires.room
+          (reads_on g.S.Source.left g.S.Source.readings first.frame.now.room c.loop-count.count now.frame.now.held first.src.now now.src.now new.src.now so c.loop-count-test.true
+          took.0 (rw i.1.same_room at took.1)),
+    )
+
+pub returns-in-Err-clause-reads : goal.returns-in-Err-clause-reads
+returns-in-Err-clause-reads g c = λ some.
+    let first = c.args.line.now in
+    let now = c.loop-count.line in
+    let new = c.serve_one.new.line in
+    let i = c.loop-count.invariant in
+    let so = i.2 some in
+    let took = c.in-Err.ensures.reads (has_read_left g.S.Source.left g.S.Source.readings first.frame.now.room c.loop-count.count now.frame.now.held first.src.now now.src.now so some) in (
+      so.came ++ took.0,
+      subst (λ (room : ℕ). ReadsWhile g.S.Source.left g.S.Source.readings (NeedsNext room) [] first.src.now new.src.now (so.came ++ took.0)) c.requires.room
+          (reads_on g.S.Source.left g.S.Source.readings first.frame.now.room c.loop-count.count now.frame.now.held first.src.now now.src.now new.src.now so c.loop-count-test.true
+          took.0 (rw i.1.same_room at took.1)),
+    )
+
+pub returns-clause-reads : goal.returns-clause-reads
+returns-clause-reads g c = λ some.
+    let first = c.args.line.now in
+    let so = c.loop-count.invariant.2 some in
+    (so.came, subst (λ (room : ℕ). ReadsWhile g.S.Source.left g.S.Source.readings (NeedsNext room) [] first.src.now c.loop-count.line.src.now so.came) c.requires.room so.reads)

@@ -1,0 +1,71 @@
+-- A connection at one moment, in one value: what its source, its frame and its sink tell, its board, and what is counted.
+use Rattle.std.specs.Prelude.{◌≡◌, ℕ, ◌+◌, ◌≤◌, List, Option}
+use Rattle.survey_link.specs.declared.source.Source as source
+use Rattle.survey_link.specs.declared.sink.Sink as sink
+use Rattle.http_frame.specs.Frame.{FrameState, unread}
+use Rattle.http_frame.specs.Readings.{ReadsWhile}
+use Rattle.reader_pin.specs.Board.{BoardContent}
+use Rattle.hips_http.specs.declared.line.Line.{Line}
+
+-- what is to be read: the frame, the bytes left in the source where it tells them, and how often the source has failed
+pub record Input : Type 0 where
+  pub frame : FrameState
+  pub left : Option (List ℕ)
+  pub faults : ℕ
+
+-- what was written: the bytes that the sink holds and those of them that it handed on, where it tells them, and how often it
+-- has failed
+pub record Output : Type 0 where
+  pub held : Option (List ℕ)
+  pub handed_on : Option (List ℕ)
+  pub faults : ℕ
+
+-- a connection: its input and its output, the board's content, how many steps were taken, and how many requests have found no
+-- memory
+pub record Moment : Type 0 where
+  pub input : Input
+  pub output : Output
+  pub board : BoardContent
+  pub steps : ℕ
+  pub wants : ℕ
+
+-- the unread bytes: those held, and those left in the source where it tells them
+abbrev pub unread_of : Input → Option (List ℕ)
+unread_of input = unread input.frame input.left
+
+-- ---- of the ends that a function has
+
+abbrev pub input_at : {S : Type 0} → source.Ghosts S → FrameState → S → Input
+input_at told frame src = record { frame = frame; left = told.left src; faults = told.faults src }
+
+abbrev pub output_at : {K : Type 0} → sink.Ghosts K → K → Output
+output_at told end = record { held = told.held end; handed_on = told.handed_on end; faults = told.faults end }
+
+abbrev pub moment : Input → Output → BoardContent → ℕ → ℕ → Moment
+moment input output board steps wants = record { input = input; output = output; board = board; steps = steps; wants = wants }
+
+abbrev pub moment_of : {B S K : Type 0} → source.Ghosts S → sink.Ghosts K → (B → BoardContent) → Line B S K → Moment
+moment_of told_source told_sink content line =
+    moment (input_at told_source line.frame.now line.src.now) (output_at told_sink line.sink.now) (content line.board.now) line.steps.now line.wants
+
+-- the ends are the same: what they are then is what they are where the connection was opened
+pub record SameEnds {B S K : Type 0} (old new : Line B S K) : Type 0 where
+  pub frame : new.frame.ghost_name ≡ old.frame.ghost_name
+  pub board : new.board.ghost_name ≡ old.board.ghost_name
+  pub src : new.src.ghost_name ≡ old.src.ghost_name
+  pub sink : new.sink.ghost_name ≡ old.sink.ghost_name
+  pub steps : new.steps.ghost_name ≡ old.steps.ghost_name
+
+-- ---- what holds of any two moments, one after the other
+
+-- no count falls, one request more at most has found no memory, and the frame keeps its room
+pub record NeverFalls (old new : Moment) : Type 0 where
+  pub source : old.input.faults ≤ new.input.faults
+  pub sink : old.output.faults ≤ new.output.faults
+  pub steps : old.steps ≤ new.steps
+  pub wants : new.wants ≤ old.wants + 1
+  pub room : new.input.frame.room ≡ old.input.frame.room
+
+-- the source was read only while the bytes held and those that came needed more
+abbrev pub ReadsWhere : {S : Type 0} → source.Ghosts S → (List ℕ → Type 0) → List ℕ → S → S → Type 0
+ReadsWhere told needs held old new = (came : List ℕ) × ReadsWhile told.left told.readings needs held old new came
