@@ -8,6 +8,8 @@
 # - Plain: `sort` by rank and id, and then a program of awk that gives each row to the first tile on the path of its cell that has
 #   room. That is the definition of the tiles read as a program, which keeps no catalogue that could change. Its tiles are compared
 #   with those of hipsd, file by file.
+# - In huge pages: the same two with glibc's tunable `glibc.malloc.hugetlb=1`, by which a program asks for pages of 2 MB. A kernel that
+#   has `madvise` in /sys/kernel/mm/transparent_hugepage/enabled gives them only then; one that has `always` gives them in any case.
 # - The most lines: 2,000,000 that put a row in and take it out again, and then a byte more, which is refused as line 2,000,001.
 #
 # The program is a proved build. The times mean something only where nothing else runs.
@@ -65,23 +67,33 @@ timed() {
 }
 export -f plain
 
-echo "hipsd catalog 11 500, $(nproc) processors:"
+# Rows and then changes over their tiles, with this tunable of glibc: both TUNABLE
+both() {
+    rm -rf "$work/tiles" && mkdir "$work/tiles" && cd "$work/tiles" || exit 1
+    export GLIBC_TUNABLES=$1
+    first=$(timed "$work/rows" "$hipsd" catalog 11 500)
+    told=$(cat "$work/said")
+    rm -rf "$work/first" && cp -r "$work/tiles" "$work/first" || exit 1
+    changed=$(timed "$work/changes" "$hipsd" catalog 11 500)
+    told="$told, then $(cat "$work/said")"
+    unset GLIBC_TUNABLES
+}
+
+echo "hipsd catalog 11 500, $(nproc) processors, huge pages: $(cat /sys/kernel/mm/transparent_hugepage/enabled)"
 for count in "$@"; do
-    rm -rf "$work/tiles" "$work/plain" && mkdir "$work/tiles" || exit 1
+    rm -rf "$work/plain"
     rows "$count" a 1 >"$work/rows"
     {
         cat "$work/rows"
         awk -F '\t' 'NR % 2 == 0 { print "-\t" $3 }' "$work/rows"
         rows $((count / 2)) b 2
     } >"$work/changes"
-    cd "$work/tiles" || exit 1
-    first=$(timed "$work/rows" "$hipsd" catalog 11 500)
-    told=$(cat "$work/said")
+    both ''
     beside=$(timed "$work/rows" bash -c "plain /dev/stdin '$work/plain'")
-    diff -r "$work/tiles" "$work/plain" >/dev/null && same=same || same=DIFFERENT
-    changed=$(timed "$work/changes" "$hipsd" catalog 11 500)
-    printf '%8d rows %s (goal at 1,000,000: 10 s, 600 MB), changes %s (20 s); sort and awk %s, %s tiles; %s, then %s\n' \
-        "$count" "$first" "$changed" "$beside" "$same" "$told" "$(cat "$work/said")"
+    diff -r "$work/first" "$work/plain" >/dev/null && same=same || same=DIFFERENT
+    printf '%8d rows %s (goal at 1,000,000: 10 s, 600 MB), changes %s (20 s); %s\n' "$count" "$first" "$changed" "$told"
+    both glibc.malloc.hugetlb=1
+    printf '  in huge pages %s, changes %s; sort and awk %s, %s tiles\n' "$first" "$changed" "$beside" "$same"
 done
 
 rm -rf "$work/tiles" && mkdir "$work/tiles" && cd "$work/tiles" || exit 1

@@ -2,7 +2,7 @@
 use Rattle.std.proofs.Common.{◌≡◌, ℕ, zero, suc, ◌+◌, ◌-◌, ◌<◌, ◌≤◌, Bool, true, false, cond, List, [], ◌∷◌, ◌++◌, length, refl, sym, ap, ◌∙◌, subst, arith, ◌⊎◌, inl, inr}
 use Rattle.std.specs.Prelude.{slice_set, slice_index_or, slice_get, Option, Some, None}
 use Rattle.std.specs.List.{AllByRecursion as All, insert, remove}
-use Rattle.balanced_list.specs.Search.{leading, HoldsAtFirst, IsPart}
+use Rattle.balanced_list.specs.Search.{leading, HoldsAtFirst}
 
 pub insert_before : {T : Type 0} (l r : List T) (x y : T) (i : ℕ) → i ≤ length l → insert (l ++ x ∷ r) i y ≡ insert l i y ++ x ∷ r
 insert_before [] r x y zero h = refl
@@ -128,7 +128,15 @@ pub leading_off : {T : Type 0} (test : T → Bool) (l r : List T) (x : T) → te
 leading_off test [] r x f = rw f refl
 leading_off test (a ∷ l) r x f = ap (λ n. cond (test a) (n + 1) 0) (leading_off test l r x f)
 
--- ---- what stands where a search ends
+-- ---- where a search is
+
+-- A search of some items has come down to a part of them. So many stand before the part, and a test that the first items meet,
+-- and no others, ends to hold in it or right behind it, where this item stands.
+pub record IsPart {T : Type 0} (test : T → Bool) (items : List T) (before : ℕ) (part : List T) (behind : Option T) : Type 0 where
+  pub fits : before + length part ≤ length items
+  pub is : (i : ℕ) → i < length part → slice_get items (before + i) ≡ slice_get part i
+  pub behind_is : behind ≡ slice_get items (before + length part)
+  pub holds : HoldsAtFirst test items → HoldsAtFirst test part × (leading test items ≡ before + leading test part)
 
 get_later : {T : Type 0} (l r : List T) (x : T) (j : ℕ) → slice_get (l ++ x ∷ r) (length l + suc j) ≡ slice_get r j
 get_later [] r x j = let e : 0 + suc j ≡ suc j = omega arith in rw e refl

@@ -1,5 +1,5 @@
 -- Where a test that the first items of a list meet, and no others, stops to hold.
-use Rattle.std.specs.Prelude.{◌≡◌, ℕ, ◌+◌, ◌<◌, ◌≤◌, Bool, true, false, cond, List, [], ◌∷◌, length, slice_get, Option}
+use Rattle.std.specs.Prelude.{◌≡◌, ℕ, ◌+◌, Bool, true, false, cond, List, [], ◌∷◌}
 use Rattle.std.specs.List.{AllByRecursion}
 
 module _ {T : Type 0} where
@@ -12,10 +12,3 @@ module _ {T : Type 0} where
   abbrev pub HoldsAtFirst : (T → Bool) → List T → Type 0
   HoldsAtFirst test [] = Unit {0}
   HoldsAtFirst test (x ∷ xs) = (test x ≡ true → HoldsAtFirst test xs) × (test x ≡ false → AllByRecursion (λ y. test y ≡ false) xs)
-
-  -- a part of the list, behind so many of its items, which the test holds at: there it stops to hold, and this stands behind the part
-  pub record IsPart (test : T → Bool) (items : List T) (before : ℕ) (part : List T) (behind : Option T) : Type 0 where
-    pub fits : before + length part ≤ length items
-    pub is : (i : ℕ) → i < length part → slice_get items (before + i) ≡ slice_get part i
-    pub behind_is : behind ≡ slice_get items (before + length part)
-    pub holds : HoldsAtFirst test items → HoldsAtFirst test part × (leading test items ≡ before + leading test part)

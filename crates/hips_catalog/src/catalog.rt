@@ -13,9 +13,9 @@ use crate::refusal::InsertRefusal;
 use crate::rise::rise;
 use crate::row::Row;
 use crate::sink::{cell_of, sink};
+use crate::spares::Spares;
 use crate::text::text_of;
-use crate::tile::{Tile, Tiles, rows};
-use crate::tile_rows::TileRows;
+use crate::tile::{Tiles, rows};
 use balanced_list::{BalancedList, Item};
 use healpix_nested::Cell;
 use std::alloc::{AllocError, Global};
@@ -25,12 +25,11 @@ use std::sync::Arc;
 /// The most rows that a catalogue has.
 pub const MOST_ROWS: usize = 1_000_000;
 
-// A row that can be put in without memory: its place among the ids, that in a tile, and a tile for it.
+// A row that can be put in without memory: its place among the ids, and that in a tile.
 #[derive(Drop)]
 struct Ready {
     listed: Item<Named>,
     placed: Item<Ranked>,
-    spare: Item<Tile>,
 }
 
 /// Sources by rank, in a tree of tiles: each tile holds the best rows of its cell that no tile above it holds, up to a number
@@ -44,6 +43,7 @@ pub struct Catalog {
     // By ascending ids.
     ids: BalancedList<Named>,
     tiles: Tiles,
+    spares: Spares,
 }
 
 impl Model for Catalog {
@@ -73,6 +73,7 @@ impl Catalog {
             per_tile: per_tile as usize,
             ids: BalancedList::new(),
             tiles: BalancedList::new(),
+            spares: Spares::new(alloc),
         }
     }
 
@@ -96,15 +97,18 @@ impl Catalog {
         if self.ids.len() == MOST_ROWS {
             return Err(InsertRefusal::Full);
         }
+        let cell = cell_of(&row, self.top, self.top);
         let ready = self.made_ready(row)?;
+        let mut spare = Some(self.spares.take(cell)?);
         self.ids.insert(at, ready.listed);
         sink(
             &mut self.tiles,
             self.top,
             self.per_tile,
             ready.placed,
-            ready.spare,
+            &mut spare,
         );
+        self.spares.put_back(spare);
         Ok(())
     }
 
@@ -173,22 +177,15 @@ impl Catalog {
         }
     }
 
-    // The row with all memory that it may need.
+    // The row with the memory for its places.
     fn made_ready(&self, row: Row) -> Result<Ready, AllocError>
-        requires { IsCell self.now.top row.npix }
         ensures listed { IfOk result (λ ready. arc_value ready.listed ≡ row) }
         ensures placed { IfOk result (λ ready. arc_value ready.placed ≡ row) }
     {
-        let tile = Tile {
-            cell: cell_of(&row, self.top, self.top),
-            rows: TileRows::new(),
-        };
-        let spare = Item::new(self.alloc, tile)?;
         let row = Arc::new(self.alloc, row)?;
         Ok(Ready {
             listed: Item::new(self.alloc, Named::new(row.clone()?))?,
             placed: Item::new(self.alloc, Ranked::new(row))?,
-            spare,
         })
     }
 

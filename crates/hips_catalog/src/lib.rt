@@ -15,6 +15,7 @@ mod refusal;
 mod rise;
 mod row;
 mod sink;
+mod spares;
 mod text;
 mod tile;
 mod tile_rows;

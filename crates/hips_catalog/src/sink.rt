@@ -1,5 +1,5 @@
 //! A row more: from the top downward it goes into a tile, and the last row of a full tile goes on.
-ghost use Rattle.std.specs.Prelude.{◌≡◌, ℕ, List, ◌-◌, ◌/◌, ◌<◌, ◌≤◌, ◌^◌};
+ghost use Rattle.std.specs.Prelude.{◌≡◌, ℕ, List, ◌-◌, ◌/◌, ◌<◌, ◌≤◌, ◌^◌, IsSome};
 ghost use Rattle.std.specs.Arc.{arc_value};
 ghost use Rattle.healpix_nested.specs.Cells.{IsCell};
 ghost use Rattle.hips_catalog.specs.Rows.{Source};
@@ -25,8 +25,15 @@ pub(crate) fn cell_of(row: &Row, top: u8, order: u8) -> Cell
     }
 }
 
-/// Puts the row into the tiles of the others.
-pub(crate) fn sink(tiles: &mut Tiles, top: u8, room: usize, row: Item<Ranked>, spare: Item<Tile>)
+/// Puts the row into the tiles of the others, one of which may be made of the spare one.
+pub(crate) fn sink(
+    tiles: &mut Tiles,
+    top: u8,
+    room: usize,
+    row: Item<Ranked>,
+    spare: &mut Option<Item<Tile>>,
+)
+    requires spare { IsSome spare.old }
     requires listed { AreListed tiles.old }
     requires room { 0 < room }
     requires tiles { (few : List Source) × (many : List Source) × AreTilesOf top room few tiles.old × Differ top (arc_value row) few many }
@@ -35,14 +42,13 @@ pub(crate) fn sink(tiles: &mut Tiles, top: u8, room: usize, row: Item<Ranked>, s
     ensures full { NoneIsEmpty tiles.old → NoneIsEmpty tiles.new }
 {
     let mut row = row;
-    let mut spare = Some(spare);
     for order in 0..top {
         let cell = cell_of(row.item().row(), top, order);
-        match offer(tiles, cell, row, room, &mut spare) {
+        match offer(tiles, cell, row, room, spare) {
             Some(last) => row = last,
             None => return,
         }
     }
     let cell = cell_of(row.item().row(), top, top);
-    let _none = offer(tiles, cell, row, usize::MAX, &mut spare);
+    let _none = offer(tiles, cell, row, usize::MAX, spare);
 }

@@ -16,7 +16,7 @@ use Rattle.http_frame.specs.Reply.{is_reply_code, continue_bytes}
 use Rattle.hips_http.specs.declared.served.SessionEnd.{SessionEnd}
 use Rattle.hips_http.specs.declared.served.SessionEnd.TheVariants as end
 use Rattle.hips_http.specs.Replies.{Answer, leave_bytes, refusal_bytes}
-use Rattle.hips_http.specs.declared.line.Line.{Line}
+use Rattle.hips_http.specs.declared.open_connection.OpenConnection.{OpenConnection}
 use Rattle.hips_http.specs.Moment.{Input, Output, Moment, moment, unread_of, SameEnds}
 use Rattle.hips_http.specs.SessionRun.{IsCutInput, room_of, most_requests}
 use Rattle.hips_http.specs.Progress.{EndsAt, EndsOne, Breaks, ReadsPart, body_end, ReadsCall, Replied, Halts, Serves, Serving, IsServedOne, BreaksOne, StopsOne, LeavesPart, reply_of}
@@ -327,5 +327,5 @@ halts_by_read asked old new ended h is = by_stop h.stop (sym is ∙ h.end_is) h.
 
 -- ---- the ends
 
-pub same_ends : {B S K : Type 0} (a b c : Line B S K) → SameEnds a b → SameEnds b c → SameEnds a c
+pub same_ends : {B S K : Type 0} (a b c : OpenConnection B S K) → SameEnds a b → SameEnds b c → SameEnds a c
 same_ends a b c h k = record { frame = k.frame ∙ h.frame; board = k.board ∙ h.board; src = k.src ∙ h.src; sink = k.sink ∙ h.sink; steps = k.steps ∙ h.steps }

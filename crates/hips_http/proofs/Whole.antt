@@ -3,6 +3,7 @@ use Rattle.std.proofs.Common.{◌≡◌, inr, ℕ, List, [], Option, Some, None,
 use Rattle.std.specs.Io.KnownBytes.{Appends}
 use Rattle.std.proofs.lemmas.Grind.{common_steps}
 use Rattle.std.proofs.Common.{arith}
+use Rattle.survey_link.specs.Door.{Connection}
 use Rattle.survey_core.specs.History.{IsHistory, Begins}
 use Rattle.reader_pin.specs.Board.{BoardContent, IsOwned, holding_none}
 use Rattle.reader_pin.specs.SeatLaws.{keeps_holding_none}
@@ -19,11 +20,10 @@ pub begins_same : {X : Type 0} (xs ys : List X) → ys ≡ xs → Begins xs ys
 begins_same xs ys same = record { rest = []; is = grind (arith, common_steps) }
 
 -- there was no memory at the beginning
-pub no_memory_served : (old new : BoardContent) (left written handed : Option (List ℕ)) (source sink steps : ℕ) → IsHistory new.opening new.history
-    → new ≡ holding_none old → IfSome left (λ input. IsServed old new input left written written handed handed source source sink sink steps steps
-    (record { end = OutOfMemory; wants = 0 }))
-no_memory_served old new None written handed source sink steps legal is = tt
-no_memory_served old new (Some input) written handed source sink steps legal is =
+pub no_memory_served : (old new : BoardContent) (unread : Option (List ℕ)) (connection : Connection) (steps : ℕ) → IsHistory new.opening new.history → new ≡ holding_none old
+    → connection.unread ≡ unread → IfSome unread (λ input. IsServed old new input connection connection steps steps (record { end = OutOfMemory; wants = 0 }))
+no_memory_served old new None connection steps legal is left_is = tt
+no_memory_served old new (Some input) connection steps legal is left_is =
     let same : new.history ≡ old.history = ap (λ b. b.history) is in
     let own : new.own ≡ old.own = ap (λ b. b.own) is in
     record {
@@ -32,8 +32,8 @@ no_memory_served old new (Some input) written handed source sink steps legal is 
       out = [];
       own = [];
       input_is = refl;
-      left_is = refl;
-      appended = appends_nothing written;
+      left_is = left_is;
+      appended = appends_nothing connection.written;
       passed = [];
       passed_is = inr (refl, refl);
       own_is = grind (arith, common_steps);
@@ -73,11 +73,11 @@ goes_from old released new is h =
     let g : Goes (holding_none old) new = subst (λ (b : BoardContent). Goes b new) is h in
     record { conf = g.conf; opening = g.opening; legal = g.legal; begins = g.begins; seat = record { seat = g.seat.seat; owners = g.seat.owners; owned = g.seat.owned }; own = g.own; own_is = g.own_is; few = g.few }
 
-pub served_from : (old released new : BoardContent) (left left' w w' hand hand' : Option (List ℕ)) (sf sf' kf kf' steps steps' : ℕ) (served : Served) → released ≡ holding_none old
-    → IfSome left (λ input. IsServed released new input left' w w' hand hand' sf sf' kf kf' steps steps' served) → IfSome left (λ input. IsServed old new input left' w w' hand hand' sf sf' kf kf' steps steps' served)
-served_from old released new None left' w w' hand hand' sf sf' kf kf' steps steps' served is h = tt
-served_from old released new (Some input) left' w w' hand hand' sf sf' kf kf' steps steps' served is h =
-    let s : IsServed (holding_none old) new input left' w w' hand hand' sf sf' kf kf' steps steps' served = subst (λ (b : BoardContent). IsServed b new input left' w w' hand hand' sf sf' kf kf' steps steps' served) is h in
+pub served_from : (old released new : BoardContent) (unread : Option (List ℕ)) (taken back : Connection) (steps steps' : ℕ) (served : Served) → released ≡ holding_none old
+    → IfSome unread (λ input. IsServed released new input taken back steps steps' served) → IfSome unread (λ input. IsServed old new input taken back steps steps' served)
+served_from old released new None taken back steps steps' served is h = tt
+served_from old released new (Some input) taken back steps steps' served is h =
+    let s : IsServed (holding_none old) new input taken back steps steps' served = subst (λ (b : BoardContent). IsServed b new input taken back steps steps' served) is h in
     record {
       read = s.read;
       rest = s.rest;

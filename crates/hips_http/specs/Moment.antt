@@ -1,11 +1,12 @@
 -- A connection at one moment, in one value: what its source, its frame and its sink tell, its board, and what is counted.
 use Rattle.std.specs.Prelude.{◌≡◌, ℕ, ◌+◌, ◌≤◌, List, Option}
+use Rattle.survey_link.specs.Door.{Connection}
 use Rattle.survey_link.specs.declared.source.Source as source
 use Rattle.survey_link.specs.declared.sink.Sink as sink
 use Rattle.http_frame.specs.Frame.{FrameState, unread}
 use Rattle.http_frame.specs.Readings.{ReadsWhile}
 use Rattle.reader_pin.specs.Board.{BoardContent}
-use Rattle.hips_http.specs.declared.line.Line.{Line}
+use Rattle.hips_http.specs.declared.open_connection.OpenConnection.{OpenConnection}
 
 -- what is to be read: the frame, the bytes left in the source where it tells them, and how often the source has failed
 pub record Input : Type 0 where
@@ -33,7 +34,26 @@ pub record Moment : Type 0 where
 abbrev pub unread_of : Input → Option (List ℕ)
 unread_of input = unread input.frame input.left
 
+-- the connection as its ends tell it
+abbrev pub connection_at : Moment → Connection
+connection_at at = record {
+  unread = at.input.left;
+  written = at.output.held;
+  handed_on = at.output.handed_on;
+  source_faults = at.input.faults;
+  sink_faults = at.output.faults;
+}
+
 -- ---- of the ends that a function has
+
+abbrev pub connection_of : {S K : Type 0} → source.Ghosts S → sink.Ghosts K → S → K → Connection
+connection_of told_source told_sink src end = record {
+  unread = told_source.left src;
+  written = told_sink.held end;
+  handed_on = told_sink.handed_on end;
+  source_faults = told_source.faults src;
+  sink_faults = told_sink.faults end;
+}
 
 abbrev pub input_at : {S : Type 0} → source.Ghosts S → FrameState → S → Input
 input_at told frame src = record { frame = frame; left = told.left src; faults = told.faults src }
@@ -44,12 +64,12 @@ output_at told end = record { held = told.held end; handed_on = told.handed_on e
 abbrev pub moment : Input → Output → BoardContent → ℕ → ℕ → Moment
 moment input output board steps wants = record { input = input; output = output; board = board; steps = steps; wants = wants }
 
-abbrev pub moment_of : {B S K : Type 0} → source.Ghosts S → sink.Ghosts K → (B → BoardContent) → Line B S K → Moment
-moment_of told_source told_sink content line =
-    moment (input_at told_source line.frame.now line.src.now) (output_at told_sink line.sink.now) (content line.board.now) line.steps.now line.wants
+abbrev pub moment_of : {B S K : Type 0} → source.Ghosts S → sink.Ghosts K → (B → BoardContent) → OpenConnection B S K → Moment
+moment_of told_source told_sink content connection =
+    moment (input_at told_source connection.frame.now connection.src.now) (output_at told_sink connection.sink.now) (content connection.board.now) connection.steps.now connection.wants
 
 -- the ends are the same: what they are then is what they are where the connection was opened
-pub record SameEnds {B S K : Type 0} (old new : Line B S K) : Type 0 where
+pub record SameEnds {B S K : Type 0} (old new : OpenConnection B S K) : Type 0 where
   pub frame : new.frame.ghost_name ≡ old.frame.ghost_name
   pub board : new.board.ghost_name ≡ old.board.ghost_name
   pub src : new.src.ghost_name ≡ old.src.ghost_name

@@ -24,7 +24,7 @@ use Rattle.hips_http.specs.declared.served.SessionEnd.TheVariants.{Closed, Refus
 use Rattle.hips_http.specs.Paths.{IsPathOf, IsOfKind, call_of}
 use Rattle.http_frame.specs.Next.{IsFound, IsWhole, IsRefusedNext}
 use Rattle.hips_http.specs.Replies.{Answer, head_of, sent_body, output_of, refusal_bytes}
-use Rattle.hips_http.specs.Moment.{Input, Output, Moment, unread_of, NeverFalls}
+use Rattle.hips_http.specs.Moment.{Input, Output, Moment, unread_of, connection_at, NeverFalls}
 use Rattle.hips_http.specs.SessionRun.{closes, room_of, most_requests, IsCutInput, AreRequests, AreAnswered, first_point, HandsOn, HandsOnAll, IsServed, Goes}
 use Rattle.hips_http.specs.Answers.{Asking, Point, Answers, cost_of}
 
@@ -323,8 +323,7 @@ pub record Going (count : ℕ) (first now : Moment) : Type 0 where
 -- it is served from its first moment to its last, where its source had these bytes
 abbrev pub IsServedTo : Moment → Moment → SessionEnd → List ℕ → Type 0
 IsServedTo first last end bytes =
-    IsServed first.board last.board bytes last.input.left first.output.held last.output.held first.output.handed_on last.output.handed_on
-    first.input.faults last.input.faults first.output.faults last.output.faults first.steps last.steps (record { end = end; wants = last.wants })
+    IsServed first.board last.board bytes (connection_at first) (connection_at last) first.steps last.steps (record { end = end; wants = last.wants })
 
 -- what came of its requests
 pub record ServesAll (first last : Moment) (end : SessionEnd) : Type 0 where

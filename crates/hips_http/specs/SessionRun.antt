@@ -5,6 +5,7 @@ use Rattle.std.specs.List.{concat}
 use Rattle.fits_header.specs.Cards.{whole_blocks}
 use Rattle.fits_tile.specs.TileFile.{data_len}
 use Rattle.survey_conf.specs.Description.{Description}
+use Rattle.survey_link.specs.Door.{Connection}
 use Rattle.survey_link.specs.Link.{Rises}
 use Rattle.edit_journal.specs.Leaves.{LeafTiles}
 use Rattle.http_frame.specs.declared.request.Request.{Request}
@@ -189,19 +190,18 @@ HandsOnAll held held' handed handed' = (handed' ≡ held') ⊎ ((held' ≡ held)
 abbrev pub HandsOn : Option (List ℕ) → Option (List ℕ) → Option (List ℕ) → List ℕ → Type 0
 HandsOn held handed handed' bytes = Appends held handed' bytes ⊎ ((handed' ≡ handed) × (bytes ≡ []))
 
--- what serving a connection did, whose source had this input: to the board, to the bytes left in the source, those held by the
--- sink and those that it had handed on, where it tells them, to the counts of faults of both, and to the count of steps
-pub record IsServed (old new : BoardContent) (input : List ℕ) (left written written' handed handed' : Option (List ℕ)) (source source' sink sink' steps steps' : ℕ)
-    (served : Served) : Type 0 where
+-- what serving a connection did, whose source had this input: to the board, to the connection as its ends tell it, and to the
+-- count of steps
+pub record IsServed (old new : BoardContent) (input : List ℕ) (taken back : Connection) (steps steps' : ℕ) (served : Served) : Type 0 where
   pub read : List ℕ
   pub rest : List ℕ
   pub out : List ℕ
   pub own : List ℕ
   pub input_is : input ≡ read ++ rest
-  pub left_is : left ≡ Some rest
-  pub appended : Appends written written' out
+  pub left_is : back.unread ≡ Some rest
+  pub appended : Appends taken.written back.written out
   pub passed : List ℕ
-  pub passed_is : HandsOn written handed handed' passed
+  pub passed_is : HandsOn taken.written taken.handed_on back.handed_on passed
   pub own_is : new.own ≡ old.own ++ own
   pub run : SessionRun new.conf new.opening old.history
       (record {
@@ -209,10 +209,10 @@ pub record IsServed (old new : BoardContent) (input : List ℕ) (left written wr
         left = rest;
         written = out;
         handed_on = passed;
-        source_faults = source;
-        source_faults_then = source';
-        sink_faults = sink;
-        sink_faults_then = sink';
+        source_faults = taken.source_faults;
+        source_faults_then = back.source_faults;
+        sink_faults = taken.sink_faults;
+        sink_faults_then = back.sink_faults;
       })
       own new.history served.end served.wants
   pub steps_are : served.wants ≡ 0 → steps' ≤ steps + run.last.cost

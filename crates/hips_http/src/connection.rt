@@ -6,12 +6,12 @@ ghost use Rattle.survey_core.specs.History.{IsHistory};
 ghost use Rattle.reader_pin.specs.Board.{IsOwned};
 ghost use Rattle.http_frame.specs.declared.stop.Turn.TheVariants.{AtHead};
 ghost use Rattle.hips_http.specs.SessionRun.{IsServed, Goes, HandsOnAll, room_of, most_requests};
-ghost use Rattle.hips_http.specs.Moment.{input_at, output_at, moment, moment_of, SameEnds, ReadsWhere};
+ghost use Rattle.hips_http.specs.Moment.{connection_of, input_at, output_at, moment, moment_of, SameEnds, ReadsWhere};
 ghost use Rattle.hips_http.specs.Progress.{ServesAll};
 ghost use Rattle.hips_http.specs.Readings.{NeedsNext};
 ghost use Rattle.hips_http.specs.declared.served.SessionEnd.TheVariants.{ReadFault, WriteFault, OutOfMemory};
 
-use crate::line::Line;
+use crate::open_connection::OpenConnection;
 use crate::served::{Served, SessionEnd};
 use crate::step::{MOST_REQUESTS, serve_one};
 use http_frame::Frame;
@@ -57,8 +57,8 @@ pub fn session<
     ensures steps_never_fall { steps.old ≤ steps.new }
     // Where the source tells its bytes, the connection is a run of the definition, from the states seen before to those seen
     // then; where the sink doesn't tell its bytes, with some bytes as those written.
-    ensures served { IfSome (S.left src.old) (λ input. IsServed (B.content board.old) (B.content board.new) input (S.left src.new)
-        (K.held sink.old) (K.held sink.new) (K.handed_on sink.old) (K.handed_on sink.new) (S.faults src.old) (S.faults src.new) (K.faults sink.old) (K.faults sink.new) steps.old steps.new result) }
+    ensures served { IfSome (S.left src.old) (λ input. IsServed (B.content board.old) (B.content board.new) input
+        (connection_of S.Source K.Sink src.old sink.old) (connection_of S.Source K.Sink src.new sink.new) steps.old steps.new result) }
     // There it is read only while what came ends before or within the next request: so not once a request asked to close.
     ensures reads { IsSome (S.left src.old) → (came : List ℕ) × ReadsWhile S.left S.readings (NeedsNext (room_of (B.content board.old).conf)) [] src.old src.new came }
 {
@@ -96,8 +96,8 @@ pub fn session_in<
     ensures steps_never_fall { steps.old ≤ steps.new }
     // Where the source tells its bytes, the connection is a run of the definition, from the states seen before to those seen
     // then; where the sink doesn't tell its bytes, with some bytes as those written.
-    ensures served { IfSome (S.left src.old) (λ input. IsServed (B.content board.old) (B.content board.new) input (S.left src.new)
-        (K.held sink.old) (K.held sink.new) (K.handed_on sink.old) (K.handed_on sink.new) (S.faults src.old) (S.faults src.new) (K.faults sink.old) (K.faults sink.new) steps.old steps.new result) }
+    ensures served { IfSome (S.left src.old) (λ input. IsServed (B.content board.old) (B.content board.new) input
+        (connection_of S.Source K.Sink src.old sink.old) (connection_of S.Source K.Sink src.new sink.new) steps.old steps.new result) }
     // There it is read only while what came ends before or within the next request: so not once a request asked to close.
     ensures reads { IsSome (S.left src.old) → (came : List ℕ) × ReadsWhile S.left S.readings (NeedsNext (room_of (B.content board.old).conf)) [] src.old src.new came }
     // Want of memory ends it exactly where there is no frame.
@@ -153,7 +153,7 @@ fn serve_all<
         (moment (input_at S.Source frame.new src.new) (output_at K.Sink sink.new) (B.content board.new) steps.new result.wants) result.end }
     ensures reads { IsSome (S.left src.old) → ReadsWhere S.Source (NeedsNext (room_of (B.content board.old).conf)) [] src.old src.new }
 {
-    let mut line = Line {
+    let mut connection = OpenConnection {
         frame,
         board,
         src,
@@ -161,15 +161,15 @@ fn serve_all<
         steps,
         wants: 0,
     };
-    let end = serve_line(rt, alloc, gate, &mut line, top);
+    let end = serve_requests(rt, alloc, gate, &mut connection, top);
     Served {
         end,
-        wants: line.wants,
+        wants: connection.wants,
     }
 }
 
 // Serves the requests of an open connection, one after another.
-fn serve_line<
+fn serve_requests<
     R: Threads + Sync + Clock + Log,
     B: ChangedWith<R>,
     S: Source,
@@ -179,24 +179,24 @@ fn serve_line<
     rt: &R,
     alloc: Global,
     gate: &G,
-    line: &mut Line<'_, '_, '_, '_, '_, B, S, K>,
+    connection: &mut OpenConnection<'_, '_, '_, '_, '_, B, S, K>,
     top: u8,
 ) -> SessionEnd
-    requires empty { line.old.frame.now.held ≡ [] }
-    requires turn { line.old.frame.now.turn ≡ AtHead }
-    requires room { line.old.frame.now.room ≡ room_of (B.content line.old.board.now).conf }
-    requires top { top ≡ (B.content line.old.board.now).conf.shape.top }
+    requires empty { connection.old.frame.now.held ≡ [] }
+    requires turn { connection.old.frame.now.turn ≡ AtHead }
+    requires room { connection.old.frame.now.room ≡ room_of (B.content connection.old.board.now).conf }
+    requires top { top ≡ (B.content connection.old.board.now).conf.shape.top }
     requires small { top ≤ 11 }
-    requires legal { IsHistory (B.content line.old.board.now).opening (B.content line.old.board.now).history }
-    requires owned { IsOwned (B.content line.old.board.now) }
-    requires released { (B.content line.old.board.now).held ≡ None }
-    requires wants { line.old.wants ≡ 0 }
-    ensures serves { ServesAll (moment_of S.Source K.Sink B.content line.old) (moment_of S.Source K.Sink B.content line.new) result }
-    ensures reads { IsSome (S.left line.old.src.now) → ReadsWhere S.Source (NeedsNext (room_of (B.content line.old.board.now).conf)) [] line.old.src.now line.new.src.now }
-    ensures same { SameEnds line.old line.new }
+    requires legal { IsHistory (B.content connection.old.board.now).opening (B.content connection.old.board.now).history }
+    requires owned { IsOwned (B.content connection.old.board.now) }
+    requires released { (B.content connection.old.board.now).held ≡ None }
+    requires wants { connection.old.wants ≡ 0 }
+    ensures serves { ServesAll (moment_of S.Source K.Sink B.content connection.old) (moment_of S.Source K.Sink B.content connection.new) result }
+    ensures reads { IsSome (S.left connection.old.src.now) → ReadsWhere S.Source (NeedsNext (room_of (B.content connection.old.board.now).conf)) [] connection.old.src.now connection.new.src.now }
+    ensures same { SameEnds connection.old connection.new }
 {
     for count in 0..MOST_REQUESTS {
-        match serve_one(rt, alloc, gate, line, top, count) {
+        match serve_one(rt, alloc, gate, connection, top, count) {
             Ok(true) => return SessionEnd::Asked,
             Ok(false) => {}
             Err(end) => return end,

@@ -12,7 +12,7 @@ mod connection;
 mod control;
 mod file;
 pub mod laws;
-mod line;
+mod open_connection;
 mod reply;
 mod saying;
 mod send;

@@ -20,7 +20,7 @@ ghost use Rattle.hips_http.specs.Readings.{NeedsRest, HoldsBehind};
 use crate::answer::{pass_body, reply_to};
 use crate::call::{Call, call_of, path_kind};
 use crate::file::give_file;
-use crate::line::Line;
+use crate::open_connection::OpenConnection;
 use crate::reply::TextReply;
 use crate::saying::Stopwatch;
 use crate::send::{Due, send_refusal, send_text};
@@ -136,29 +136,29 @@ fn body_end(stop: Stop) -> SessionEnd
 /// How the connection ends: `WriteFault` where the reply couldn't be written, else as the body isn't whole.
 fn serve_file<R: Clock + Log, B: Board, S: Source, K: Sink>(
     rt: &R,
-    line: &mut Line<'_, '_, '_, '_, '_, B, S, K>,
+    connection: &mut OpenConnection<'_, '_, '_, '_, '_, B, S, K>,
     request: &Request,
     file: Option<Path>,
     close: bool,
 ) -> Result<(), SessionEnd>
-    requires turn { line.old.frame.now.turn ≡ AtBody request.now.length }
-    requires file { IsPathOf line.old.frame.now.path file }
-    ensures serves { ServesCall request.now (call.File file) close (moment_of S.Source K.Sink B.content line.old) (moment_of S.Source K.Sink B.content line.new) result }
-    ensures needed { ReadsWhere S.Source (IsShort request.now.length) line.old.frame.now.held line.old.src.now line.new.src.now }
-    ensures same { SameEnds line.old line.new }
+    requires turn { connection.old.frame.now.turn ≡ AtBody request.now.length }
+    requires file { IsPathOf connection.old.frame.now.path file }
+    ensures serves { ServesCall request.now (call.File file) close (moment_of S.Source K.Sink B.content connection.old) (moment_of S.Source K.Sink B.content connection.new) result }
+    ensures needed { ReadsWhere S.Source (IsShort request.now.length) connection.old.frame.now.held connection.old.src.now connection.new.src.now }
+    ensures same { SameEnds connection.old connection.new }
 {
     let watch = Stopwatch::start(rt);
-    match pass_body(line.frame, line.src, request.length) {
+    match pass_body(connection.frame, connection.src, request.length) {
         Ok(()) => {}
         Err(stop) => return Err(body_end(stop)),
     }
     let due = Due {
         watch,
         method: request.method,
-        path: line.frame.path(),
+        path: connection.frame.path(),
         close,
     };
-    match give_file(rt, line.sink, line.board, due, file) {
+    match give_file(rt, connection.sink, connection.board, due, file) {
         Ok(()) => return Ok(()),
         Err(_) => return Err(SessionEnd::WriteFault),
     }
@@ -179,34 +179,42 @@ fn serve_text<
     rt: &R,
     alloc: Global,
     gate: &G,
-    line: &mut Line<'_, '_, '_, '_, '_, B, S, K>,
+    connection: &mut OpenConnection<'_, '_, '_, '_, '_, B, S, K>,
     request: &Request,
     call: Call,
     close: bool,
 ) -> Result<(), SessionEnd>
-    requires turn { line.old.frame.now.turn ≡ AtBody request.now.length }
+    requires turn { connection.old.frame.now.turn ≡ AtBody request.now.length }
     requires text { is_text call ≡ true }
-    requires leaf { HasLeaf (B.content line.old.board.now).conf.shape.top call }
-    requires few { line.old.wants < 65536 }
-    ensures serves { ServesCall request.now call close (moment_of S.Source K.Sink B.content line.old) (moment_of S.Source K.Sink B.content line.new) result }
-    ensures needed { ReadsWhere S.Source (IsShort request.now.length) line.old.frame.now.held line.old.src.now line.new.src.now }
-    ensures same { SameEnds line.old line.new }
+    requires leaf { HasLeaf (B.content connection.old.board.now).conf.shape.top call }
+    requires few { connection.old.wants < 65536 }
+    ensures serves { ServesCall request.now call close (moment_of S.Source K.Sink B.content connection.old) (moment_of S.Source K.Sink B.content connection.new) result }
+    ensures needed { ReadsWhere S.Source (IsShort request.now.length) connection.old.frame.now.held connection.old.src.now connection.new.src.now }
+    ensures same { SameEnds connection.old connection.new }
 {
     let watch = Stopwatch::start(rt);
     let reply = match reply_to(
-        rt, alloc, line.frame, line.board, line.src, gate, line.steps, request, call,
+        rt,
+        alloc,
+        connection.frame,
+        connection.board,
+        connection.src,
+        gate,
+        connection.steps,
+        request,
+        call,
     ) {
         Ok(reply) => reply,
         Err(stop) => return Err(body_end(stop)),
     };
-    line.wants = count_want(line.wants, &reply);
+    connection.wants = count_want(connection.wants, &reply);
     let due = Due {
         watch,
         method: request.method,
-        path: line.frame.path(),
+        path: connection.frame.path(),
         close,
     };
-    match send_text(rt, line.sink, due, &reply) {
+    match send_text(rt, connection.sink, due, &reply) {
         Ok(()) => return Ok(()),
         Err(_) => return Err(SessionEnd::WriteFault),
     }
@@ -227,23 +235,23 @@ fn serve_call<
     rt: &R,
     alloc: Global,
     gate: &G,
-    line: &mut Line<'_, '_, '_, '_, '_, B, S, K>,
+    connection: &mut OpenConnection<'_, '_, '_, '_, '_, B, S, K>,
     request: &Request,
     call: Call,
     close: bool,
 ) -> Result<(), SessionEnd>
-    requires turn { line.old.frame.now.turn ≡ AtBody request.now.length }
-    requires leaf { HasLeaf (B.content line.old.board.now).conf.shape.top call }
-    requires file { HasFile line.old.frame.now.path call }
-    requires few { line.old.wants < 65536 }
-    ensures serves { ServesCall request.now call close (moment_of S.Source K.Sink B.content line.old) (moment_of S.Source K.Sink B.content line.new) result }
-    ensures needed { ReadsWhere S.Source (IsShort request.now.length) line.old.frame.now.held line.old.src.now line.new.src.now }
-    ensures same { SameEnds line.old line.new }
+    requires turn { connection.old.frame.now.turn ≡ AtBody request.now.length }
+    requires leaf { HasLeaf (B.content connection.old.board.now).conf.shape.top call }
+    requires file { HasFile connection.old.frame.now.path call }
+    requires few { connection.old.wants < 65536 }
+    ensures serves { ServesCall request.now call close (moment_of S.Source K.Sink B.content connection.old) (moment_of S.Source K.Sink B.content connection.new) result }
+    ensures needed { ReadsWhere S.Source (IsShort request.now.length) connection.old.frame.now.held connection.old.src.now connection.new.src.now }
+    ensures same { SameEnds connection.old connection.new }
 {
     if let Call::File(file) = call {
-        return serve_file(rt, line, request, file, close);
+        return serve_file(rt, connection, request, file, close);
     }
-    serve_text(rt, alloc, gate, line, request, call, close)
+    serve_text(rt, alloc, gate, connection, request, call, close)
 }
 
 /// Reads one request and answers it: `top` is the order of the survey's leaves, `count` how many requests came before it. It
@@ -262,31 +270,31 @@ pub(crate) fn serve_one<
     rt: &R,
     alloc: Global,
     gate: &G,
-    line: &mut Line<'_, '_, '_, '_, '_, B, S, K>,
+    connection: &mut OpenConnection<'_, '_, '_, '_, '_, B, S, K>,
     top: u8,
     count: u32,
 ) -> Result<bool, SessionEnd>
-    requires turn { line.old.frame.now.turn ≡ AtHead }
-    requires room { line.old.frame.now.room ≡ room_of (B.content line.old.board.now).conf }
-    requires top { top ≡ (B.content line.old.board.now).conf.shape.top }
+    requires turn { connection.old.frame.now.turn ≡ AtHead }
+    requires room { connection.old.frame.now.room ≡ room_of (B.content connection.old.board.now).conf }
+    requires top { top ≡ (B.content connection.old.board.now).conf.shape.top }
     requires small { top ≤ 11 }
     requires few { count < 65536 }
-    requires wants { line.old.wants ≤ count }
-    ensures serves { ServesOne count (moment_of S.Source K.Sink B.content line.old) (moment_of S.Source K.Sink B.content line.new) result }
-    ensures reads { IsSome (S.left line.old.src.now) → (came : List ℕ) × ReadsWhile S.left S.readings (NeedsRest line.old.frame.now.room) line.old.frame.now.held line.old.src.now line.new.src.now came
-        × HoldsBehind line.old.frame.now.room (line.old.frame.now.held ++ came) line.new.frame.now.held result }
-    ensures same { SameEnds line.old line.new }
+    requires wants { connection.old.wants ≤ count }
+    ensures serves { ServesOne count (moment_of S.Source K.Sink B.content connection.old) (moment_of S.Source K.Sink B.content connection.new) result }
+    ensures reads { IsSome (S.left connection.old.src.now) → (came : List ℕ) × ReadsWhile S.left S.readings (NeedsRest connection.old.frame.now.room) connection.old.frame.now.held connection.old.src.now connection.new.src.now came
+        × HoldsBehind connection.old.frame.now.room (connection.old.frame.now.held ++ came) connection.new.frame.now.held result }
+    ensures same { SameEnds connection.old connection.new }
 {
-    let (request, call) = match next_call(line.frame, line.src, top) {
+    let (request, call) = match next_call(connection.frame, connection.src, top) {
         Ok(next) => next,
-        Err(stop) => return Err(end_at(rt, line.sink, stop)),
+        Err(stop) => return Err(end_at(rt, connection.sink, stop)),
     };
-    match grant(line.sink, &request) {
+    match grant(connection.sink, &request) {
         Ok(()) => {}
         Err(_) => return Err(SessionEnd::WriteFault),
     }
     let close = closes(request.close, count);
-    match serve_call(rt, alloc, gate, line, &request, call, close) {
+    match serve_call(rt, alloc, gate, connection, &request, call, close) {
         Ok(()) => return Ok(request.close),
         Err(end) => return Err(end),
     }

@@ -30,17 +30,17 @@ begins_same xs ys same = record { rest = []; is = grind (arith, common_steps) }
 
 -- ---- one connection
 
-pub once_served : (old new : BoardContent) (u u' w w' h h' : Option (List ℕ)) (sf sf' kf kf' steps steps' : ℕ) (served : Served) → Goes old new
-    → IfSome u (λ input. IsServed old new input u' w w' h h' sf sf' kf kf' steps steps' served)
-    → (own : List ℕ) → new.own ≡ old.own ++ own → IsServedOnce new.conf new.opening old.history
-    (record { unread = u; written = w; handed_on = h; source_faults = sf; sink_faults = kf })
-    (record { unread = u'; written = w'; handed_on = h'; source_faults = sf'; sink_faults = kf' }) new.history served.end own
-once_served old new u u' w w' h h' sf sf' kf kf' steps steps' served goes all own own_is = record { legal = goes.legal; begins = goes.begins; session = told u all }
+pub once_served : (old new : BoardContent) (unread : Option (List ℕ)) (taken back : Connection) (steps steps' : ℕ) (served : Served) → taken.unread ≡ unread → Goes old new
+    → IfSome unread (λ input. IsServed old new input taken back steps steps' served)
+    → (own : List ℕ) → new.own ≡ old.own ++ own → IsServedOnce new.conf new.opening old.history taken back new.history served.end own
+once_served old new unread taken back steps steps' served is goes all own own_is = record {
+  legal = goes.legal;
+  begins = goes.begins;
+  session = subst (λ (unread : Option (List ℕ)). IfSome unread (IsSession new.conf new.opening old.history taken back new.history served.end own)) (sym is) (told unread all);
+}
   where
-    told : (unread : Option (List ℕ)) → IfSome unread (λ input. IsServed old new input u' w w' h h' sf sf' kf kf' steps steps' served)
-        → IfSome unread (IsSession new.conf new.opening old.history
-        (record { unread = u; written = w; handed_on = h; source_faults = sf; sink_faults = kf })
-        (record { unread = u'; written = w'; handed_on = h'; source_faults = sf'; sink_faults = kf' }) new.history served.end own)
+    told : (unread : Option (List ℕ)) → IfSome unread (λ input. IsServed old new input taken back steps steps' served)
+        → IfSome unread (IsSession new.conf new.opening old.history taken back new.history served.end own)
     told None all = tt
     told (Some input) s = record {
       read = s.read;
@@ -57,10 +57,10 @@ once_served old new u u' w w' h h' sf sf' kf kf' steps steps' served goes all ow
         left = s.rest;
         written = s.out;
         handed_on = s.passed;
-        source_faults = sf;
-        source_faults_then = sf';
-        sink_faults = kf;
-        sink_faults_then = kf';
+        source_faults = taken.source_faults;
+        source_faults_then = back.source_faults;
+        sink_faults = taken.sink_faults;
+        sink_faults_then = back.sink_faults;
       }) o new.history served.end served.wants) (append_cancel_left old.own s.own own (sym s.own_is ∙ own_is)) s.run;
     }
 

@@ -2,6 +2,7 @@
 ghost use Rattle.std.specs.Prelude.{◌≡◌, ◌≢◌, ℕ, List, ◌++◌, ◌≤◌, ◌⊎◌, true, false, IfOk, IfSome, IsSome, IsErrOf, MatchOption, OnOk, OnErr, if◌then◌else◌};
 ghost use Rattle.survey_link.specs.Link.{Rises};
 ghost use Rattle.survey_link.specs.Door.{NoneWaits};
+ghost use Rattle.hips_http.specs.Moment.{connection_of};
 ghost use Rattle.hips_http.specs.SessionRun.{Goes, room_of};
 ghost use Rattle.hips_place.specs.Place.{EndsBy, IsServedOnce, ServesPlace, TakesOne, GivesBack, counts_of, worse};
 
@@ -269,21 +270,7 @@ fn serve<R: Threads + Sync + Clock + Log, B: ChangedWith<R>, S: Source, K: Sink,
     ensures room { IfSome frame.new (λ frame. frame.room ≡ room_of (B.content board.new).conf) }
     ensures served { (own : List ℕ) → (B.content board.new).own ≡ (B.content board.old).own ++ own
         → IsServedOnce (B.content board.new).conf (B.content board.new).opening (B.content board.old).history
-        (record {
-          unread = S.left source.old;
-          written = K.held sink.old;
-          handed_on = K.handed_on sink.old;
-          source_faults = S.faults source.old;
-          sink_faults = K.faults sink.old;
-        })
-        (record {
-          unread = S.left source.new;
-          written = K.held sink.new;
-          handed_on = K.handed_on sink.new;
-          source_faults = S.faults source.new;
-          sink_faults = K.faults sink.new;
-        })
-        (B.content board.new).history result own }
+        (connection_of S.Source K.Sink source.old sink.old) (connection_of S.Source K.Sink source.new sink.new) (B.content board.new).history result own }
     ensures goes { Goes (B.content board.old) (B.content board.new) }
     ensures frame_stays { IsSome frame.old → IsSome frame.new × (result ≢ SessionEnd.OutOfMemory) }
     ensures frame_was { result ≢ SessionEnd.OutOfMemory → IsSome frame.new }

@@ -6,8 +6,6 @@ use Rattle.std.specs.Result.{result_err}
 use Rattle.std.specs.Io.KnownBytes.{Appends}
 use Rattle.survey_link.specs.Door.{Connection}
 use Rattle.survey_link.specs.Link.{Rises}
-use Rattle.survey_link.specs.declared.source.Source as source
-use Rattle.survey_link.specs.declared.sink.Sink as sink
 use Rattle.survey_link.specs.Shelf.{ShelfFiles}
 use Rattle.shelf_io.specs.Opening.{OpenedSurvey, opening, IsRefusedBy}
 use Rattle.shelf_io.specs.declared.refusal.LoadRefusal.{LoadRefusal}
@@ -44,16 +42,6 @@ end_status Spent = 12
 end_status (Refused code) = 14
 
 -- ---- the run
-
--- a source and a sink as the ends of one connection
-abbrev pub connection_of : {S K : Type 0} → source.Ghosts S → sink.Ghosts K → S → K → Connection
-connection_of told_source told_sink src end = record {
-  unread = told_source.left src;
-  written = told_sink.held end;
-  handed_on = told_sink.handed_on end;
-  source_faults = told_source.faults src;
-  sink_faults = told_sink.faults end;
-}
 
 -- a connection as the ends tell it, whose source had this input; handing on what was written comes after it, at which the sink
 -- may fail too

@@ -2,7 +2,7 @@
 ghost use Rattle.std.specs.Prelude.{◌≡◌, ◌≢◌, ◌≤◌};
 ghost use Rattle.survey_link.specs.Link.{Rises};
 ghost use Rattle.hips_mirror.specs.declared.refusal.MirrorRefusal.TheVariants.{ReadFault, WriteFault, ShelfFault};
-ghost use Rattle.survey_commands.specs.Session.{connection_of};
+ghost use Rattle.hips_http.specs.Moment.{connection_of};
 ghost use Rattle.survey_commands.specs.Mirror.{RunsMirror, copying_of, refusal_status};
 
 use hips_mirror::{MirrorRefusal, mirror};

@@ -7,7 +7,8 @@ ghost use Rattle.edit_journal.specs.Faults.{most_charge};
 ghost use Rattle.past_session.specs.Run.{RunsOver};
 ghost use Rattle.past_session.specs.declared.ending.PastEnd.{PastEnd as Ending};
 ghost use Rattle.shelf_io.specs.Opening.{OpenedSurvey, opening_steps};
-ghost use Rattle.survey_commands.specs.Session.{OpensAs, OpensNot, connection_of};
+ghost use Rattle.hips_http.specs.Moment.{connection_of};
+ghost use Rattle.survey_commands.specs.Session.{OpensAs, OpensNot};
 ghost use Rattle.survey_commands.specs.Past.{IsPast, RunsPast, RunsPastOver, HandsOnPast, AnswersPast, opened_cost, past_status};
 
 use crate::refusing::say_why;

@@ -4,8 +4,9 @@ ghost use Rattle.survey_link.specs.Link.{Rises};
 ghost use Rattle.edit_journal.specs.Leaves.{charge_of};
 ghost use Rattle.edit_journal.specs.Faults.{most_charge};
 ghost use Rattle.shelf_io.specs.Opening.{OpenedSurvey};
+ghost use Rattle.hips_http.specs.Moment.{connection_of};
 ghost use Rattle.survey_commands.specs.Serve.{state_of};
-ghost use Rattle.survey_commands.specs.Session.{OpensAs, OpensNot, Serves, RunsSession, board_of, connection_of, end_status};
+ghost use Rattle.survey_commands.specs.Session.{OpensAs, OpensNot, Serves, RunsSession, board_of, end_status};
 
 use crate::refusing::say_why;
 use edit_journal::StartRefusal;

@@ -1,8 +1,9 @@
-use Rattle.std.proofs.Common.{ℕ, List, [], ap, subst}
+use Rattle.std.proofs.Common.{ℕ, List, [], refl, ap, subst}
 use Rattle.std.specs.Prelude.{IsSome}
 use Rattle.http_frame.specs.Readings.{ReadsWhile}
 use Rattle.survey_conf.specs.Description.{Description}
 use Rattle.reader_pin.specs.Board.{BoardContent}
+use Rattle.hips_http.specs.Moment.{connection_of}
 use Rattle.hips_http.specs.SessionRun.{room_of}
 use Rattle.hips_http.specs.Readings.{NeedsNext}
 use Rattle.hips_http.proofs.ReadLemmas.{reads_none}
@@ -14,15 +15,15 @@ returns-in-Some-clause-goes g c = goes_from _ (g.B.Board.content c.release.new.s
 
 pub returns-in-Some-clause-served : goal.returns-in-Some-clause-served
 returns-in-Some-clause-served g c =
-    served_from (g.B.Board.content c.args.board.now) (g.B.Board.content c.release.new.self) (g.B.Board.content c.serve_all.new.board) (g.S.Source.left c.args.src.now) (g.S.Source.left c.serve_all.new.src)
-    (g.K.Sink.held c.args.sink.now) (g.K.Sink.held c.serve_all.new.sink) (g.K.Sink.handed_on c.args.sink.now) (g.K.Sink.handed_on c.serve_all.new.sink) (g.S.Source.faults c.args.src.now) (g.S.Source.faults c.serve_all.new.src) (g.K.Sink.faults c.args.sink.now)
-    (g.K.Sink.faults c.serve_all.new.sink) c.args.steps.now c.serve_all.new.steps c.serve_all.result c.release.ensures c.serve_all.ensures.serves.served
+    served_from (g.B.Board.content c.args.board.now) (g.B.Board.content c.release.new.self) (g.B.Board.content c.serve_all.new.board) (g.S.Source.left c.args.src.now)
+    (connection_of g.S.Source g.K.Sink c.args.src.now c.args.sink.now) (connection_of g.S.Source g.K.Sink c.serve_all.new.src c.serve_all.new.sink)
+    c.args.steps.now c.serve_all.new.steps c.serve_all.result c.release.ensures c.serve_all.ensures.serves.served
 
 pub returns-in-None-clause-goes : goal.returns-in-None-clause-goes
 returns-in-None-clause-goes g c = no_memory_goes _ _ c.top_of-top.ensures.legal c.top_of-top.ensures.owned c.release.ensures
 
 pub returns-in-None-clause-served : goal.returns-in-None-clause-served
-returns-in-None-clause-served g c = no_memory_served _ _ _ _ _ _ _ _ c.top_of-top.ensures.legal c.release.ensures
+returns-in-None-clause-served g c = no_memory_served _ _ _ (connection_of g.S.Source g.K.Sink c.args.src.now c.args.sink.now) _ c.top_of-top.ensures.legal c.release.ensures refl
 
 pub returns-in-Some-clause-reads : goal.returns-in-Some-clause-reads
 returns-in-Some-clause-reads g c =

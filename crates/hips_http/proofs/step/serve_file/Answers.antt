@@ -24,13 +24,13 @@ returns-in-Err-clause-serves g c =
 
 pub returns-in-Ok-give_file-clause-serves : goal.returns-in-Ok-give_file-clause-serves
 returns-in-Ok-give_file-clause-serves g c =
-    let line = c.args.line.now in
+    let connection = c.args.connection.now in
     let t = c.in-Ok.ensures.read in
     let e = c.in-Ok-give_file.ensures in
     let path = sym (c.path.ensures ∙ c.in-Ok.ensures.path) in
-    let f = e.gives (record { asked = c.args.request.now; path = line.frame.now.path; body = t.0 }) line.steps.now path refl in
+    let f = e.gives (record { asked = c.args.request.now; path = connection.frame.now.path; body = t.0 }) connection.steps.now path refl in
     record {
-      ok = (f.answer, record { body = t.0; takes = t.1; serves = f.serves; wants_is = sym (wants_found line.wants f.answer f.finds) }, f.sends.whole);
+      ok = (f.answer, record { body = t.0; takes = t.1; serves = f.serves; wants_is = sym (wants_found connection.wants f.answer f.finds) }, f.sends.whole);
       broken = λ is. absurd (cc);
       halted = tt;
       hands = record { handed_on = e.hands.handed_on; stays = tt; unwritten = tt; write_fault = λ is. absurd (cc); memory = tt };
@@ -39,14 +39,14 @@ returns-in-Ok-give_file-clause-serves g c =
 
 pub returns-in-Err-give_file-clause-serves : goal.returns-in-Err-give_file-clause-serves
 returns-in-Err-give_file-clause-serves g c =
-    let line = c.args.line.now in
+    let connection = c.args.connection.now in
     let t = c.in-Ok.ensures.read in
     let e = c.in-Err-give_file.ensures in
     let path = sym (c.path.ensures ∙ c.in-Ok.ensures.path) in
-    let f = e.gives (record { asked = c.args.request.now; path = line.frame.now.path; body = t.0 }) line.steps.now path refl in
+    let f = e.gives (record { asked = c.args.request.now; path = connection.frame.now.path; body = t.0 }) connection.steps.now path refl in
     record {
       ok = tt;
-      broken = λ _. (f.answer, record { body = t.0; takes = t.1; serves = f.serves; wants_is = sym (wants_found line.wants f.answer f.finds) }, f.sends.part);
+      broken = λ _. (f.answer, record { body = t.0; takes = t.1; serves = f.serves; wants_is = sym (wants_found connection.wants f.answer f.finds) }, f.sends.part);
       halted = λ other. absurd (other refl);
       hands = record { handed_on = tt; stays = e.hands.stays; unwritten = λ other. absurd (other refl); write_fault = λ _. e.hands.failed; memory = λ is. cc };
       never_falls = record { source = c.in-Ok.ensures.never_falls; sink = e.hands.never_falls; steps = omega arith; wants = omega arith; room = c.in-Ok.ensures.room };

@@ -10,15 +10,15 @@ use Rattle.hips_http.proofs.step.serve_one.Goals as goal
 
 pub returns-in-Err-clause-serves : goal.returns-in-Err-clause-serves
 returns-in-Err-clause-serves g c =
-    let line = c.args.line.now in
-    let old = moment_of g.S.Source g.K.Sink g.B.Board.content line in
+    let connection = c.args.connection.now in
+    let old = moment_of g.S.Source g.K.Sink g.B.Board.content connection in
     let input = input_at g.S.Source c.next_call.new.frame c.next_call.new.src in
     let output = output_at g.K.Sink c.end_at.new.sink in
     let e = c.end_at.ensures in
     record {
       ok = tt;
       stops = head_stops c.args.count old input output c.in-Err.stop c.end_at.result c.requires.room c.in-Err.ensures.stop c.in-Err.ensures.kept e.ends;
-      left = kept_part line.frame.now c.next_call.new.frame (g.S.Source.left line.src.now) (g.S.Source.left c.next_call.new.src) c.in-Err.ensures.kept;
+      left = kept_part connection.frame.now c.next_call.new.frame (g.S.Source.left connection.src.now) (g.S.Source.left c.next_call.new.src) c.in-Err.ensures.kept;
       turn = tt;
       hands = record {
         handed_on = tt;
@@ -28,7 +28,7 @@ returns-in-Err-clause-serves g c =
       faults = record {
         read_fault = λ is.
             let ended : c.end_at.result ≡ ReadFault = cc in
-            stops_by_read line.frame.now c.next_call.new.frame (g.S.Source.left line.src.now) _ _ c.in-Err.stop (e.read_fault ended) c.in-Err.ensures.stop;
+            stops_by_read connection.frame.now c.next_call.new.frame (g.S.Source.left connection.src.now) _ _ c.in-Err.stop (e.read_fault ended) c.in-Err.ensures.stop;
         write_fault = λ is. let ended : c.end_at.result ≡ WriteFault = cc in e.failed ended;
         memory = e.memory;
       };
@@ -37,7 +37,7 @@ returns-in-Err-clause-serves g c =
 
 pub returns-in-Err-grant-clause-serves : goal.returns-in-Err-grant-clause-serves
 returns-in-Err-grant-clause-serves g c =
-    let old = moment_of g.S.Source g.K.Sink g.B.Board.content c.args.line.now in
+    let old = moment_of g.S.Source g.K.Sink g.B.Board.content c.args.connection.now in
     let input = input_at g.S.Source c.next_call.new.frame c.next_call.new.src in
     let output = output_at g.K.Sink c.grant.new.sink in
     let e = c.in-Err-grant.ensures in
@@ -53,8 +53,8 @@ returns-in-Err-grant-clause-serves g c =
 
 pub returns-in-Ok-serve_call-clause-serves : goal.returns-in-Ok-serve_call-clause-serves
 returns-in-Ok-serve_call-clause-serves g c =
-    let old = moment_of g.S.Source g.K.Sink g.B.Board.content c.args.line.now in
-    let new = moment_of g.S.Source g.K.Sink g.B.Board.content c.serve_call.new.line in
+    let old = moment_of g.S.Source g.K.Sink g.B.Board.content c.args.connection.now in
+    let new = moment_of g.S.Source g.K.Sink g.B.Board.content c.serve_call.new.connection in
     let input = input_at g.S.Source c.next_call.new.frame c.next_call.new.src in
     let output = output_at g.K.Sink c.grant.new.sink in
     let leave = c.in-Ok-grant.ensures in
@@ -78,10 +78,10 @@ returns-in-Ok-serve_call-clause-serves g c =
 
 pub returns-in-Err-serve_call-clause-serves : goal.returns-in-Err-serve_call-clause-serves
 returns-in-Err-serve_call-clause-serves g c =
-    let line = c.args.line.now in
+    let connection = c.args.connection.now in
     let end = c.in-Err-serve_call.end in
-    let old = moment_of g.S.Source g.K.Sink g.B.Board.content line in
-    let new = moment_of g.S.Source g.K.Sink g.B.Board.content c.serve_call.new.line in
+    let old = moment_of g.S.Source g.K.Sink g.B.Board.content connection in
+    let new = moment_of g.S.Source g.K.Sink g.B.Board.content c.serve_call.new.connection in
     let input = input_at g.S.Source c.next_call.new.frame c.next_call.new.src in
     let output = output_at g.K.Sink c.grant.new.sink in
     let leave = c.in-Ok-grant.ensures in
@@ -136,30 +136,30 @@ returns-in-Err-serve_call-clause-serves g c =
 
 pub returns-in-Err-clause-reads : goal.returns-in-Err-clause-reads
 returns-in-Err-clause-reads g c = λ some.
-    let line = c.args.line.now in
+    let connection = c.args.connection.now in
     let head = c.in-Err.ensures.needed in
-    (head.0, head_reads g.S.Source.left g.S.Source.readings line.frame.now.room line.frame.now.held head.0 line.src.now c.next_call.new.src head.1, tt)
+    (head.0, head_reads g.S.Source.left g.S.Source.readings connection.frame.now.room connection.frame.now.held head.0 connection.src.now c.next_call.new.src head.1, tt)
 
 pub returns-in-Err-grant-clause-reads : goal.returns-in-Err-grant-clause-reads
 returns-in-Err-grant-clause-reads g c = λ some.
-    let line = c.args.line.now in
+    let connection = c.args.connection.now in
     let head = c.in-Ok.ensures.needed in
-    (head.0, head_reads g.S.Source.left g.S.Source.readings line.frame.now.room line.frame.now.held head.0 line.src.now c.next_call.new.src head.1, tt)
+    (head.0, head_reads g.S.Source.left g.S.Source.readings connection.frame.now.room connection.frame.now.held head.0 connection.src.now c.next_call.new.src head.1, tt)
 
 pub returns-in-Ok-serve_call-clause-reads : goal.returns-in-Ok-serve_call-clause-reads
 returns-in-Ok-serve_call-clause-reads g c = λ some.
-    let line = c.args.line.now in
-    let new = c.serve_call.new.line in
+    let connection = c.args.connection.now in
+    let new = c.serve_call.new.connection in
     let head = c.in-Ok.ensures.needed in
     let body = c.in-Ok-serve_call.ensures.needed in
     let r = c.in-Ok-serve_call.ensures.serves.ok in
     let path = c.next_call.new.frame.path in (
       head.0 ++ body.0,
-      both_read g.S.Source.left g.S.Source.readings line.frame.now.room line.frame.now.held head.0 c.next_call.new.frame.held line.src.now c.next_call.new.src new.src.now
+      both_read g.S.Source.left g.S.Source.readings connection.frame.now.room connection.frame.now.held head.0 c.next_call.new.frame.held connection.src.now c.next_call.new.src new.src.now
           c.in-Ok.next.0 path head.1 head.2 body.0 body.1,
       (
         record { asked = c.in-Ok.next.0; path = path; body = r.1.body },
-        both_whole g.S.Source.left g.S.Source.readings line.frame.now.room line.frame.now.held head.0 c.next_call.new.frame.held line.src.now c.next_call.new.src new.src.now
+        both_whole g.S.Source.left g.S.Source.readings connection.frame.now.room connection.frame.now.held head.0 c.next_call.new.frame.held connection.src.now c.next_call.new.src new.src.now
             c.in-Ok.next.0 path head.1 head.2 body.0 body.1 r.1.body new.frame.now.held some r.1.takes.count_is r.1.takes.bytes,
         refl,
       ),
@@ -167,11 +167,11 @@ returns-in-Ok-serve_call-clause-reads g c = λ some.
 
 pub returns-in-Err-serve_call-clause-reads : goal.returns-in-Err-serve_call-clause-reads
 returns-in-Err-serve_call-clause-reads g c = λ some.
-    let line = c.args.line.now in
+    let connection = c.args.connection.now in
     let head = c.in-Ok.ensures.needed in
     let body = c.in-Err-serve_call.ensures.needed in (
       head.0 ++ body.0,
-      both_read g.S.Source.left g.S.Source.readings line.frame.now.room line.frame.now.held head.0 c.next_call.new.frame.held line.src.now c.next_call.new.src c.serve_call.new.line.src.now
+      both_read g.S.Source.left g.S.Source.readings connection.frame.now.room connection.frame.now.held head.0 c.next_call.new.frame.held connection.src.now c.next_call.new.src c.serve_call.new.connection.src.now
           c.in-Ok.next.0 c.next_call.new.frame.path head.1 head.2 body.0 body.1,
       tt,
     )

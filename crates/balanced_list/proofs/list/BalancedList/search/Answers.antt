@@ -1,6 +1,5 @@
 use Rattle.std.proofs.Common.{◌≡◌, ℕ, ◌+◌, ◌∷◌, ◌++◌, length, Some, option_copied, sym, ap, ◌∙◌, subst, arith, rules}
-use Rattle.balanced_list.specs.Search.{IsPart}
-use Rattle.balanced_list.proofs.Parts.{to_right, to_left, joined_length}
+use Rattle.balanced_list.proofs.Parts.{IsPart, to_right, to_left, joined_length}
 use Rattle.balanced_list.proofs.list.BalancedList.search.Goals as goal
 
 pub overflow_add-before-then-is_past : goal.overflow_add-before-then-is_past

@@ -1,5 +1,5 @@
 use Rattle.std.specs.Prelude.{option_copied}
-use Rattle.balanced_list.specs.Search.{IsPart}
+use Rattle.balanced_list.proofs.Parts.{IsPart}
 use Rattle.balanced_list.proofs.list.BalancedList.search.Given as goal
 
 abbrev pub invariant-down : goal.invariant-down

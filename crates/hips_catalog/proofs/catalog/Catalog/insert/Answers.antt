@@ -21,7 +21,10 @@ sink-requires-clause-tiles c =
     )
 
 pub invariant_of-self : goal.invariant_of-self
-invariant_of-self c =
+invariant_of-self c = c.self.invariant
+
+pub invariant_of-self-2 : goal.invariant_of-self-2
+invariant_of-self-2 c =
     let gap : WouldStandAt c.args.row.id (sources c.self.inside.ids) c.in-Err.at = subst (λ (i : List ℕ). WouldStandAt i (sources c.self.inside.ids) c.in-Err.at) c.id.ensures (subst (λ ss. WouldStandAt c.id.result.now ss c.in-Err.at) (sym (ap (λ (k : Catalogue). k.rows) c.self.view_is)) c.in-Err.ensures.absent) in
     let cell : IsCell c.self.inside.top c.args.row.npix = subst (λ (k : ℕ). IsCell k c.args.row.npix) (sym (ap (λ (k : Catalogue). k.top) c.self.view_is)) c.requires.cell in
     kept_with c.self.inside.top c.self.inside.per_tile (sources c.self.inside.ids) (sources c.insert.new.self) c.self.inside.tiles c.sink.new.tiles c.args.row (arc_value c.in_ok-ready.ready.placed)

@@ -6,7 +6,7 @@ use parent_rule::Steps;
 /// An open connection: the ends that its requests are read from and answered to, and what is counted meanwhile. Each is lent
 /// for a time of its own.
 #[derive(Drop)]
-pub(crate) struct Line<'f, 'b, 's, 'k, 't, B, S, K> {
+pub(crate) struct OpenConnection<'f, 'b, 's, 'k, 't, B, S, K> {
     pub(crate) frame: &'f mut Frame,
     pub(crate) board: &'b mut B,
     pub(crate) src: &'s mut S,

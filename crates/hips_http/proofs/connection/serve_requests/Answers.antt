@@ -6,23 +6,23 @@ use Rattle.hips_http.specs.Readings.{NeedsNext}
 use Rattle.hips_http.proofs.ReadRequests.{has_read_none, has_read_more, has_read_left, reads_on}
 use Rattle.hips_http.proofs.Steps.{same_ends}
 use Rattle.hips_http.proofs.Sessions.{begins_loop, loop_goes_on, asked_all, stopped_all, spent_all}
-use Rattle.hips_http.proofs.connection.serve_line.Goals as goal
+use Rattle.hips_http.proofs.connection.serve_requests.Goals as goal
 
 pub loop-count-init : goal.loop-count-init
 loop-count-init g c =
-    let line = c.args.line.now in
+    let connection = c.args.connection.now in
     let r = c.requires in (
       record { frame = refl; board = refl; src = refl; sink = refl; steps = refl },
-      begins_loop c.args.top (moment_of g.S.Source g.K.Sink g.B.Board.content line) r.released r.legal r.owned r.wants r.empty r.turn r.room r.top,
-      λ _. has_read_none g.S.Source.left g.S.Source.readings line.frame.now.room line.frame.now.held line.src.now r.empty,
+      begins_loop c.args.top (moment_of g.S.Source g.K.Sink g.B.Board.content connection) r.released r.legal r.owned r.wants r.empty r.turn r.room r.top,
+      λ _. has_read_none g.S.Source.left g.S.Source.readings connection.frame.now.room connection.frame.now.held connection.src.now r.empty,
     )
 
 pub loop-count-preserved : goal.loop-count-preserved
 loop-count-preserved g c =
     let at = moment_of g.S.Source g.K.Sink g.B.Board.content in
-    let first = c.args.line.now in
-    let now = c.loop-count.line in
-    let new = c.serve_one.new.line in
+    let first = c.args.connection.now in
+    let now = c.loop-count.connection in
+    let new = c.serve_one.new.connection in
     let i = c.loop-count.invariant in
     let e = c.in-Ok-false.ensures in
     let s = rw c.in-Ok-false.field-0-test at e.serves in (
@@ -39,35 +39,35 @@ pub returns-in-Ok-true-clause-serves : goal.returns-in-Ok-true-clause-serves
 returns-in-Ok-true-clause-serves g c =
     let at = moment_of g.S.Source g.K.Sink g.B.Board.content in
     let s = rw c.in-Ok-true.field-0-test at c.in-Ok-true.ensures.serves in
-    asked_all c.loop-count.count c.args.top (at c.args.line.now) (at c.loop-count.line) (at c.serve_one.new.line) c.loop-count.invariant.1 s.never_falls c.loop-count-test.true s
+    asked_all c.loop-count.count c.args.top (at c.args.connection.now) (at c.loop-count.connection) (at c.serve_one.new.connection) c.loop-count.invariant.1 s.never_falls c.loop-count-test.true s
 
 pub returns-in-Err-clause-serves : goal.returns-in-Err-clause-serves
 returns-in-Err-clause-serves g c =
     let at = moment_of g.S.Source g.K.Sink g.B.Board.content in
     let s = c.in-Err.ensures.serves in
-    stopped_all c.loop-count.count c.args.top (at c.args.line.now) (at c.loop-count.line) (at c.serve_one.new.line) c.loop-count.invariant.1 s.never_falls c.in-Err.end c.loop-count-test.true s
+    stopped_all c.loop-count.count c.args.top (at c.args.connection.now) (at c.loop-count.connection) (at c.serve_one.new.connection) c.loop-count.invariant.1 s.never_falls c.in-Err.end c.loop-count-test.true s
 
 pub returns-clause-serves : goal.returns-clause-serves
 returns-clause-serves g c =
     let at = moment_of g.S.Source g.K.Sink g.B.Board.content in
     let all : c.loop-count.count ≡ most_requests = omega arith in
-    spent_all c.loop-count.count c.args.top (at c.args.line.now) (at c.loop-count.line) c.loop-count.invariant.1 all
+    spent_all c.loop-count.count c.args.top (at c.args.connection.now) (at c.loop-count.connection) c.loop-count.invariant.1 all
 
 -- ---- the ends
 
 pub returns-in-Ok-true-clause-same : goal.returns-in-Ok-true-clause-same
-returns-in-Ok-true-clause-same g c = same_ends c.args.line.now c.loop-count.line c.serve_one.new.line c.loop-count.invariant.0 c.in-Ok-true.ensures.same
+returns-in-Ok-true-clause-same g c = same_ends c.args.connection.now c.loop-count.connection c.serve_one.new.connection c.loop-count.invariant.0 c.in-Ok-true.ensures.same
 
 pub returns-in-Err-clause-same : goal.returns-in-Err-clause-same
-returns-in-Err-clause-same g c = same_ends c.args.line.now c.loop-count.line c.serve_one.new.line c.loop-count.invariant.0 c.in-Err.ensures.same
+returns-in-Err-clause-same g c = same_ends c.args.connection.now c.loop-count.connection c.serve_one.new.connection c.loop-count.invariant.0 c.in-Err.ensures.same
 
 -- ---- what was read
 
 pub returns-in-Ok-true-clause-reads : goal.returns-in-Ok-true-clause-reads
 returns-in-Ok-true-clause-reads g c = λ some.
-    let first = c.args.line.now in
-    let now = c.loop-count.line in
-    let new = c.serve_one.new.line in
+    let first = c.args.connection.now in
+    let now = c.loop-count.connection in
+    let new = c.serve_one.new.connection in
     let i = c.loop-count.invariant in
     let so = i.2 some in
     let took = c.in-Ok-true.ensures.reads (has_read_left g.S.Source.left g.S.Source.readings first.frame.now.room c.loop-count.count now.frame.now.held first.src.now now.src.now so some) in (
@@ -79,9 +79,9 @@ returns-in-Ok-true-clause-reads g c = λ some.
 
 pub returns-in-Err-clause-reads : goal.returns-in-Err-clause-reads
 returns-in-Err-clause-reads g c = λ some.
-    let first = c.args.line.now in
-    let now = c.loop-count.line in
-    let new = c.serve_one.new.line in
+    let first = c.args.connection.now in
+    let now = c.loop-count.connection in
+    let new = c.serve_one.new.connection in
     let i = c.loop-count.invariant in
     let so = i.2 some in
     let took = c.in-Err.ensures.reads (has_read_left g.S.Source.left g.S.Source.readings first.frame.now.room c.loop-count.count now.frame.now.held first.src.now now.src.now so some) in (
@@ -93,6 +93,6 @@ returns-in-Err-clause-reads g c = λ some.
 
 pub returns-clause-reads : goal.returns-clause-reads
 returns-clause-reads g c = λ some.
-    let first = c.args.line.now in
+    let first = c.args.connection.now in
     let so = c.loop-count.invariant.2 some in
-    (so.came, subst (λ (room : ℕ). ReadsWhile g.S.Source.left g.S.Source.readings (NeedsNext room) [] first.src.now c.loop-count.line.src.now so.came) c.requires.room so.reads)
+    (so.came, subst (λ (room : ℕ). ReadsWhile g.S.Source.left g.S.Source.readings (NeedsNext room) [] first.src.now c.loop-count.connection.src.now so.came) c.requires.room so.reads)
