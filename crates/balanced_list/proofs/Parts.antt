@@ -94,15 +94,15 @@ all_from : {T : Type 0} (P : T → Type 0) (l r : List T) (x : T) → All P (l +
 all_from P [] r x h = h
 all_from P (a ∷ l) r x h = all_from P l r x h.1
 
-not_both : (b : Bool) → b ≡ true → b ≡ false → ⊥
+pub not_both : (b : Bool) → b ≡ true → b ≡ false → ⊥
 not_both true h e = absurd (grind (arith, e))
 not_both false h e = absurd (grind (arith, h))
 
-either : (b : Bool) → (b ≡ true) ⊎ (b ≡ false)
+pub either : (b : Bool) → (b ≡ true) ⊎ (b ≡ false)
 either true = inl refl
 either false = inr refl
 
-none_holds : {T : Type 0} (test : T → Bool) (xs : List T) → All (λ y. test y ≡ false) xs → HoldsAtFirst test xs
+pub none_holds : {T : Type 0} (test : T → Bool) (xs : List T) → All (λ y. test y ≡ false) xs → HoldsAtFirst test xs
 none_holds test [] h = tt
 none_holds test (x ∷ xs) h = (λ t. none_holds test xs h.1, λ f. h.1)
 

@@ -5,8 +5,10 @@
 #![tactic(auto)]
 
 mod balance;
+mod fronted;
 mod item;
 mod list;
 
+pub use fronted::FrontedList;
 pub use item::Item;
 pub use list::{BalancedList, Probe};

@@ -130,8 +130,8 @@ impl<T: Drop> BalancedList<T> {
         Ok(items)
     }
 
-    // Appends the items in order.
-    fn push_all<'a>(&'a self, items: &mut Vec<&'a T>) -> Result<(), AllocError>
+    /// Appends the items in order.
+    pub(crate) fn push_all<'a>(&'a self, items: &mut Vec<&'a T>) -> Result<(), AllocError>
         ensures { OnOk result (map (λ item. item.now) items.new.items ≡ map (λ item. item.now) items.old.items ++ self.now) }
     {
         match &self.tree {
@@ -197,6 +197,16 @@ impl<T: Drop> BalancedList<T> {
                 *self = BalancedList::rebuilt(node);
             }
         }
+    }
+
+    /// Puts the item in before all others, and leaves the list out of balance.
+    pub(crate) fn push_first(&mut self, item: Item<T>)
+        requires fits { length self.old + 1 < 2 ^ 64 }
+        ensures { self.new ≡ item ∷ self.old }
+    {
+        let mut node = item.into_node();
+        node.right = mem::replace(self, BalancedList::new());
+        *self = BalancedList::closed(node);
     }
 
     /// Takes out item `i`; those after it stand one place sooner.

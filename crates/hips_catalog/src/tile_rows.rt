@@ -11,7 +11,7 @@ ghost use Rattle.hips_catalog.specs.Tiles.{sources};
 
 use crate::ranked::Ranked;
 use crate::row::Row;
-use balanced_list::{BalancedList, Item, Probe};
+use balanced_list::{FrontedList, Item, Probe};
 use std::alloc::{AllocError, Global};
 use std::marker::Model;
 
@@ -34,7 +34,7 @@ impl<'a> Probe<Ranked> for Worse<'a> {
 /// a look at any of these, which are elsewhere in memory. Contracts see the shared rows.
 #[derive(Drop)]
 pub(crate) struct TileRows {
-    list: BalancedList<Ranked>,
+    list: FrontedList<Ranked>,
     // Of the first row and of the last one; they mean nothing where there are no rows.
     first: u64,
     last: u64,
@@ -55,7 +55,7 @@ impl Model for TileRows {
 }
 
 // The rank of row `i`; any number past the last.
-fn rank_at(list: &BalancedList<Ranked>, i: usize) -> u64
+fn rank_at(list: &FrontedList<Ranked>, i: usize) -> u64
     ensures { HasRank list.now i result }
 {
     match list.get(i) {
@@ -65,14 +65,14 @@ fn rank_at(list: &BalancedList<Ranked>, i: usize) -> u64
 }
 
 // The rank of the first row, where it was another one before the row at place `i` was taken out.
-fn first_without(list: &BalancedList<Ranked>, i: usize, before: u64) -> u64
+fn first_without(list: &FrontedList<Ranked>, i: usize, before: u64) -> u64
     ensures { (rows : List (Arc Source Global)) → i < length rows → list.now ≡ remove rows i → HasRank rows 0 before → HasRank list.now 0 result }
 {
     if i == 0 { rank_at(list, 0) } else { before }
 }
 
 // The rank of the last row, where it was another one before the row at place `i` was taken out.
-fn last_without(list: &BalancedList<Ranked>, i: usize, before: u64) -> u64
+fn last_without(list: &FrontedList<Ranked>, i: usize, before: u64) -> u64
     ensures { (rows : List (Arc Source Global)) → i < length rows → list.now ≡ remove rows i → HasRank rows (length rows - 1) before → HasRank list.now (length list.now - 1) result }
 {
     if i == list.len() {
@@ -83,7 +83,7 @@ fn last_without(list: &BalancedList<Ranked>, i: usize, before: u64) -> u64
 }
 
 // The place of a row among rows in order, and whether one stands there than which neither is better.
-fn search(rows: &BalancedList<Ranked>, row: &Row) -> (usize, bool)
+fn search(rows: &FrontedList<Ranked>, row: &Row) -> (usize, bool)
     ensures place { HoldsAtFirst (λ s. is_better s row.now) (sources rows.now) → result.0 ≡ leading (λ s. is_better s row.now) (sources rows.now) }
     ensures yes { result.1 ≡ true → (s : Source) × (slice_get (sources rows.now) result.0 ≡ Some s) × (is_better s row.now ≡ false) × (is_better row.now s ≡ false) }
     ensures no { result.1 ≡ false → ¬ (slice_get (sources rows.now) result.0 ≡ Some row.now) }
@@ -96,7 +96,7 @@ fn search(rows: &BalancedList<Ranked>, row: &Row) -> (usize, bool)
 }
 
 // Whether there is a first row, and it is better than the first of the others, which have one.
-fn first_is_better(rows: &BalancedList<Ranked>, others: &BalancedList<Ranked>) -> bool
+fn first_is_better(rows: &FrontedList<Ranked>, others: &FrontedList<Ranked>) -> bool
     ensures { (z : Source) → slice_get (sources others.now) 0 ≡ Some z → result ≡ begins_better (sources rows.now) z }
 {
     match rows.get(0) {
@@ -114,7 +114,7 @@ impl TileRows {
         ensures { result ≡ [] }
     {
         TileRows {
-            list: BalancedList::new(),
+            list: FrontedList::new(),
             first: 0,
             last: 0,
         }

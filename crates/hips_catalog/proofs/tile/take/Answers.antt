@@ -16,7 +16,7 @@ remove-row-requires c =
 pub swap-requires-2 : goal.swap-requires-2
 swap-requires-2 c = still_within c.args.tiles.now c.swap.new.self c.args.at c.args.cell _ c.requires.there c.swap.ensures.items
 
-done : (c : goal.Joined-tile) → Changed c.args.tiles.now c.swap-2.new.self c.args.cell (sources c.remove-row.new.self)
+done : (c : goal.Joined-tile-2) → Changed c.args.tiles.now c.swap-2.new.self c.args.cell (sources c.remove-row.new.self)
 done c =
     change c.args.tiles.now c.swap.new.self c.swap-2.new.self c.args.at c.args.cell _ c.swap.new.item (record { cell = c.swap.new.item.cell; rows = c.remove-row.new.self }) c.swap.new.item
     c.requires.listed c.requires.there c.swap.ensures.item c.swap.ensures.items refl c.swap-2.ensures.items
