@@ -206,6 +206,7 @@ fn add(tiles: &mut Tiles, at: usize, cell: Cell, row: Item<Ranked>, mut spare: I
     ensures listed { AreListed tiles.new }
     ensures full { NoneIsEmpty tiles.old → NoneIsEmpty tiles.new }
 {
+    // For the prover: what a cell is.
     let _order = cell.order();
     let mut rows = TileRows::new();
     rows.insert(0, row);

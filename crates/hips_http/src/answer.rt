@@ -112,6 +112,7 @@ fn answer<R: Threads + Sync + Clock + Log, B: ChangedWith<R>, G: Gate + Sync>(
 fn not_allowed<B: Board>(board: &B, allow: Allow) -> TextReply
     ensures { (request : Asking) (steps : ℕ) → Serves request (call.NotAllowed allow) (B.content board.now) (B.content board.now) steps steps result }
 {
+    // For the prover: what a board has seen is a history.
     let _legal = board.last();
     TextReply::not_allowed(allow)
 }

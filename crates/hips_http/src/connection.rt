@@ -113,6 +113,7 @@ pub fn session_in<
             return serve_all(rt, alloc, frame, board, src, sink, gate, steps, top);
         }
         None => {
+            // For the prover: a count fits 64 bits.
             let _count = steps.count();
             return Served {
                 end: SessionEnd::OutOfMemory,

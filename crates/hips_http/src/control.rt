@@ -66,6 +66,7 @@ pub(crate) fn unpin<B: Board>(board: &mut B) -> TextReply
     ensures { (request : Asking) (steps : ℕ) → Serves request call.Unpin (B.content board.old) (B.content board.new) steps steps result }
 {
     board.release();
+    // For the prover: what a board has seen is a history.
     let _legal = board.last();
     TextReply::released()
 }

@@ -80,6 +80,7 @@ fn send_unknown<R: Clock + Log, K: Sink>(
         Sends (output_at K.Sink sink.old) (output_at K.Sink sink.new) (reply_bytes (head_of due.entry.close answer) (sent_body due.entry.method answer.body)) result }
     ensures hands { HandsReply (output_at K.Sink sink.old) (output_at K.Sink sink.new) result }
 {
+    // For the prover: of which orders the tiles are.
     let _orders = state.conf().shape();
     send_not_found(rt, sink, due, state)
 }
@@ -116,6 +117,7 @@ pub(crate) fn give_file<R: Clock + Log, B: Board, K: Sink>(
         → Gives request file due.entry.close (B.content board.old) (B.content board.new) steps (output_at K.Sink sink.old) (output_at K.Sink sink.new) result }
     ensures hands { HandsReply (output_at K.Sink sink.old) (output_at K.Sink sink.new) result }
 {
+    // For the prover: what a board has seen is a history.
     let _legal = board.last();
     match board.held() {
         Some(state) => return send_path(rt, sink, due, state, file),

@@ -158,6 +158,7 @@ fn meet_others<'a, J: Naming>(
     ensures others { OnOk result (AllZip Stays others.old others.new) }
     ensures met { OnOk result (All (λ board. Begins board.history first.new.history) others.old) }
 {
+    // For the prover: what a board has seen is a history.
     let _legal = first.last();
     for other in others {
         first.meet(other)?;

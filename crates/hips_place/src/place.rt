@@ -90,6 +90,7 @@ pub fn serve_place<
     ensures ends_by { EndsBy (counts_of (D.faults door.old) (D.wants door.old)) (counts_of (D.faults door.new) (D.wants door.new)) result }
     ensures steps_never_fall { steps.old ≤ steps.new }
 {
+    // For the prover: what a board has seen is a history.
     let _legal = board.last();
     let mut frame: Option<Frame> = None;
     let mut wanted = false;
@@ -189,6 +190,7 @@ fn serve_next<
     ensures wanted { IsErrOf result DoorFault.OutOfMemory → Rises (D.wants door.old) (D.wants door.new) × (D.faults door.new ≡ D.faults door.old) }
     ensures steps_never_fall { steps.old ≤ steps.new }
 {
+    // For the prover: what a board has seen is a history.
     let _legal = board.last();
     if frame.is_none() {
         *frame = frame_for(alloc, board);

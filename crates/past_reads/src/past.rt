@@ -202,6 +202,7 @@ impl Past {
     {
         match self.cache.peek(&k) {
             Some(held) => {
+                // For the prover: a count fits 64 bits.
                 let _count = steps.count();
                 held.clone()
             }
@@ -249,7 +250,7 @@ impl Past {
         ensures steps { steps.new ≤ steps.old + work_afresh self.now.conf self.now.opening (edits_of journal.now.batches) k }
         ensures never_falls { steps.old ≤ steps.new }
     {
-        // How many edits there are bounds k.
+        // For the prover: how many edits there are bounds `k`.
         let _count = journal.len();
         let leaves = journal.opening().share()?;
         let opening = Generation::start(rt, self.alloc, self.conf.clone()?, leaves, gate, steps)?;
@@ -281,7 +282,7 @@ impl Past {
         ensures held { OnOk result (self.new ≡ record self.old { batches = journal.batches; held = held_after self.old.room k self.old.held }) }
         ensures kept { OnErr result (self.new ≡ self.old) }
     {
-        // The keys are distinct, and no more than there is room for.
+        // For the prover: the keys are distinct, and no more than there is room for.
         let _count = self.cache.len();
         self.cache.put(k, generation)?;
         self.journal = journal;

@@ -65,6 +65,7 @@ pub(crate) fn after_generation(
     requires whole { generation ≡ whole_generation last.now }
     ensures { IfOk result (Follows (Publishes (length (state_edits last.now))) last.now) }
 {
+    // For the prover: what a state is.
     let _edits = last.edits();
     after_prefix(alloc, last, generation)
 }

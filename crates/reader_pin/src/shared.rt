@@ -127,6 +127,7 @@ impl<'a, J: Naming, R: Wait> ChangedWith<R> for Shared<'a, J> {
         build: &F,
         steps: Steps,
     ) -> (Result<Published, AllocError>, Steps) {
+        // For the prover: more edits are no less work, and what was seen is a history.
         more_touched_is_more_work();
         let _last = self.sight.state();
         self.sight.look(&mut self.window);

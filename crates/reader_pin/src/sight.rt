@@ -61,6 +61,7 @@ impl<J: Naming> Sight<J> {
         requires fresh { places_of number seen.owners ≡ [] }
         ensures { result ≡ shared_content number seen [] None }
     {
+        // For the prover: what was seen is a history.
         let _last = seen.last();
         Sight {
             alloc,
@@ -118,8 +119,10 @@ impl<J: Naming> Sight<J> {
     pub(crate) fn look(&mut self, window: &mut SurveyWindow<J>)
         ensures { Stays self.old self.new }
     {
+        // For the prover: what was seen is a history.
         let _last = self.seen.last();
         if let Some(newer) = window.look(&self.seen, self.number) {
+            // For the prover: so is what is shown.
             let _newest = newer.last();
             move_on(&mut self.seen, &mut self.held, newer);
         }
@@ -134,6 +137,7 @@ impl<J: Naming> Sight<J> {
         ensures seen { OnOk result (HasSeen newest.now self.new) }
         ensures stays { Stays self.old self.new }
     {
+        // For the prover: what was seen is a history.
         let _last = self.seen.last();
         let _newest = newest.last();
         if let Some(newer) = self.seen.newer(newest, self.number)? {
@@ -161,11 +165,13 @@ impl<J: Naming> Sight<J> {
         ensures legal { IsHistory self.new.opening self.new.history }
         ensures stayed { OnErr result (self.new ≡ self.old) }
     {
+        // For the prover: what was seen is a history.
         let _last = self.seen.last();
         let _all = desk.newest().last();
         let place = self.seen.len();
         self.own.reserve(1)?;
         let newest = desk.append(rt, self.number, next)?;
+        // For the prover: so is it with the event.
         let _newest = newest.last();
         self.own.push_reserved(place);
         move_on(&mut self.seen, &mut self.held, newest);
@@ -236,6 +242,7 @@ impl<J: Naming> Sight<J> {
     {
         let last = self.state();
         if last.tip() == last.edits() {
+            // For the prover: a count fits 64 bits.
             let _count = steps.count();
             return (Ok(None), steps);
         }
@@ -264,6 +271,7 @@ impl<J: Naming> Sight<J> {
         ensures steps { OnOk result.0 (result.1 ≤ steps_after steps (publish_work self.old self.new)) }
         ensures never_falls { steps ≤ result.1 }
     {
+        // For the prover: more edits are no less work, a count fits 64 bits, and what was seen is a history.
         more_touched_is_more_work();
         let _count = steps.count();
         let _pinned = self.state();
@@ -299,6 +307,7 @@ impl<J: Naming> Sight<J> {
         let last = self.state();
         let edits = last.edits();
         if last.tip() == edits {
+            // For the prover: a count fits 64 bits.
             let _count = steps.count();
             return (Ok(Published::Already(edits)), steps);
         }

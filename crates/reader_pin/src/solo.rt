@@ -123,6 +123,7 @@ impl Board for Solo {
 
     /// There are no newer states.
     fn pin(&mut self) {
+        // For the prover: what a board has seen is a history.
         let _legal = self.last();
     }
 
@@ -196,6 +197,7 @@ impl<R> ChangedWith<R> for Solo {
         let last = self.last();
         let edits = last.edits();
         if last.tip() == edits {
+            // For the prover: a count fits 64 bits.
             let _count = steps.count();
             return (Ok(Published::Already(edits)), steps);
         }

@@ -56,6 +56,7 @@ pub fn open_shared<J: Naming, R: Wait>(
     ensures numbers { IfOk result (λ opened. map (λ seat. seat.number) opened.1.items ≡ range_with_len 0 places) }
     ensures seen { IfOk result (λ opened. All (λ seat. seat.seen ≡ one_state places state) opened.1.items) }
 {
+    // For the prover: what a state is.
     let _first = state.edits();
     book.open(rt, alloc, state, places)
 }

@@ -59,7 +59,7 @@ pub(crate) fn read_leaves<R: Clock + Log, H: Shelf>(
     ensures steps_at_most { steps.new ≤ steps.old + length leaves.now }
     ensures steps_never_fall { steps.old ≤ steps.new }
 {
-    // A count fits 64 bits.
+    // For the prover: a count fits 64 bits.
     let _count = steps.count();
     let mut tiles = Store::new(alloc);
     let mut progress = Progress::begin(rt, "leaves read", leaves.len() as u64);
@@ -140,7 +140,7 @@ fn read_leaf<R: Log, H: Shelf>(
     ensures steps_at_most { steps.new ≤ steps.old + 1 }
     ensures steps_never_fall { steps.old ≤ steps.new }
 {
-    // A count fits 64 bits.
+    // For the prover: a count fits 64 bits.
     let _count = steps.count();
     let cell = Cell::new(conf.shape().top, leaf).unwrap();
     let path = Path::Tile(cell).to_string(alloc)?;

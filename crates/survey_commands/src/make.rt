@@ -110,6 +110,7 @@ where
     let mut source = SureSource::new(script);
     let mut sink = NullSink::new();
     let served = session(rt, rt.alloc(), board, &mut source, &mut sink, gate, steps);
+    // For the prover: what a board has seen is a history.
     let _alone = board.last();
     match served.end {
         SessionEnd::Closed if served.wants == 0 => Ok(()),

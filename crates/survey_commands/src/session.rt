@@ -162,6 +162,7 @@ where
     ensures steps_never_fall { steps.old ≤ steps.new }
 {
     let served = session(rt, rt.alloc(), board, source, sink, gate, steps);
+    // For the prover: what a board has seen is a history.
     let _alone = board.last();
     match sink.flush() {
         Ok(()) => end_status(served.end),

@@ -59,7 +59,7 @@ pub fn summary_of(state: &State, asked: u32) -> Summary
 fn sum_files(generation: &Generation) -> u128
     ensures { result ≡ files_sum generation.now }
 {
-    // Its contract says how many paths a description can have.
+    // For the prover: how many paths a description can have.
     let _conf = generation.conf();
     let mut sum = 0;
     for i in 0..generation.file_count() {

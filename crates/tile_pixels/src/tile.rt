@@ -73,7 +73,7 @@ impl Tile {
         ensures tile { result ≡ record { depth = depth; n = n; numbers = numbers_from depth.bitpix (4 ^ n) raw.items } }
         ensures bytes { stored_bytes depth.bitpix result.numbers ≡ raw.items }
     {
-        // Its contract says that the width is one of the four.
+        // For the prover: the width is one of the four.
         let _bitpix = depth.bitpix();
         Tile { depth, n, raw }
     }
