@@ -5,6 +5,7 @@ time-gate.py --pid NUMBER: watches an `rt` that runs already, until it ends.
 In the end it prints the table of CONTRIBUTING.md: by crate, the seconds of processor that its proof, its tests and its edits
 took. Each process below the command is looked at twice a second, so what it did right before its end is missing: how much that
 is stands below the table. What a crate's proof, tests and edits are is told by rattle's own words and by the folder it runs in.
+Then come the dearest edits: those stand in functions that take long to prove, and would do as well in smaller ones.
 """
 
 import os
@@ -19,6 +20,7 @@ from pathlib import Path
 
 ROOT = Path(__file__).resolve().parent.parent
 EVERY = 0.5
+DEAREST = 20
 TICKS = os.sysconf("SC_CLK_TCK")
 ROW = re.compile(r"^\| `(\w+)`[^|]*\|[^|]*\| *(`\w+`|none|)", re.M)
 
@@ -61,11 +63,32 @@ def purpose(pid):
     return (os.path.basename(ran), "runs") if ran else None
 
 
+def edit_in(crate, folder):
+    """The edit that was made in this copy of the crate's text; the proof that the edits begin with has none."""
+    for edit in sorted((ROOT / "crates" / crate / "must-fail").glob("*.edit")):
+        lines = edit.read_text().splitlines()
+        file, new = (next(line[len(word):] for line in lines if line.startswith(word)) for word in ("file: ", "new: "))
+        try:
+            if new in Path(folder, file).read_text() and new not in (ROOT / "crates" / crate / file).read_text():
+                return edit.stem
+        except OSError:
+            return None
+    return None
+
+
+def edit_of(pid, crate):
+    """The edit that a process tries, if it still runs."""
+    try:
+        return edit_in(crate, os.readlink(f"/proc/{pid}/cwd"))
+    except OSError:
+        return None
+
+
 class Sampler:
     """What every process below the top one has been seen to take."""
 
     def __init__(self, top):
-        self.top, self.purposes, self.seconds = top, {}, {}
+        self.top, self.purposes, self.seconds, self.edits = top, {}, {}, {}
 
     def look(self):
         found = processes()
@@ -76,6 +99,9 @@ class Sampler:
                 # Whoever tells nothing of itself, as a compiler that rattle calls, works for its parent.
                 above = self.purposes.get((parent, found[parent][1])) if parent in found else None
                 self.purposes[key] = purpose(pid) or above
+            crate, phase = self.purposes[key] or ("", "")
+            if phase == "edits" and key not in self.edits:
+                self.edits[key] = edit_of(pid, crate)
             self.seconds[key] = seconds
 
     def sums(self):
@@ -83,6 +109,15 @@ class Sampler:
         for key, seconds in self.seconds.items():
             sums[self.purposes[key] or ("rt", "itself")] += seconds
         return sums
+
+
+    def dearest(self):
+        """The edits that took longest, as crate, edit and seconds."""
+        tried = Counter()
+        for key, edit in self.edits.items():
+            if edit:
+                tried[self.purposes[key][0], edit] += self.seconds[key]
+        return tried.most_common(DEAREST)
 
 
 def rows(sums):
@@ -103,8 +138,11 @@ def rows(sums):
             yield f"| `{name}` | {proof:.0f} | {place} | {shown} |"
 
 
-def report(sums, minutes, whole):
+def report(sampler, minutes, whole):
+    sums = sampler.sums()
     print("\n".join(rows(sums)))
+    for (crate, edit), seconds in sampler.dearest():
+        print(f"{seconds:6.0f}  {crate}/{edit}")
     phase = lambda wanted: sum(seconds for (_, it), seconds in sums.items() if it == wanted)
     tests = phase("tests") + sum(seconds for (name, it), seconds in sums.items() if it == "proof" and name.endswith("_tests"))
     proofs = phase("proof") + phase("tests") - tests
@@ -134,7 +172,7 @@ def main(words):
         sampler.look()
         time.sleep(EVERY)
     used = resource.getrusage(resource.RUSAGE_CHILDREN)
-    report(sampler.sums(), (time.monotonic() - begun) / 60, used.ru_utime + used.ru_stime if command else None)
+    report(sampler, (time.monotonic() - begun) / 60, used.ru_utime + used.ru_stime if command else None)
     return command.returncode if command else 0
 
 
