@@ -8,7 +8,6 @@ use healpix_nested::cells;
 use leaf_store::Store;
 use parent_rule::{Depth, Steps};
 use std::alloc::{AllocError, Global};
-use std::process::Abort;
 use std::sync::Arc;
 use std::test::Fail;
 use tile_pixels::Tile;
@@ -56,13 +55,13 @@ fn cover_by_steps(alloc: Global, top: u8, leaves: &[u64]) -> Result<Cover, Fail>
 {
     let mut cover = cover_of(alloc, top, &[])?;
     for leaf in leaves {
-        cover = with(alloc, &cover, top, *leaf)?;
+        cover = changed(alloc, &cover, top, true, *leaf)?;
     }
     Ok(cover)
 }
 
-// The cover with one leaf more.
-fn with(alloc: Global, cover: &Cover, top: u8, leaf: u64) -> Result<Cover, Fail>
+// The cover with one leaf more, or one less.
+fn changed(alloc: Global, cover: &Cover, top: u8, more: bool, leaf: u64) -> Result<Cover, Fail>
     requires top { top ≤ 11 }
     requires same { top ≡ cover.now.top }
     ensures { IfOk result (λ made. made.top ≡ top) }
@@ -70,19 +69,11 @@ fn with(alloc: Global, cover: &Cover, top: u8, leaf: u64) -> Result<Cover, Fail>
     if leaf >= cells(top) {
         return Err("no such leaf".into());
     }
-    Ok(cover.add(alloc, top, leaf)?)
-}
-
-// The cover with one leaf less.
-fn without(alloc: Global, cover: &Cover, top: u8, leaf: u64) -> Result<Cover, Fail>
-    requires top { top ≤ 11 }
-    requires same { top ≡ cover.now.top }
-    ensures { IfOk result (λ made. made.top ≡ top) }
-{
-    if leaf >= cells(top) {
-        return Err("no such leaf".into());
+    if more {
+        Ok(cover.add(alloc, top, leaf)?)
+    } else {
+        Ok(cover.remove(alloc, top, leaf)?)
     }
-    Ok(cover.remove(alloc, top, leaf)?)
 }
 
 // The numbers from `start` to below `end`.
@@ -96,62 +87,78 @@ pub(crate) fn numbers(alloc: Global, start: u64, end: u64) -> Result<Vec<u64>, A
 
 // Whether the cover has exactly these rows.
 fn has_rows(cover: &Cover, rows: &[u64]) -> bool {
-    let same = rows
-        .iter()
-        .enumerate()
-        .all(|(i, row)| cover.at(i) == Some(*row));
-    same && cover.len() == rows.len() && cover.at(rows.len()).is_none()
+    for (i, row) in rows.iter().enumerate() {
+        if cover.at(i) != Some(*row) {
+            return false;
+        }
+    }
+    cover.len() == rows.len() && cover.at(rows.len()).is_none()
 }
 
 const NINE: [u64; 9] = [16, 17, 18, 76, 77, 78, 316, 317, 318];
 
-// Whether the cover with one leaf more has these rows.
-fn gains(alloc: Global, cover: &Cover, leaf: u64, rows: &[u64]) -> Result<bool, Fail>
-    requires { cover.now.top ≡ 3 }
+// One leaf more, or one less, and the rows of the cover then.
+type Step = (bool, u64, &'static [u64]);
+
+// The order of the leaves, how many there are from 0, the rows of their cover, and changes to it, one after the other.
+type StepsRow = (u8, u64, &'static [u64], &'static [Step]);
+
+// A leaf that is there is added, one that isn't is taken away, four siblings at each order become one row and part again.
+static STEPS: [StepsRow; 2] = [
+    (
+        3,
+        63,
+        &NINE,
+        &[
+            (true, 0, &NINE),
+            (false, 63, &NINE),
+            (true, 63, &[4]),
+            (true, 63, &[4]),
+            (false, 63, &NINE),
+        ],
+    ),
+    (4, 4, &[256], &[(false, 3, &[1024, 1025, 1026])]),
+];
+
+// Whether the cover has the rows of each step.
+fn follows(alloc: Global, top: u8, mut cover: Cover, steps: &[Step]) -> Result<bool, Fail>
+    requires top { top ≤ 11 }
+    requires same { top ≡ cover.top }
 {
-    let more = with(alloc, cover, 3, leaf)?;
-    Ok(has_rows(&more, rows))
+    for (more, leaf, rows) in steps {
+        cover = changed(alloc, &cover, top, *more, *leaf)?;
+        if !has_rows(&cover, rows) {
+            return Ok(false);
+        }
+    }
+    Ok(true)
 }
 
-// The same of one leaf less.
-fn loses(alloc: Global, cover: &Cover, leaf: u64, rows: &[u64]) -> Result<bool, Fail>
-    requires { cover.now.top ≡ 3 }
-{
-    let less = without(alloc, cover, 3, leaf)?;
-    Ok(has_rows(&less, rows))
-}
-
-// The cover of leaves 0 to 62 of order 3.
-fn check_without_one(rt: &impl Abort, alloc: Global, before: &Cover) -> Result<(), Fail>
-    requires { before.now.top ≡ 3 }
-{
-    assert!(rt; has_rows(before, &NINE));
-    assert!(rt; gains(alloc, before, 0, &NINE)?, "a leaf that is there");
-    assert!(rt; loses(alloc, before, 63, &NINE)?, "a leaf that isn't there");
-    Ok(())
-}
-
-// The cover of leaves 0 to 63 of order 3.
-fn check_whole(rt: &impl Abort, alloc: Global, all: &Cover) -> Result<(), Fail>
-    requires { all.now.top ≡ 3 }
-{
-    assert!(rt; has_rows(all, &[4]), "four siblings at each order");
-    assert!(rt; loses(alloc, all, 63, &NINE)?);
-    assert!(rt; gains(alloc, all, 63, &[4])?, "a leaf that is there");
-    Ok(())
+// Whether the cover of a row has its rows, and those of each step.
+fn changes_by_steps(alloc: Global, (top, end, rows, steps): &StepsRow) -> Result<bool, Fail> {
+    if *top > 11 {
+        return Err("no such order".into());
+    }
+    let leaves = numbers(alloc, 0, *end)?;
+    let cover = cover_of(alloc, *top, &leaves)?;
+    if !has_rows(&cover, rows) {
+        return Ok(false);
+    }
+    follows(alloc, *top, cover, steps)
 }
 
 #[test]
 fn covers_change_by_steps(rt: HostRuntime) -> Result<(), Fail> {
-    let leaves = numbers(rt.alloc(), 0, 63)?;
-    let before = cover_of(rt.alloc(), 3, &leaves)?;
-    check_without_one(&rt, rt.alloc(), &before)?;
-    let all = with(rt.alloc(), &before, 3, 63)?;
-    check_whole(&rt, rt.alloc(), &all)
+    for row in &STEPS {
+        assert!(rt; changes_by_steps(rt.alloc(), row)?, "{row:?}");
+    }
+    Ok(())
 }
 
 // The order of the leaves, their numbers, and the rows of their cover.
-static COVERS: [(u8, &[u64], &[u64]); 6] = [
+type CoverRow = (u8, &'static [u64], &'static [u64]);
+
+static COVERS: [CoverRow; 6] = [
     (4, &[], &[]),
     (4, &[0, 1, 2, 3], &[256]),
     (4, &[3, 1, 0], &[1024, 1025, 1027]),
@@ -160,41 +167,26 @@ static COVERS: [(u8, &[u64], &[u64]); 6] = [
     (1, &[47, 4, 5, 6, 7], &[5, 63]),
 ];
 
-// Whether the cover that is made of all leaves has these rows.
-fn at_once(alloc: Global, top: u8, leaves: &[u64], rows: &[u64]) -> Result<bool, Fail>
-    requires { top ≤ 11 }
-{
-    let cover = cover_of(alloc, top, leaves)?;
-    Ok(has_rows(&cover, rows))
+// Whether the cover that was made has these rows.
+fn is_made_of(made: Result<Cover, Fail>, rows: &[u64]) -> Result<bool, Fail> {
+    Ok(has_rows(&made?, rows))
 }
 
-// The same of the cover that is made by steps.
-fn by_steps(alloc: Global, top: u8, leaves: &[u64], rows: &[u64]) -> Result<bool, Fail>
-    requires { top ≤ 11 }
-{
-    let cover = cover_by_steps(alloc, top, leaves)?;
-    Ok(has_rows(&cover, rows))
-}
-
-// Whether the cover of leaves 0 to 3 of order 4 has these rows without one leaf.
-fn four_without(alloc: Global, leaf: u64, rows: &[u64]) -> Result<bool, Fail> {
-    let four = cover_of(alloc, 4, &[0, 1, 2, 3])?;
-    let three = without(alloc, &four, 4, leaf)?;
-    Ok(has_rows(&three, rows))
+// Whether the cover of a row has its rows, made at once and by steps.
+fn is_cover(alloc: Global, (top, leaves, rows): &CoverRow) -> Result<bool, Fail> {
+    if *top > 11 {
+        return Err("no such order".into());
+    }
+    let at_once = is_made_of(cover_of(alloc, *top, leaves), rows)?;
+    let by_steps = is_made_of(cover_by_steps(alloc, *top, leaves), rows)?;
+    Ok(at_once && by_steps)
 }
 
 #[test]
 fn covers_have_rows(rt: HostRuntime) -> Result<(), Fail> {
-    let alloc = rt.alloc();
-    for (top, leaves, rows) in &COVERS {
-        assert!(rt; *top <= 11);
-        assert!(rt; at_once(alloc, *top, leaves, rows)?, "of {leaves:?}");
-        assert!(rt;
-            by_steps(alloc, *top, leaves, rows)?,
-            "by steps of {leaves:?}"
-        );
+    for row in &COVERS {
+        assert!(rt; is_cover(rt.alloc(), row)?, "{row:?}");
     }
-    assert!(rt; four_without(alloc, 3, &[1024, 1025, 1026])?);
     Ok(())
 }
 
@@ -222,7 +214,7 @@ fn is_plain(alloc: Global, cover: &Cover, top: u8, leaves: &[u64]) -> Result<boo
 }
 
 // The cover after a change of one leaf, which is taken away where it is there.
-fn changed(
+fn turned(
     alloc: Global,
     cover: &Cover,
     top: u8,
@@ -235,34 +227,31 @@ fn changed(
 {
     if leaves.contains(&leaf) {
         leaves.retain(|other| *other != leaf);
-        without(alloc, cover, top, leaf)
+        changed(alloc, cover, top, false, leaf)
     } else {
         leaves.push(leaf)?;
-        with(alloc, cover, top, leaf)
+        changed(alloc, cover, top, true, leaf)
     }
 }
 
-// A cover that is changed leaf by leaf is that of the plain program each time.
-fn check_changes(
-    rt: &impl Abort,
-    alloc: Global,
-    top: u8,
-    leaves: &mut Vec<u64>,
-    changes: &[u64],
-) -> Result<(), Fail>
+// Whether a cover that is changed leaf by leaf is that of the plain program each time.
+fn stays_plain(alloc: Global, top: u8, leaves: &mut Vec<u64>, changes: &[u64]) -> Result<bool, Fail>
     requires { top ≤ 11 }
 {
     let mut cover = cover_of(alloc, top, leaves)?;
-    assert!(rt; is_plain(alloc, &cover, top, leaves)?, "of {leaves:?}");
     for leaf in changes {
-        cover = changed(alloc, &cover, top, leaves, *leaf)?;
-        assert!(rt; is_plain(alloc, &cover, top, leaves)?, "after {leaf}");
+        if !is_plain(alloc, &cover, top, leaves)? {
+            return Ok(false);
+        }
+        cover = turned(alloc, &cover, top, leaves, *leaf)?;
     }
-    Ok(())
+    Ok(is_plain(alloc, &cover, top, leaves)?)
 }
 
 // An order, one leaf of how many is there, one of how many is changed, and a seed.
-static DRAWS: [(u8, u32, u32, u32); 6] = [
+type DrawRow = (u8, u32, u32, u32);
+
+static DRAWS: [DrawRow; 6] = [
     (0, 2, 2, 1),
     (1, 1, 4, 2),
     (1, 2, 4, 3),
@@ -271,27 +260,20 @@ static DRAWS: [(u8, u32, u32, u32); 6] = [
     (3, 1, 256, 6),
 ];
 
-// The covers of drawn leaves, and of drawn changes to them.
-fn check_drawn(
-    rt: &impl Abort,
-    alloc: Global,
-    top: u8,
-    one_of: u32,
-    changed: u32,
-    seed: u32,
-) -> Result<(), Fail>
-    requires { top ≤ 11 }
-{
-    let mut leaves = some_leaves(alloc, top, one_of, seed)?;
-    let changes = some_leaves(alloc, top, changed, seed.saturating_add(100))?;
-    check_changes(rt, alloc, top, &mut leaves, &changes)
+// Whether the covers of drawn leaves, and of drawn changes to them, are those of the plain program.
+fn are_plain(alloc: Global, (top, one_of, of_changes, seed): &DrawRow) -> Result<bool, Fail> {
+    if *top > 11 {
+        return Err("no such order".into());
+    }
+    let changes = some_leaves(alloc, *top, *of_changes, seed.saturating_add(100))?;
+    let mut leaves = some_leaves(alloc, *top, *one_of, *seed)?;
+    stays_plain(alloc, *top, &mut leaves, &changes)
 }
 
 #[test]
 fn covers_are_those_of_the_plain_program(rt: HostRuntime) -> Result<(), Fail> {
-    for (top, one_of, changed, seed) in &DRAWS {
-        assert!(rt; *top <= 11);
-        check_drawn(&rt, rt.alloc(), *top, *one_of, *changed, *seed)?;
+    for row in &DRAWS {
+        assert!(rt; are_plain(rt.alloc(), row)?, "{row:?}");
     }
     Ok(())
 }
@@ -321,12 +303,13 @@ NAXIS   =                    0
 EXTEND  =                    T
 END";
 
+// The cards before and after the one that says how many rows there are.
 const TABLE: &str = "XTENSION= 'BINTABLE'
 BITPIX  =                    8
 NAXIS   =                    2
-NAXIS1  =                    8
-NAXIS2  =                    COUNT
-PCOUNT  =                    0
+NAXIS1  =                    8";
+
+const COLUMN: &str = "PCOUNT  =                    0
 GCOUNT  =                    1
 TFIELDS =                    1
 TTYPE1  = 'UNIQ    '
@@ -337,18 +320,12 @@ COORDSYS= 'C       '
 MOCORDER=                    4
 END";
 
-// Adds a card of the table, with how many rows it has.
-fn push_table_card(
-    alloc: Global,
-    text: &mut Vec<u8>,
-    line: &str,
-    count: usize,
-) -> Result<(), AllocError> {
-    if line.starts_with("NAXIS2") {
-        let counted = format!(in alloc; "NAXIS2  = {count:>20}")?;
-        return push_card(text, &counted);
+// Adds a header: these cards, one a line, and spaces.
+fn push_header(text: &mut Vec<u8>, cards: &str) -> Result<(), AllocError> {
+    for line in cards.lines() {
+        push_card(text, line)?;
     }
-    push_card(text, line)
+    fill_block(text, b' ')
 }
 
 // Adds the rows, as the data of the table.
@@ -361,138 +338,119 @@ fn push_rows(text: &mut Vec<u8>, rows: &[u64]) -> Result<(), AllocError> {
 
 // The coverage file of order 4 with these rows.
 fn file(alloc: Global, rows: &[u64]) -> Result<Vec<u8>, AllocError> {
+    let count = rows.len();
+    let table = format!(in alloc; "{TABLE}\nNAXIS2  = {count:>20}\n{COLUMN}")?;
     let mut text = Vec::new(alloc);
-    for line in PRIMARY.lines() {
-        push_card(&mut text, line)?;
-    }
-    fill_block(&mut text, b' ')?;
-    for line in TABLE.lines() {
-        push_table_card(alloc, &mut text, line, rows.len())?;
-    }
-    fill_block(&mut text, b' ')?;
+    push_header(&mut text, PRIMARY)?;
+    push_header(&mut text, &table)?;
     push_rows(&mut text, rows)?;
     Ok(text)
 }
 
 // Leaves, the rows of their cover, and how long its file is.
-static FILES: [(&[u64], &[u64], usize); 3] = [
+type FileRow = (&'static [u64], &'static [u64], usize);
+
+static FILES: [FileRow; 3] = [
     (&[], &[], 5_760),
     (&[0, 1, 2, 3], &[256], 8_640),
     (&[0, 1, 2, 3071], &[1024, 1025, 1026, 4095], 8_640),
 ];
 
-// The cover has these leaves, and this file.
-fn check_cover(
-    rt: &impl Abort,
-    alloc: Global,
-    cover: &Cover,
-    leaves: &[u64],
-    wanted: &[u8],
-) -> Result<(), Fail>
+// Whether the cover has this file.
+fn has_file(alloc: Global, cover: &Cover, file: &[u8]) -> Result<bool, AllocError>
     requires { cover.now.top ≡ 4 }
 {
     let written = cover.encode(alloc, 4)?;
-    assert!(rt; written.as_slice() == wanted, "of {leaves:?}");
-    assert!(rt; cover.leaves(4) == leaves.len() as u64, "of {leaves:?}");
-    assert!(rt; cover.leaves(4) <= 65_000);
-    let list = cover.leaf_list(alloc, 4)?;
-    assert!(rt; list.as_slice() == leaves, "of {leaves:?}");
-    Ok(())
+    Ok(written.as_slice() == file)
 }
 
-// The file of the cover of these leaves is this one, which is read as the cover of these rows.
-fn check_file(
-    rt: &impl Abort,
-    alloc: Global,
-    leaves: &[u64],
-    rows: &[u64],
-    wanted: &[u8],
-) -> Result<(), Fail> {
+// Whether the cover has these leaves.
+fn has_leaves(alloc: Global, cover: &Cover, leaves: &[u64]) -> Result<bool, AllocError>
+    requires { cover.now.top ≡ 4 }
+{
+    if cover.leaves(4) != leaves.len() as u64 || cover.leaves(4) > 65_000 {
+        return Ok(false);
+    }
+    let list = cover.leaf_list(alloc, 4)?;
+    Ok(list.as_slice() == leaves)
+}
+
+// Whether the cover of these leaves has them, and this file.
+fn is_written(alloc: Global, leaves: &[u64], file: &[u8]) -> Result<bool, Fail> {
     let cover = cover_of(alloc, 4, leaves)?;
-    check_cover(rt, alloc, &cover, leaves, wanted)?;
-    let read = Cover::decode(alloc, 4, wanted)?;
-    assert!(rt; has_rows(&read, rows), "of {leaves:?}");
-    Ok(())
+    Ok(has_leaves(alloc, &cover, leaves)? && has_file(alloc, &cover, file)?)
+}
+
+// Whether the file is read as the cover of these rows.
+fn is_read(alloc: Global, file: &[u8], rows: &[u64]) -> Result<bool, Fail> {
+    let cover = Cover::decode(alloc, 4, file)?;
+    Ok(has_rows(&cover, rows))
+}
+
+// Whether the file of a row is so long, is that of the cover of its leaves, and is read as the cover of its rows.
+fn is_file(alloc: Global, (leaves, rows, len): &FileRow) -> Result<bool, Fail> {
+    let file = file(alloc, rows)?;
+    if file.len() != *len {
+        return Ok(false);
+    }
+    Ok(is_written(alloc, leaves, &file)? && is_read(alloc, &file, rows)?)
 }
 
 #[test]
 fn files_are_written_and_read(rt: HostRuntime) -> Result<(), Fail> {
-    for (leaves, rows, len) in &FILES {
-        let wanted = file(rt.alloc(), rows)?;
-        assert!(rt; wanted.len() == *len, "of {leaves:?}");
-        check_file(&rt, rt.alloc(), leaves, rows, &wanted)?;
+    for row in &FILES {
+        assert!(rt; is_file(rt.alloc(), row)?, "{row:?}");
     }
     Ok(())
 }
 
+// What a file is, its rows, how many bytes of it there are, a place and the byte that stands there in its place.
+type OtherRow = (&'static str, &'static [u64], usize, usize, u8);
+
+static OTHERS: [OtherRow; 15] = [
+    ("out of order", &[1025, 1024], 8_640, 0, b'S'),
+    ("one row twice", &[1024, 1024], 8_640, 0, b'S'),
+    ("four siblings", &[1024, 1025, 1026, 1027], 8_640, 0, b'S'),
+    ("one under another", &[256, 1024], 8_640, 0, b'S'),
+    ("of a further order", &[4096], 8_640, 0, b'S'),
+    ("of no cell", &[3], 8_640, 0, b'S'),
+    ("another keyword", &[256], 8_640, 0, b'T'),
+    ("not big-endian", &[256], 8_640, 5_760, 1),
+    ("another count of rows", &[256], 8_640, 3_229, b'2'),
+    ("galactic coordinates", &[256], 8_640, 3_851, b'G'),
+    ("of another order", &[256], 8_640, 3_949, b'3'),
+    ("padded otherwise", &[256], 8_640, 8_639, 1),
+    ("one byte more", &[256], 8_641, 8_640, 0),
+    ("one byte less", &[], 5_759, 0, b'S'),
+    ("empty", &[], 0, 0, 0),
+];
+
+// The file of a row, changed as it says.
+fn other_file(alloc: Global, (_, rows, len, at, byte): &OtherRow) -> Result<Vec<u8>, AllocError> {
+    let mut text = file(alloc, rows)?;
+    text.resize(*len, 0)?;
+    if *at < text.len() {
+        text[*at] = *byte;
+    }
+    Ok(text)
+}
+
 // Whether a file is refused as one of order 4.
-fn is_refused(alloc: Global, bytes: &[u8]) -> Result<bool, Fail> {
-    match Cover::decode(alloc, 4, bytes) {
+fn is_refused(alloc: Global, row: &OtherRow) -> Result<bool, Fail> {
+    let text = other_file(alloc, row)?;
+    match Cover::decode(alloc, 4, &text) {
         Ok(_cover) => Ok(false),
         Err(CoverRefusal::NotCover) => Ok(true),
         Err(refusal) => Err(refusal)?,
     }
 }
 
-// Whether the file of these rows is refused.
-fn rows_are_refused(alloc: Global, rows: &[u64]) -> Result<bool, Fail> {
-    let text = file(alloc, rows)?;
-    is_refused(alloc, &text)
-}
-
-// Whether the file of one row is refused with another byte at a place.
-fn byte_is_refused(alloc: Global, at: usize, byte: u8) -> Result<bool, Fail> {
-    let mut text = file(alloc, &[256])?;
-    if at >= text.len() {
-        return Ok(false);
-    }
-    text[at] = byte;
-    is_refused(alloc, &text)
-}
-
-// Whether the file of one row is refused with one byte more.
-fn byte_more_is_refused(alloc: Global) -> Result<bool, Fail> {
-    let mut text = file(alloc, &[256])?;
-    text.push(0)?;
-    is_refused(alloc, &text)
-}
-
-// Whether the first bytes of the file of no row are refused.
-fn start_is_refused(alloc: Global, len: usize) -> Result<bool, Fail> {
-    let text = file(alloc, &[])?;
-    is_refused(alloc, text.get(..len).unwrap_or(&text))
-}
-
-static OTHER_ROWS: [(&str, &[u64]); 6] = [
-    ("out of order", &[1025, 1024]),
-    ("one row twice", &[1024, 1024]),
-    ("four siblings", &[1024, 1025, 1026, 1027]),
-    ("one under another", &[256, 1024]),
-    ("of a further order", &[4096]),
-    ("of no cell", &[3]),
-];
-
-static OTHER_BYTES: [(&str, usize, u8); 6] = [
-    ("another keyword", 0, b'T'),
-    ("not big-endian", 5_760, 1),
-    ("another count of rows", 3_229, b'2'),
-    ("galactic coordinates", 3_851, b'G'),
-    ("of another order", 3_949, b'3'),
-    ("padded otherwise", 8_639, 1),
-];
-
 #[test]
 fn other_files_are_refused(rt: HostRuntime) -> Result<(), Fail> {
-    let alloc = rt.alloc();
-    for (what, rows) in &OTHER_ROWS {
-        assert!(rt; rows_are_refused(alloc, rows)?, "{what}");
+    for row in &OTHERS {
+        assert!(rt; is_refused(rt.alloc(), row)?, "{}", row.0);
     }
-    for (what, at, byte) in &OTHER_BYTES {
-        assert!(rt; byte_is_refused(alloc, *at, *byte)?, "{what}");
-    }
-    assert!(rt; !rows_are_refused(alloc, &[256])?);
-    assert!(rt; byte_more_is_refused(alloc)?, "one byte more");
-    assert!(rt; start_is_refused(alloc, 5_759)?, "one byte less");
-    assert!(rt; is_refused(alloc, &[])?, "empty");
+    let unchanged: OtherRow = ("unchanged", &[256], 8_640, 0, b'S');
+    assert!(rt; !is_refused(rt.alloc(), &unchanged)?);
     Ok(())
 }

@@ -157,33 +157,33 @@ static EDITS: [EditRow; 11] = [
     (b'A', 0, 0, 2),
 ];
 
-// The journal after the edit of a row, the same where it is refused.
-fn edited(
-    rt: &impl Abort,
-    journal: Journal,
+// Takes the edit of a row in, unless it is refused, and answers whether its fault and the leaves are the row's.
+fn takes(
+    journal: &mut Journal,
     tile: &Arc<Tile>,
-    row: &EditRow,
-) -> Result<Journal, AllocError> {
-    let (letter, leaf, fault, leaves) = row;
+    (letter, leaf, fault, leaves): &EditRow,
+) -> Result<bool, AllocError> {
     let edit = edit(*letter, *leaf, tile)?;
-    assert!(rt; fault_of(&journal, &edit) == *fault, "{letter} {leaf}");
-    let next = match with(&journal, edit) {
-        Some(next) => next,
-        None => journal,
-    };
-    assert!(rt; next.leaves().len() == *leaves, "{letter} {leaf}");
-    Ok(next)
+    let found = fault_of(journal, &edit);
+    if let Some(next) = with(journal, edit) {
+        *journal = next;
+    }
+    Ok(found == *fault && journal.leaves().len() == *leaves)
+}
+
+fn check_edits(rt: &impl Abort, journal: &mut Journal, tile: &Arc<Tile>) -> Result<(), Fail> {
+    for row in &EDITS {
+        assert!(rt; takes(journal, tile, row)?, "{row:?}");
+    }
+    assert!(rt; journal.len() == 6 && journal.charge() == 5 * 1024);
+    Ok(())
 }
 
 #[test]
 fn edits_are_judged_one_by_one(rt: HostRuntime) -> Result<(), Fail> {
     let tile = small_tile(rt.alloc()).ok_or("no tile")?;
     let mut journal = empty(rt.alloc()).ok_or("no journal")?;
-    for row in &EDITS {
-        journal = edited(&rt, journal, &tile, row)?;
-    }
-    assert!(rt; journal.len() == 6 && journal.charge() == 5 * 1024);
-    Ok(())
+    check_edits(&rt, &mut journal, &tile)
 }
 
 // A batch, the place and the number of its first fault, and how many edits there are then.
@@ -200,43 +200,49 @@ static BATCHES: [BatchRow; 8] = [
     (b"P9D9", 0, 0, 10),
 ];
 
-// The journal after the batch of a row, the same where it is refused.
-fn edited_by_batch(
-    rt: &impl Abort,
+// Takes the batch of a row in, unless it is refused, and answers whether its fault and the edits are the row's.
+fn takes_all(
     alloc: Global,
-    journal: Journal,
+    journal: &mut Journal,
     tile: &Arc<Tile>,
-    row: &BatchRow,
-) -> Result<Journal, AllocError> {
-    let (text, at, fault, count) = row;
+    (text, at, fault, count): &BatchRow,
+) -> Result<bool, AllocError> {
     let edits = batch(alloc, text, tile)?;
-    let first = first_fault_of(&journal, &edits);
-    assert!(rt; first == (*at, *fault), "{text:?}");
-    let next = match with_all(&journal, edits) {
-        Some(next) => next,
-        None => journal,
-    };
-    assert!(rt; next.len() == *count, "{text:?}");
-    Ok(next)
+    let found = first_fault_of(journal, &edits);
+    if let Some(next) = with_all(journal, edits) {
+        *journal = next;
+    }
+    Ok(found == (*at, *fault) && journal.len() == *count)
 }
 
-// The journal has ends before its first edit and after each batch that was accepted.
-fn assert_ends(rt: &impl Abort, journal: &Journal) {
+// Whether the journal has ends before its first edit and after each batch that was accepted, and no others.
+fn has_ends(journal: &Journal) -> bool {
     for k in 0..20 {
-        let is_end = matches!(k, 0 | 1 | 5 | 8 | 10);
-        assert!(rt; journal.is_end(k) == is_end, "{k}");
+        if journal.is_end(k) != matches!(k, 0 | 1 | 5 | 8 | 10) {
+            return false;
+        }
     }
+    true
+}
+
+fn check_batches(
+    rt: &impl Abort,
+    alloc: Global,
+    journal: &mut Journal,
+    tile: &Arc<Tile>,
+) -> Result<(), Fail> {
+    for row in &BATCHES {
+        assert!(rt; takes_all(alloc, journal, tile, row)?, "{row:?}");
+    }
+    assert!(rt; has_ends(journal));
+    Ok(())
 }
 
 #[test]
 fn batches_are_judged_as_they_go(rt: HostRuntime) -> Result<(), Fail> {
     let tile = small_tile(rt.alloc()).ok_or("no tile")?;
     let mut journal = empty(rt.alloc()).ok_or("no journal")?;
-    for row in &BATCHES {
-        journal = edited_by_batch(&rt, rt.alloc(), journal, &tile, row)?;
-    }
-    assert_ends(&rt, &journal);
-    Ok(())
+    check_batches(&rt, rt.alloc(), &mut journal, &tile)
 }
 
 // The journal of one batch.
@@ -263,19 +269,18 @@ fn has_two_edits(journal: &Journal) -> bool {
         && journal.opening().len() == 0
 }
 
-// A journal that is shared has the edits, as the other.
-fn check_shared(rt: &impl Abort, journal: &Journal) -> Result<(), Fail> {
+// Whether a journal and its share have the edits.
+fn both_have_two_edits(journal: &Journal) -> Result<bool, AllocError> {
     let other = journal.share()?;
     crosses_threads(&other);
-    assert!(rt; has_two_edits(journal), "the first");
-    assert!(rt; has_two_edits(&other), "the shared one");
-    Ok(())
+    Ok(has_two_edits(journal) && has_two_edits(&other))
 }
 
 #[test]
 fn a_shared_journal_answers_the_same(rt: HostRuntime) -> Result<(), Fail> {
     let journal = of_batch(rt.alloc(), b"A4D4").ok_or("no journal")?;
-    check_shared(&rt, &journal)
+    assert!(rt; both_have_two_edits(&journal)?);
+    Ok(())
 }
 
 // Adds the journal with one edit more than the last.
@@ -291,12 +296,24 @@ fn fault_at_0(journal: &Journal, letter: u8, tile: &Arc<Tile>) -> Result<u8, All
     Ok(fault_of(journal, &edit))
 }
 
-// The journal has the greatest number of edits.
-fn check_longest(rt: &impl Abort, journal: &Journal, tile: &Arc<Tile>) -> Result<(), Fail> {
-    assert!(rt; journal.len() == 65_536 && journal.charge() == 65_536 * 1024);
-    assert!(rt; fault_at_0(journal, b'P', tile)? == 3);
-    assert!(rt; fault_at_0(journal, b'A', tile)? == 1);
-    assert!(rt; journal.is_end(65_535) && !journal.is_end(65_537));
+// Whether the journal has the greatest number of edits.
+fn is_longest(journal: &Journal, tile: &Arc<Tile>) -> Result<bool, AllocError> {
+    let is_long = journal.len() == 65_536 && journal.charge() == 65_536 * 1024;
+    let has_ends = journal.is_end(65_535) && !journal.is_end(65_537);
+    let is_refused = fault_at_0(journal, b'P', tile)? == 3 && fault_at_0(journal, b'A', tile)? == 1;
+    Ok(is_long && has_ends && is_refused)
+}
+
+// Adds a journal with each number of edits up to the greatest.
+fn check_lengths(
+    rt: &impl Abort,
+    journals: &mut Vec<Journal>,
+    tile: &Arc<Tile>,
+) -> Result<(), Fail> {
+    for _ in 0..65_536 {
+        add_next(journals, tile).ok_or("refused")?;
+    }
+    assert!(rt; is_longest(journals.last().ok_or("no journal")?, tile)?);
     Ok(())
 }
 
@@ -306,10 +323,7 @@ fn a_long_journal_shares_its_edits(rt: HostRuntime) -> Result<(), Fail> {
     let tile = small_tile(rt.alloc()).ok_or("no tile")?;
     let mut journals = Vec::new(rt.alloc());
     journals.push(empty(rt.alloc()).ok_or("no journal")?)?;
-    for _ in 0..65_536 {
-        add_next(&mut journals, &tile).ok_or("refused")?;
-    }
-    check_longest(&rt, journals.last().ok_or("no journal")?, &tile)
+    check_lengths(&rt, &mut journals, &tile)
 }
 
 // Leaves 0 to `end - 1` that are one shared tile.
@@ -341,18 +355,24 @@ fn opened(alloc: Global, count: u64) -> Option<Result<Journal, StartRefusal>> {
     Some(Journal::start(alloc, shape, leaves))
 }
 
-// The journal of 256 such leaves has no charge left.
-fn check_full(rt: &impl Abort, alloc: Global, journal: &Journal) -> Result<(), Fail> {
-    assert!(rt; journal.charge() == 536_870_912);
+// Whether the journal of so many such leaves is refused because they are too many.
+fn are_too_many(alloc: Global, count: u64) -> bool {
+    matches!(
+        opened(alloc, count),
+        Some(Err(StartRefusal::TooMany { leaves })) if leaves == count
+    )
+}
+
+// Whether the journal of 256 such leaves has no charge left.
+fn is_full(alloc: Global, journal: &Journal) -> Result<bool, AllocError> {
     let tile = tile(alloc, &journal.shape(), 0)?;
-    assert!(rt; fault_at_0(journal, b'P', &tile)? == 4);
-    Ok(())
+    Ok(journal.charge() == 536_870_912 && fault_at_0(journal, b'P', &tile)? == 4)
 }
 
 #[test]
 fn the_charge_is_limited(rt: HostRuntime) -> Result<(), Fail> {
-    let refused = opened(rt.alloc(), 257).ok_or("no leaves")?.err();
-    assert!(rt; refused == Some(StartRefusal::TooMany { leaves: 257 }));
+    assert!(rt; are_too_many(rt.alloc(), 257));
     let journal = opened(rt.alloc(), 256).ok_or("no leaves")??;
-    check_full(&rt, rt.alloc(), &journal)
+    assert!(rt; is_full(rt.alloc(), &journal)?);
+    Ok(())
 }

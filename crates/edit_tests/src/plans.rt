@@ -6,7 +6,7 @@ ghost use Rattle.healpix_nested.specs.Cells.{cell_count};
 use dirty_plan::{Worklist, plan};
 use healpix_nested::cells;
 use parent_rule::{Permit, Steps};
-use std::process::Abort;
+use std::alloc::Global;
 use std::test::Fail;
 
 // An order and its cells.
@@ -67,7 +67,9 @@ fn is_taken(list: &mut Worklist) -> bool {
 }
 
 // The orders of the leaves and of the lowest tiles, the touched leaves, the cells of each order, and how many these are.
-static PLANS: [(u8, u8, &[u64], &[Order<'static>], u64); 6] = [
+type PlanRow = (u8, u8, &'static [u64], &'static [Order<'static>], u64);
+
+static PLANS: [PlanRow; 6] = [
     (4, 3, &[0, 1, 4, 3071], &[(3, &[0, 1, 767])], 3),
     (5, 3, &[0, 16], &[(4, &[0, 4]), (3, &[0, 1])], 4),
     (5, 3, &[], &[(4, &[]), (3, &[])], 0),
@@ -92,28 +94,45 @@ fn comes(list: &mut Worklist, wanted: &[Order<'_>]) -> bool {
     is_taken(list)
 }
 
+// The plan of these leaves.
+fn planned(
+    alloc: Global,
+    top: u8,
+    low: u8,
+    touched: &[u64],
+    steps: &mut Steps,
+) -> Result<Worklist, Fail> {
+    if low > 3 || top < 3 || top > 11 || !ascend(touched) || !are_cells(top, touched) {
+        return Err("no leaves of a survey".into());
+    }
+    Ok(plan(alloc, top, low, touched, steps)?)
+}
+
+// Whether the plan of a row has its orders.
+fn is_planned(alloc: Global, row: &PlanRow) -> Result<bool, Fail> {
+    let (top, low, touched, wanted, work) = *row;
+    let mut steps = Steps::new();
+    let mut list = planned(alloc, top, low, touched, &mut steps)?;
+    Ok(steps.count() == work && comes(&mut list, wanted))
+}
+
 #[test]
 fn plans(rt: HostRuntime) -> Result<(), Fail> {
-    for (top, low, touched, wanted, work) in &PLANS {
-        assert!(rt; *low <= 3 && 3 <= *top && *top <= 11);
-        assert!(rt; ascend(touched) && are_cells(*top, touched));
-        let mut steps = Steps::new();
-        let mut list = plan(rt.alloc(), *top, *low, touched, &mut steps)?;
-        assert!(rt;
-            steps.count() == *work && comes(&mut list, wanted),
-            "{touched:?}"
-        );
+    for row in &PLANS {
+        assert!(rt; is_planned(rt.alloc(), row)?, "{row:?}");
     }
     Ok(())
 }
 
+// Whether the first order comes, and all others are let go.
+fn is_let_go(alloc: Global) -> Result<bool, Fail> {
+    let mut steps = Steps::new();
+    let mut list = planned(alloc, 11, 0, &[7], &mut steps)?;
+    Ok(steps.count() == 11 && next_is(&mut list, (10, &[1])))
+}
+
 #[test]
 fn a_list_may_be_let_go(rt: HostRuntime) -> Result<(), Fail> {
-    let touched: &[u64] = &[7];
-    assert!(rt; ascend(touched) && are_cells(11, touched));
-    let mut steps = Steps::new();
-    let mut list = plan(rt.alloc(), 11, 0, touched, &mut steps)?;
-    assert!(rt; next_is(&mut list, (10, &[1])));
-    assert!(rt; steps.count() == 11);
+    assert!(rt; is_let_go(rt.alloc())?);
     Ok(())
 }

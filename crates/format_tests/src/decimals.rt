@@ -44,7 +44,7 @@ fn field(row: &str, at: usize) -> &str {
 }
 
 // Whether the number of a row has its parts, is written so, and is read again.
-fn is_as_the_row_says(row: &str, number: &Decimal) -> bool {
+fn has_parts(row: &str, number: &Decimal) -> bool {
     let written = field(row, 3).as_bytes();
     field(row, 1).parse::<i64>() == Ok(number.mantissa())
         && field(row, 2).parse::<i32>() == Ok(number.exp())
@@ -52,15 +52,19 @@ fn is_as_the_row_says(row: &str, number: &Decimal) -> bool {
         && Decimal::read(written) == Ok(*number)
 }
 
-#[test]
-fn reads_and_writes_the_normal_form(rt: HostRuntime) -> Result<(), Fail> {
-    for row in NUMBERS.lines() {
-        let number = Decimal::read(field(row, 0).as_bytes())
-            .ok()
-            .ok_or("no number")?;
-        assert!(rt; is_as_the_row_says(row, &number), "{row}");
+// Whether the text of a row is read as its number.
+fn is_as_the_row_says(row: &str) -> bool {
+    match Decimal::read(field(row, 0).as_bytes()) {
+        Ok(number) => has_parts(row, &number),
+        Err(_) => false,
     }
-    Ok(())
+}
+
+#[test]
+fn reads_and_writes_the_normal_form(rt: HostRuntime) {
+    for row in NUMBERS.lines() {
+        assert!(rt; is_as_the_row_says(row), "{row}");
+    }
 }
 
 // Texts that are no real numbers.
@@ -165,11 +169,19 @@ fn parts_of(text: &[u8]) -> Result<(i64, i32), BadReal> {
     Ok((number.mantissa(), number.exp()))
 }
 
+// Whether the text of a row has its outcome.
+fn has_outcome(
+    alloc: Global,
+    (before, zeros, after, outcome): &ZerosRow,
+) -> Result<bool, AllocError> {
+    let text = with_zeros(alloc, before, *zeros, after)?;
+    Ok(parts_of(&text) == *outcome)
+}
+
 #[test]
 fn reads_texts_of_any_length(rt: HostRuntime) -> Result<(), Fail> {
-    for (before, zeros, after, outcome) in &ZEROS {
-        let text = with_zeros(rt.alloc(), before, *zeros, after)?;
-        assert!(rt; parts_of(&text) == *outcome, "{before}, zeros and {after}");
+    for row in &ZEROS {
+        assert!(rt; has_outcome(rt.alloc(), row)?, "{row:?}");
     }
     Ok(())
 }

@@ -1,9 +1,10 @@
 //! Headers as outside tools write them, and worked examples, as tables.
 
 use decimal_scale::Decimal;
-use fits_header::{BLOCK_LEN, CARD_LEN, Card, Header, HeaderFault, whole_blocks, write_cards};
+use fits_header::{Card, Header, HeaderFault, whole_blocks, write_cards};
 use small_files::{fill_block, push_card};
 use std::alloc::{AllocError, Global};
+use std::process::Abort;
 use std::test::Fail;
 
 // So many cards COMMENT, and these cards, one a line.
@@ -66,10 +67,39 @@ BZERO   =          -0.0250D-2 // zero
 END     = and what follows
 BITPIX  = ?";
 
+// A header of no named card.
+fn nothing() -> Header {
+    Header {
+        first_simple: false,
+        simple: None,
+        bitpix: None,
+        naxis: None,
+        naxis1: None,
+        naxis2: None,
+        bscale: None,
+        bzero: None,
+        blank: None,
+    }
+}
+
+// Whether these cards behind so many cards COMMENT are read as this header, which is so long.
+fn is_read(
+    alloc: Global,
+    comments: usize,
+    lines: &str,
+    wanted: &Header,
+    length: usize,
+) -> Result<bool, AllocError> {
+    let text = header(alloc, comments, lines)?;
+    match Header::read(&text) {
+        Ok((read, len)) => Ok(read == *wanted && len == length),
+        Err(_) => Ok(false),
+    }
+}
+
 #[test]
 fn reads_what_tools_write(rt: HostRuntime) -> Result<(), Fail> {
-    let text = header(rt.alloc(), 0, OUTSIDE)?;
-    let read = Header {
+    let outside = Header {
         first_simple: true,
         simple: Some(true),
         bitpix: Some(16),
@@ -80,48 +110,36 @@ fn reads_what_tools_write(rt: HostRuntime) -> Result<(), Fail> {
         bzero: Decimal::read(b"-25E-5").ok(),
         blank: None,
     };
-    assert!(rt; Header::read(text.as_slice()) == Ok((read, 5_760)));
+    assert!(rt; is_read(rt.alloc(), 0, OUTSIDE, &outside, 5_760)?);
     Ok(())
 }
 
 #[test]
 fn a_header_may_have_no_values(rt: HostRuntime) -> Result<(), Fail> {
-    let nothing = Header {
-        first_simple: false,
-        simple: None,
-        bitpix: None,
-        naxis: None,
-        naxis1: None,
-        naxis2: None,
-        bscale: None,
-        bzero: None,
-        blank: None,
-    };
-    let text = header(rt.alloc(), 1, "END")?;
-    assert!(rt; Header::read(text.as_slice()) == Ok((nothing, 2_880)));
+    assert!(rt; is_read(rt.alloc(), 1, "END", &nothing(), 2_880)?);
+    let mut late = nothing();
+    late.simple = Some(false);
+    assert!(rt; is_read(rt.alloc(), 1, "SIMPLE  = F\nEND", &late, 2_880)?);
     Ok(())
 }
 
-#[test]
-fn the_first_card_may_be_another(rt: HostRuntime) -> Result<(), Fail> {
-    let text = header(rt.alloc(), 1, "SIMPLE  = F\nEND")?;
-    let (late, _) = Header::read(text.as_slice()).ok().ok_or("no header")?;
-    assert!(rt; !late.first_simple && late.simple == Some(false));
-    Ok(())
+// Lengths below that of a header.
+static SHORT: [usize; 3] = [0, 160, 2_879];
+
+fn check_short(rt: &impl Abort, text: &[u8]) {
+    for len in &SHORT {
+        let fault = fault_of(text, *len);
+        assert!(rt; fault == Some(HeaderFault::Short), "{len} bytes");
+    }
+    assert!(rt;
+        text.len() == 2_880 && fault_of(text, 2_880) == Some(HeaderFault::NotAscii { at: 0 })
+    );
 }
 
 #[test]
 fn a_short_input_has_no_header(rt: HostRuntime) -> Result<(), Fail> {
     let text = header(rt.alloc(), 0, "\u{7}\nEND\n")?;
-    for len in [0, 160, 2_879] {
-        assert!(rt;
-            fault_of(&text, len) == Some(HeaderFault::Short),
-            "{len} bytes"
-        );
-    }
-    assert!(rt;
-        text.len() == 2_880 && fault_of(&text, 2_880) == Some(HeaderFault::NotAscii { at: 0 })
-    );
+    check_short(&rt, &text);
     Ok(())
 }
 
@@ -188,90 +206,83 @@ static HEADERS: [(usize, &str, &str); 43] = [
     ),
 ];
 
-// How long the header of these cards is, or why there is none: its text.
-fn length_or_fault(alloc: Global, comments: usize, lines: &str) -> Result<String, Fail> {
-    let text = header(alloc, comments, lines)?;
-    match Header::read(&text) {
-        Ok((_, len)) => Ok(format!(in alloc; "{len}")?),
-        Err(fault) => Ok(format!(in alloc; "{fault}")?),
+// How long a header is, or why there is none: its text.
+fn length_or_fault(alloc: Global, text: &[u8]) -> Result<String, AllocError> {
+    match Header::read(text) {
+        Ok((_, len)) => format!(in alloc; "{len}"),
+        Err(fault) => format!(in alloc; "{fault}"),
     }
+}
+
+// Whether that is said of the header of these cards.
+fn is_said(alloc: Global, comments: usize, lines: &str, said: &str) -> Result<bool, AllocError> {
+    let text = header(alloc, comments, lines)?;
+    Ok(length_or_fault(alloc, &text)?.as_str() == said)
 }
 
 #[test]
 fn a_header_has_a_length_or_a_first_fault(rt: HostRuntime) -> Result<(), Fail> {
-    for (comments, lines, answer) in &HEADERS {
-        let found = length_or_fault(rt.alloc(), *comments, lines)?;
-        assert!(rt; found.as_str() == *answer, "{comments} cards and {lines}");
+    for (comments, lines, said) in &HEADERS {
+        assert!(rt;
+            is_said(rt.alloc(), *comments, lines, said)?,
+            "{comments} cards and {lines}"
+        );
     }
     Ok(())
 }
 
-// The header of one card.
-fn header_of(alloc: Global, line: &str) -> Result<Header, Fail> {
-    let mut text = Vec::new(alloc);
-    push_card(&mut text, line)?;
-    push_card(&mut text, "END")?;
-    fill_block(&mut text, b' ')?;
-    match Header::read(&text) {
-        Ok((header, _)) => Ok(header),
-        Err(_) => Err("no header".into()),
-    }
-}
-
-static WHOLE_VALUES: [(&str, i64); 8] = [
-    ("BITPIX  = 16/x", 16),
-    ("BITPIX  = 16 /x", 16),
+// A card, and its value as a whole or a real number, or as T or F.
+static VALUES: [(&str, &str); 15] = [
+    ("BITPIX  = 16/x", "16"),
+    ("BITPIX  = 16 /x", "16"),
     (
         "BITPIX  =                                                                     -8",
-        -8,
+        "-8",
     ),
-    ("BITPIX  = -0", 0),
-    ("BITPIX  = +7 ", 7),
-    ("BITPIX  = 9223372036854775807", i64::MAX),
-    ("BITPIX  = -9223372036854775808", i64::MIN),
+    ("BITPIX  = -0", "0"),
+    ("BITPIX  = +7 ", "7"),
+    ("BITPIX  = 9223372036854775807", "9223372036854775807"),
+    ("BITPIX  = -9223372036854775808", "-9223372036854775808"),
     (
         "BITPIX  = 0000000000000000000000000000000000000000000000000000000000000000000032",
-        32,
+        "32",
     ),
-];
-
-#[test]
-fn reads_whole_values(rt: HostRuntime) -> Result<(), Fail> {
-    for (line, value) in &WHOLE_VALUES {
-        let header = header_of(rt.alloc(), line)?;
-        assert!(rt; header.bitpix == Some(*value), "{line}");
-    }
-    Ok(())
-}
-
-static REAL_VALUES: [(&str, &str); 5] = [
     ("BZERO   = 3.2768E4", "32768"),
     ("BZERO   =             32768.0/", "32768"),
     ("BZERO   = -1d-3 / zero", "-0.001"),
     ("BZERO   = 1D+03", "1000"),
     ("BZERO   = .5", "0.5"),
+    ("SIMPLE  = T", "T"),
+    ("SIMPLE  =                    F / no", "F"),
 ];
 
-#[test]
-fn reads_real_values(rt: HostRuntime) -> Result<(), Fail> {
-    for (line, text) in &REAL_VALUES {
-        let header = header_of(rt.alloc(), line)?;
-        let number = Decimal::read(text.as_bytes()).ok();
-        assert!(rt; number.is_some() && header.bzero == number, "{line}");
+// Whether the header has the value of a card.
+fn has_value(header: &Header, card: &str, value: &str) -> bool {
+    if card.starts_with("BITPIX") {
+        return header.bitpix.is_some() && header.bitpix == value.parse::<i64>().ok();
     }
-    Ok(())
+    if card.starts_with("BZERO") {
+        return header.bzero.is_some() && header.bzero == Decimal::read(value.as_bytes()).ok();
+    }
+    header.simple == Some(value == "T")
 }
 
-static LOGICAL_VALUES: [(&str, bool); 2] = [
-    ("SIMPLE  = T", true),
-    ("SIMPLE  =                    F / no", false),
-];
+// Whether the header of one card has its value.
+fn is_value(alloc: Global, card: &str, value: &str) -> Result<bool, AllocError> {
+    let mut text = Vec::new(alloc);
+    push_card(&mut text, card)?;
+    push_card(&mut text, "END")?;
+    fill_block(&mut text, b' ')?;
+    match Header::read(&text) {
+        Ok((header, _)) => Ok(has_value(&header, card, value)),
+        Err(_) => Ok(false),
+    }
+}
 
 #[test]
-fn reads_logical_values(rt: HostRuntime) -> Result<(), Fail> {
-    for (line, value) in &LOGICAL_VALUES {
-        let header = header_of(rt.alloc(), line)?;
-        assert!(rt; header.simple == Some(*value), "{line}");
+fn reads_values(rt: HostRuntime) -> Result<(), Fail> {
+    for (card, value) in &VALUES {
+        assert!(rt; is_value(rt.alloc(), card, value)?, "{card}");
     }
     Ok(())
 }
@@ -285,23 +296,27 @@ fn is_written(alloc: Global, card: Card, line: &str) -> Result<bool, AllocError>
     Ok(len == 2_880 && out.as_slice() == expected.as_slice())
 }
 
-#[test]
-fn writes_cards(rt: HostRuntime) -> Result<(), Fail> {
-    let alloc = rt.alloc();
-    let card = Card::logical(b"SIMPLE", true);
-    assert!(rt; is_written(alloc, card, "SIMPLE  =                    T")?);
-    let card = Card::logical(b"A", false);
-    assert!(rt; is_written(alloc, card, "A       =                    F")?);
-    let card = Card::integer(b"NAXIS1", 512);
-    assert!(rt; is_written(alloc, card, "NAXIS1  =                  512")?);
-    let card = Card::integer(b"BLANK", i64::MIN);
-    assert!(rt; is_written(alloc, card, "BLANK   = -9223372036854775808")?);
-    let card = Card::text(b"XTENSION", b"BINTABLE");
-    assert!(rt; is_written(alloc, card, "XTENSION= 'BINTABLE'")?);
-    let card = Card::text(b"COORDSYS", b"C");
-    assert!(rt; is_written(alloc, card, "COORDSYS= 'C       '")?);
-    assert!(rt; is_written(alloc, Card::end(), "END")?);
-    Ok(())
+// What the cards of `cards` are written as.
+static CARDS: [&str; 7] = [
+    "SIMPLE  =                    T",
+    "A       =                    F",
+    "NAXIS1  =                  512",
+    "BLANK   = -9223372036854775808",
+    "XTENSION= 'BINTABLE'",
+    "COORDSYS= 'C       '",
+    "END",
+];
+
+fn cards() -> [Card; 7] {
+    [
+        Card::logical(b"SIMPLE", true),
+        Card::logical(b"A", false),
+        Card::integer(b"NAXIS1", 512),
+        Card::integer(b"BLANK", i64::MIN),
+        Card::text(b"XTENSION", b"BINTABLE"),
+        Card::text(b"COORDSYS", b"C"),
+        Card::end(),
+    ]
 }
 
 // A number, and its card BSCALE.
@@ -315,19 +330,21 @@ static SCALES: [(&str, &str); 4] = [
     ),
 ];
 
-// The card BSCALE of a number.
-fn scale(text: &str) -> Option<Card> {
-    match Decimal::read(text.as_bytes()) {
-        Ok(number) => Some(Card::real(b"BSCALE", &number)),
-        Err(_) => None,
+// Whether the card BSCALE of a number is this line.
+fn is_scale(alloc: Global, number: &str, line: &str) -> Result<bool, AllocError> {
+    match Decimal::read(number.as_bytes()) {
+        Ok(number) => is_written(alloc, Card::real(b"BSCALE", &number), line),
+        Err(_) => Ok(false),
     }
 }
 
 #[test]
-fn writes_real_cards(rt: HostRuntime) -> Result<(), Fail> {
-    for (text, line) in &SCALES {
-        let card = scale(text).ok_or("no number")?;
-        assert!(rt; is_written(rt.alloc(), card, line)?, "{line}");
+fn writes_cards(rt: HostRuntime) -> Result<(), Fail> {
+    for (card, line) in cards().iter().zip(&CARDS) {
+        assert!(rt; is_written(rt.alloc(), *card, line)?, "{line}");
+    }
+    for (number, line) in &SCALES {
+        assert!(rt; is_scale(rt.alloc(), number, line)?, "{line}");
     }
     Ok(())
 }

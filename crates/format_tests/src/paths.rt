@@ -38,22 +38,19 @@ fn is_catalogue_tile(cell: Cell, text: &[u8]) -> bool {
     &out[..len] == text && out[len..] == BLANK[len..] && read_tsv(text) == Some(cell)
 }
 
-#[test]
-fn files_have_spellings(rt: HostRuntime) -> Result<(), Fail> {
-    for (path, text) in [
-        (Path::Properties, "properties"),
-        (Path::Moc, "Moc.fits"),
-        (Path::Allsky, "Norder3/Allsky.fits"),
-    ] {
-        assert!(rt; is_path(path, text.as_bytes()), "{text}");
-        assert!(rt; is_shown(rt.alloc(), path, text)?, "{text}");
-    }
-    Ok(())
+// Whether the path is written and shown so, and is read again.
+fn is_spelled(alloc: Global, path: Path, text: &str) -> Result<bool, AllocError> {
+    let shown = path.to_string(alloc)?;
+    Ok(is_path(path, text.as_bytes()) && shown.as_str() == text)
 }
 
-// Whether the path is shown so.
-fn is_shown(alloc: Global, path: Path, text: &str) -> Result<bool, AllocError> {
-    Ok(path.to_string(alloc)?.as_str() == text)
+#[test]
+fn files_have_spellings(rt: HostRuntime) -> Result<(), Fail> {
+    let alloc = rt.alloc();
+    assert!(rt; is_spelled(alloc, Path::Properties, "properties")?);
+    assert!(rt; is_spelled(alloc, Path::Moc, "Moc.fits")?);
+    assert!(rt; is_spelled(alloc, Path::Allsky, "Norder3/Allsky.fits")?);
+    Ok(())
 }
 
 // The order and the number of a cell, and the path of its tiles without their suffix.
@@ -71,8 +68,7 @@ const TILES: &str = "0 0 Norder0/Dir0/Npix0
 #[test]
 fn tiles_have_spellings(rt: HostRuntime) -> Result<(), Fail> {
     for row in TILES.lines() {
-        let cell = cell_of(row).ok_or("no cell")?;
-        assert!(rt; is_tile(rt.alloc(), cell, field(row, 2))?, "{row}");
+        assert!(rt; is_tile(rt.alloc(), row)?, "{row}");
     }
     Ok(())
 }
@@ -96,18 +92,19 @@ fn joined(alloc: Global, text: &str, suffix: &str) -> Result<String, AllocError>
     Ok(all)
 }
 
-// Whether the tile and the catalogue tile of a cell have this path, but for their suffixes.
-fn is_tile(alloc: Global, cell: Cell, text: &str) -> Result<bool, AllocError> {
-    Ok(
-        is_image(alloc, cell, &joined(alloc, text, ".fits")?)?
-            && is_catalogue_tile(cell, joined(alloc, text, ".tsv")?.as_bytes()),
-    )
+// Whether the tile and the catalogue tile of a row's cell have its path, but for their suffixes.
+fn is_tile(alloc: Global, row: &str) -> Result<bool, AllocError> {
+    match cell_of(row) {
+        Some(cell) => are_tiles(alloc, cell, field(row, 2)),
+        None => Ok(false),
+    }
 }
 
-// Whether the tile of a cell is written and shown so, and is read again.
-fn is_image(alloc: Global, cell: Cell, text: &str) -> Result<bool, AllocError> {
-    let path = Path::Tile(cell);
-    Ok(is_path(path, text.as_bytes()) && is_shown(alloc, path, text)?)
+fn are_tiles(alloc: Global, cell: Cell, text: &str) -> Result<bool, AllocError> {
+    Ok(
+        is_catalogue_tile(cell, joined(alloc, text, ".tsv")?.as_bytes())
+            && is_spelled(alloc, Path::Tile(cell), &joined(alloc, text, ".fits")?)?,
+    )
 }
 
 // Neither a file nor a catalogue tile is spelled so.

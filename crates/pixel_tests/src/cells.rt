@@ -15,14 +15,16 @@ static PLACES: [(u32, u32, u64); 9] = [
     (0, 511, 87_381),
 ];
 
+// Whether the pixel at a column and a line has that number.
+fn is_pixel(col: u32, row: u32, z: u64) -> bool {
+    col < 512 && row < 512 && z < 262_144 && interleave(col, row) == z && split(z) == (col, row)
+}
+
 #[test]
-fn columns_and_lines_interleave(rt: HostRuntime) -> Result<(), Fail> {
+fn columns_and_lines_interleave(rt: HostRuntime) {
     for (col, row, z) in &PLACES {
-        assert!(rt; *col < 512 && *row < 512 && *z < 262_144);
-        assert!(rt; interleave(*col, *row) == *z, "{col} {row}");
-        assert!(rt; split(*z) == (*col, *row), "{z}");
+        assert!(rt; is_pixel(*col, *row, *z), "{z}");
     }
-    Ok(())
 }
 
 const LAST: u64 = 13_194_139_533_311;
@@ -37,69 +39,84 @@ static KNOWN: [(u8, u64, bool); 5] = [
 ];
 
 #[test]
-fn cells_have_numbers(rt: HostRuntime) -> Result<(), Fail> {
+fn cells_have_numbers(rt: HostRuntime) {
     assert!(rt; cells(0) == 12 && cells(MAX_ORDER) == LAST + 1);
     for (order, npix, known) in &KNOWN {
-        let found = Cell::new(*order, *npix).is_some();
-        assert!(rt; found == *known, "at {order}/{npix}");
+        assert!(rt; Cell::new(*order, *npix).is_some() == *known, "{npix}");
     }
-    Ok(())
+}
+
+// Whether 3/767 is the last child of 2/191, 11/50331647 lies under it, and 0/5 under none.
+fn are_kin() -> Option<bool> {
+    let root = Cell::new(0, 5)?;
+    let above = Cell::new(2, 191)?;
+    let cell = Cell::new(3, 767)?;
+    let deep = Cell::new(11, 50_331_647)?;
+    let is_child = cell.parent() == Some(above) && above.order() < 20 && above.child(3) == cell;
+    let lies_under = deep.order() == 11 && deep.ancestor(3).npix() == 767;
+    Some(is_child && lies_under && cell.order() == 3 && cell.npix() == 767 && root.parent() == None)
 }
 
 #[test]
-fn cells_lie_under_cells(rt: HostRuntime) -> Result<(), Fail> {
-    let root = Cell::new(0, 5).ok_or("no cell 0/5")?;
-    let above = Cell::new(2, 191).ok_or("no cell 2/191")?;
-    let cell = Cell::new(3, 767).ok_or("no cell 3/767")?;
-    let deep = Cell::new(11, 50_331_647).ok_or("no cell 11/50331647")?;
-    assert!(rt; cell.order() == 3 && cell.npix() == 767);
-    assert!(rt; cell.parent() == Some(above) && root.parent() == None);
-    assert!(rt; above.order() < 20 && deep.order() == 11);
-    assert!(rt; above.child(3) == cell);
-    assert!(rt; deep.ancestor(3).npix() == 767);
-    Ok(())
+fn cells_lie_under_cells(rt: HostRuntime) {
+    assert!(rt; are_kin() == Some(true));
+}
+
+// Whether 2/191, 3/0 and 3/1 ascend.
+fn ascend() -> Option<bool> {
+    let above = Cell::new(2, 191)?;
+    let first = Cell::new(3, 0)?;
+    Some(above < first && first < Cell::new(3, 1)?)
 }
 
 #[test]
 fn cells_are_in_order_and_have_a_text(rt: HostRuntime) -> Result<(), Fail> {
-    let above = Cell::new(2, 191).ok_or("no cell 2/191")?;
-    let first = Cell::new(3, 0).ok_or("no cell 3/0")?;
-    let second = Cell::new(3, 1).ok_or("no cell 3/1")?;
-    assert!(rt; above < first && first < second);
-    let text = format!(in rt.alloc(); "{second}")?;
-    assert!(rt; text.as_str() == "3/1");
+    assert!(rt; ascend() == Some(true));
+    let cell = Cell::new(3, 1).ok_or("no cell 3/1")?;
+    assert!(rt; cell.to_string(rt.alloc())?.as_str() == "3/1");
     Ok(())
 }
 
-// The order and the number of a cell, and the one number of both.
-static UNIQ: [(u8, u64, u64); 6] = [
-    (0, 0, 4),
-    (1, 0, 16),
-    (3, 0, 256),
-    (4, 0, 1024),
-    (11, 50_331_647, 67_108_863),
-    (20, LAST, 17_592_186_044_415),
+// A number, and the order and the number of the cell whose one number of both it is, where it is one's.
+static UNIQ: [(u64, Option<(u8, u64)>); 12] = [
+    (4, Some((0, 0))),
+    (16, Some((1, 0))),
+    (256, Some((3, 0))),
+    (1024, Some((4, 0))),
+    (67_108_863, Some((11, 50_331_647))),
+    (17_592_186_044_415, Some((20, LAST))),
+    (0, None),
+    (1, None),
+    (2, None),
+    (3, None),
+    (17_592_186_044_416, None),
+    (u64::MAX, None),
 ];
 
-// No cell's.
-static NO_UNIQ: [u64; 6] = [0, 1, 2, 3, 17_592_186_044_416, u64::MAX];
-
-#[test]
-fn order_and_number_are_one_number(rt: HostRuntime) -> Result<(), Fail> {
-    for (order, npix, uniq) in &UNIQ {
-        let cell = Cell::new(*order, *npix).ok_or("no such cell")?;
-        assert!(rt; cell.uniq() == *uniq, "{uniq}");
-        assert!(rt; Cell::from_uniq(*uniq) == Some(cell), "{uniq}");
+// Whether the number is that of the cell of this order and number, or of none.
+fn is_uniq(uniq: u64, known: Option<(u8, u64)>) -> bool {
+    match (Cell::from_uniq(uniq), known) {
+        (Some(cell), Some((order, npix))) => {
+            Cell::new(order, npix) == Some(cell) && cell.uniq() == uniq
+        }
+        (None, None) => true,
+        _ => false,
     }
-    for uniq in &NO_UNIQ {
-        assert!(rt; Cell::from_uniq(*uniq) == None, "{uniq}");
-    }
-    Ok(())
 }
 
-// A row: the order and the number of a cell; the cell of order 0 over it; its column and line there; an order above, and the
-// cell of that order over it. healpy made them: scripts/healpix-values.py.
-static HEALPY: [(u8, u64, u64, u32, u32, u8, u64); 20] = [
+#[test]
+fn order_and_number_are_one_number(rt: HostRuntime) {
+    for (uniq, known) in &UNIQ {
+        assert!(rt; is_uniq(*uniq, *known), "{uniq}");
+    }
+}
+
+// The order and the number of a cell; the cell of order 0 over it; its column and line there; an order above, and the cell
+// of that order over it.
+type HealpyRow = (u8, u64, u64, u32, u32, u8, u64);
+
+// healpy made them: scripts/healpix-values.py.
+static HEALPY: [HealpyRow; 20] = [
     (1, 26, 6, 1, 0, 0, 6),
     (1, 47, 11, 1, 1, 0, 11),
     (2, 81, 5, 0, 1, 1, 20),
@@ -130,25 +147,21 @@ static HEALPY: [(u8, u64, u64, u32, u32, u8, u64); 20] = [
     ),
 ];
 
-// Whether a cell has that number of its place, that cell of order 0 over it, and that one of a higher order.
-fn stands(cell: Cell, z: u64, place: (u32, u32), base: u64, above: (u8, u64)) -> bool {
-    let (column, line) = place;
-    let (higher, npix) = above;
-    higher <= cell.order()
-        && interleave(column % 512, line % 512) == z
-        && cell.ancestor(0).npix() == base
-        && cell.ancestor(higher).npix() == npix
+// Whether the cell of a row has the number of its place, that cell of order 0 over it, and that one of a higher order.
+fn stands((order, npix, base, column, line, higher, above): &HealpyRow) -> bool {
+    let Some(cell) = Cell::new(*order, *npix) else {
+        return false;
+    };
+    let z = *npix % (1 << (2 * (*order).min(9)));
+    *higher <= cell.order()
+        && interleave(*column % 512, *line % 512) == z
+        && cell.ancestor(0).npix() == *base
+        && cell.ancestor(*higher).npix() == *above
 }
 
 #[test]
-fn cells_stand_where_healpy_has_them(rt: HostRuntime) -> Result<(), Fail> {
-    for (order, npix, base, column, line, higher, above) in &HEALPY {
-        let cell = Cell::new(*order, *npix).ok_or("no such cell")?;
-        let z = *npix % (1 << (2 * (*order).min(9)));
-        assert!(rt;
-            stands(cell, z, (*column, *line), *base, (*higher, *above)),
-            "at {order}/{npix}"
-        );
+fn cells_stand_where_healpy_has_them(rt: HostRuntime) {
+    for row in &HEALPY {
+        assert!(rt; stands(row), "{row:?}");
     }
-    Ok(())
 }

@@ -1,22 +1,14 @@
 //! The kernels of each width beside the plain program, on rows of many kinds.
 
 use parent_rule::{Combine, Depth, mean_rows};
-use std::alloc::Global;
+use std::alloc::{AllocError, Global};
 use std::process::Abort;
 use std::test::Fail;
 use tile_pixels::{combine_rows, read_row, store_plain, store_row_above};
 
-// The kinds of rows: none blank, blank at both ends, in runs, at random, everywhere, numbers at the ends of their type,
-// and numbers beside the blank one, whose mean it is.
-static KINDS: [&str; 7] = [
-    "full",
-    "both ends",
-    "runs",
-    "random",
-    "everywhere",
-    "ends of the type",
-    "beside",
-];
+// The kinds of rows, from 0: none blank, blank at both ends, in runs, at random, everywhere, numbers at the ends of their
+// type, and numbers beside the blank one, whose mean it is.
+const KINDS: usize = 7;
 
 // A number of 64 bits, made of one of 32.
 fn spread(random: u32) -> i64 {
@@ -72,7 +64,7 @@ fn row(
     places: usize,
     depth: Depth,
     seed: u32,
-) -> Result<Vec<u8>, Fail> {
+) -> Result<Vec<u8>, AllocError> {
     let mut row = Vec::new(alloc);
     let mut random = seed;
     for place in 0..places {
@@ -129,24 +121,27 @@ fn halves_agree(depth: Depth, top: &[u8], bottom: &[u8], count: usize) -> bool {
     &*fast == &*plain
 }
 
-// Whether the kernels agree with the plain program on rows of two kinds, by both rules.
+// Whether the kernels agree with the plain program on two rows, by both rules.
+fn rows_agree(mean: Depth, top: &[u8], bottom: &[u8], count: usize) -> bool {
+    let median = mean.with(Combine::Median);
+    agrees(mean, top, bottom, count)
+        && halves_agree(mean, top, bottom, count)
+        && agrees(median, top, bottom, count)
+        && halves_agree(median, top, bottom, count)
+}
+
+// Whether they agree on rows of two kinds.
 fn kinds_agree(
     alloc: Global,
-    mean: Depth,
+    depth: Depth,
     count: usize,
     of_top: usize,
     of_bottom: usize,
-) -> Result<bool, Fail> {
+) -> Result<bool, AllocError> {
     let places = count.saturating_mul(2);
-    let top = row(alloc, of_top, places, mean, 1)?;
-    let bottom = row(alloc, of_bottom, places, mean, 2)?;
-    let median = mean.with(Combine::Median);
-    Ok(
-        agrees(mean, &top, &bottom, count)
-            && halves_agree(mean, &top, &bottom, count)
-            && agrees(median, &top, &bottom, count)
-            && halves_agree(median, &top, &bottom, count),
-    )
+    let top = row(alloc, of_top, places, depth, 1)?;
+    let bottom = row(alloc, of_bottom, places, depth, 2)?;
+    Ok(rows_agree(depth, &top, &bottom, count))
 }
 
 static COUNTS: [usize; 7] = [0, 1, 7, 8, 9, 65, 256];
@@ -163,12 +158,14 @@ static DEPTHS: [(u8, i64); 8] = [
     (64, 3),
 ];
 
-// Whether they agree on rows of all kinds.
-fn all_agree(rt: &impl Abort, alloc: Global, depth: Depth, count: usize) -> Result<(), Fail> {
-    for (i, of_top) in KINDS.iter().enumerate() {
-        for (j, of_bottom) in KINDS.iter().enumerate() {
-            let agree = kinds_agree(alloc, depth, count, i, j)?;
-            assert!(rt; agree, "{count} numbers, {of_top} above {of_bottom}");
+// They agree on rows of all kinds.
+fn check_kinds(rt: &impl Abort, alloc: Global, depth: Depth, count: usize) -> Result<(), Fail> {
+    for of_top in 0..KINDS {
+        for of_bottom in 0..KINDS {
+            assert!(rt;
+                kinds_agree(alloc, depth, count, of_top, of_bottom)?,
+                "{count} numbers, kind {of_top} above {of_bottom}"
+            );
         }
     }
     Ok(())
@@ -179,7 +176,7 @@ fn kernels_agree_with_the_plain_program(rt: HostRuntime) -> Result<(), Fail> {
     for (bitpix, blank) in &DEPTHS {
         let depth = Depth::new(*bitpix, *blank).ok_or("no depth")?;
         for count in &COUNTS {
-            all_agree(&rt, rt.alloc(), depth, *count)?;
+            check_kinds(&rt, rt.alloc(), depth, *count)?;
         }
     }
     Ok(())

@@ -97,49 +97,47 @@ fn has_its_tile(named: &Named) -> bool {
     }
 }
 
-// The level has these cells of order 3 in this order, each with its tile.
-fn assert_level(rt: &impl Abort, level: &[Named], cells: &[u64]) {
-    assert!(rt; level.len() == cells.len(), "{} cells", cells.len());
+// Whether the level has these cells of order 3 in this order, each with its tile.
+fn is_level(level: &[Named], cells: &[u64]) -> bool {
     for (named, npix) in level.iter().zip(cells) {
-        assert!(rt; named.order == 3 && named.npix == *npix, "cell {npix}");
-        assert!(rt; has_its_tile(named), "cell {npix}");
+        if named.order != 3 || named.npix != *npix || !has_its_tile(named) {
+            return false;
+        }
     }
+    level.len() == cells.len()
 }
 
-// Makes the level of these cells by one thread.
-fn check_serial<G: Gate>(
-    rt: &impl Abort,
+// Whether one thread makes the level of these cells.
+fn is_made_serially<G: Gate>(
     alloc: Global,
     gate: &G,
     shape: Shape,
     tiles: &Store<Tile>,
     cells: &[u64],
-) -> Result<(), Fail>
+) -> Result<bool, Fail>
     requires top { shape.top ≡ 4 }
     requires tiles { HaveShape shape tiles.now }
 {
     let todo = permits(alloc, shape, cells)?;
     let level = level_serial(alloc, gate, shape, tiles, todo)?;
-    assert_level(rt, &level, cells);
-    Ok(())
+    Ok(is_level(&level, cells))
 }
 
-// Makes it by many.
-fn check_parallel<R: Threads + Sync + Abort, G: Gate + Sync>(
+// Whether many make it.
+fn is_made_in_parallel<R: Threads + Sync, G: Gate + Sync>(
     rt: &R,
     alloc: Global,
     gate: &G,
     shape: Shape,
     tiles: &Store<Tile>,
     cells: &[u64],
-) -> Result<(), Fail>
+) -> Result<bool, Fail>
     requires top { shape.top ≡ 4 }
     requires tiles { HaveShape shape tiles.now }
 {
     let todo = permits(alloc, shape, cells)?;
     let level = level_parallel(rt, alloc, gate, shape, tiles, todo)?;
-    assert_level(rt, &level, cells);
-    Ok(())
+    Ok(is_level(&level, cells))
 }
 
 static LEVELS: [&[u64]; 6] = [
@@ -161,18 +159,13 @@ fn check_levels<R: Threads + Sync + Abort>(
     requires top { shape.top ≡ 4 }
     requires tiles { HaveShape shape tiles.now }
 {
+    let gate = OpenGate::new();
     for cells in &LEVELS {
-        check_serial(rt, alloc, &OpenGate::new(), shape, tiles, cells)?;
-        check_parallel(rt, alloc, &OpenGate::new(), shape, tiles, cells)?;
+        let by_one = is_made_serially(alloc, &gate, shape, tiles, cells)?;
+        let by_many = is_made_in_parallel(rt, alloc, &gate, shape, tiles, cells)?;
+        assert!(rt; by_one && by_many, "{cells:?}");
     }
     Ok(())
-}
-
-#[test]
-fn makes_levels(rt: HostRuntime) -> Result<(), Fail> {
-    let shape = shape()?;
-    let tiles = children(rt.alloc(), shape)?;
-    check_levels(&rt, rt.alloc(), shape, &tiles)
 }
 
 // It holds cell 1 until cell 2 passes, for 2^24 turns at most.
@@ -198,15 +191,21 @@ impl Gate for HeldGate {
     }
 }
 
-#[test]
-fn two_cells_pass_at_once(rt: HostRuntime) -> Result<(), Fail> {
-    let shape = shape()?;
-    let tiles = children(rt.alloc(), shape)?;
+// Two cells pass at once.
+fn check_held<R: Threads + Sync + Abort>(
+    rt: &R,
+    alloc: Global,
+    shape: Shape,
+    tiles: &Store<Tile>,
+) -> Result<(), Fail>
+    requires top { shape.top ≡ 4 }
+    requires tiles { HaveShape shape tiles.now }
+{
     let gate = HeldGate {
         passed: AtomicU64::new(0),
         spent: AtomicU64::new(0),
     };
-    check_parallel(&rt, rt.alloc(), &gate, shape, &tiles, &[1, 2])?;
+    assert!(rt; is_made_in_parallel(rt, alloc, &gate, shape, tiles, &[1, 2])?);
     assert!(rt;
         gate.spent.load(Ordering::SeqCst) == 0,
         "cell 2 did not pass"
@@ -241,8 +240,8 @@ impl Gate for CountingGate {
 
 static PASSING: [u64; 5] = [2, 5, 7, 100, 700];
 
-// Makes the level of these cells both ways, through a gate that counts.
-fn check_gate<R: Threads + Sync + Abort>(
+// Each of these cells passes the gate once, both ways.
+fn check_counted<R: Threads + Sync + Abort>(
     rt: &R,
     alloc: Global,
     shape: Shape,
@@ -256,16 +255,31 @@ fn check_gate<R: Threads + Sync + Abort>(
         orders: AtomicU64::new(0),
         cells: AtomicU64::new(0),
     };
-    check_serial(rt, alloc, &gate, shape, tiles, &PASSING)?;
-    assert!(rt; gate.has(5, 15, 814), "by one thread");
-    check_parallel(rt, alloc, &gate, shape, tiles, &PASSING)?;
-    assert!(rt; gate.has(10, 30, 1628), "by many");
+    let by_one = is_made_serially(alloc, &gate, shape, tiles, &PASSING)?;
+    assert!(rt; by_one && gate.has(5, 15, 814), "by one thread");
+    let by_many = is_made_in_parallel(rt, alloc, &gate, shape, tiles, &PASSING)?;
+    assert!(rt; by_many && gate.has(10, 30, 1628), "by many");
     Ok(())
 }
 
+// Levels are made through each gate.
+fn check_gates<R: Threads + Sync + Abort>(
+    rt: &R,
+    alloc: Global,
+    shape: Shape,
+    tiles: &Store<Tile>,
+) -> Result<(), Fail>
+    requires top { shape.top ≡ 4 }
+    requires tiles { HaveShape shape tiles.now }
+{
+    check_levels(rt, alloc, shape, tiles)?;
+    check_held(rt, alloc, shape, tiles)?;
+    check_counted(rt, alloc, shape, tiles)
+}
+
 #[test]
-fn each_cell_passes_the_gate_once(rt: HostRuntime) -> Result<(), Fail> {
+fn makes_levels_of_cells_that_pass_once_and_at_once(rt: HostRuntime) -> Result<(), Fail> {
     let shape = shape()?;
     let tiles = children(rt.alloc(), shape)?;
-    check_gate(&rt, rt.alloc(), shape, &tiles)
+    check_gates(&rt, rt.alloc(), shape, &tiles)
 }

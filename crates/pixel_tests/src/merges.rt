@@ -8,29 +8,30 @@ use std::alloc::{AllocError, Global};
 use std::test::Fail;
 use tile_pixels::Tile;
 
-// The numbers of 16 bits in a text; `B` is the blank one.
+// The number of 16 bits of a word; `B` is the blank one.
+fn number(word: &str) -> i16 {
+    word.parse::<i16>().unwrap_or(B)
+}
+
+// The numbers in a text.
 fn numbers(alloc: Global, text: &str) -> Result<Vec<i16>, AllocError> {
     let mut numbers = Vec::new(alloc);
     for word in text.split_whitespace() {
-        numbers.push(word.parse::<i16>().unwrap_or(B))?;
+        numbers.push(number(word))?;
     }
     Ok(numbers)
 }
 
-// Whether the tile has these numbers.
-fn has(tile: &Tile, numbers: &[i16]) -> bool {
-    let mut at = 0usize;
+// Whether the tile has the numbers in a text.
+fn has(tile: &Tile, text: &str) -> bool {
+    let mut words = text.split_whitespace();
     for bytes in tile.raw().chunks_exact(2) {
-        let is_same = match (bytes, numbers.get(at)) {
-            ([high, low], Some(number)) => i16::from_be_bytes([*high, *low]) == *number,
-            _ => false,
-        };
-        if !is_same {
-            return false;
+        match words.next() {
+            Some(word) if bytes == number(word).to_be_bytes().as_slice() => {}
+            _ => return false,
         }
-        at = at.saturating_add(1);
     }
-    at == numbers.len()
+    words.next().is_none()
 }
 
 // A row: the rule, n, the four children, of which one that isn't there is `-`, and the tile above them, a `|` between them.
@@ -108,13 +109,12 @@ fn has_tile_above(
     n: u8,
     tiles: &[Option<Tile>],
     row: &str,
-) -> Result<bool, AllocError>
+) -> Result<bool, Fail>
     requires least_n { 1 ≤ n }
     requires greatest_n { n ≤ 9 }
 {
-    let wanted = numbers(alloc, field(row, 6))?;
     let above = merged(alloc, depth, n, tiles)?;
-    Ok(has(&above, &wanted))
+    Ok(has(&above, field(row, 6)))
 }
 
 // Whether the children of the row are merged into the tile above them.
@@ -122,7 +122,7 @@ fn merges(alloc: Global, row: &str) -> Result<bool, Fail> {
     let depth = depth_of(field(row, 0) == "median").ok_or("no depth")?;
     let n = if field(row, 1) == "2" { 2 } else { 1 };
     let tiles = children(alloc, depth, n, row)?;
-    Ok(has_tile_above(alloc, depth, n, &tiles, row)?)
+    has_tile_above(alloc, depth, n, &tiles, row)
 }
 
 static ROWS: &str = "\

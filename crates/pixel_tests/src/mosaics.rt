@@ -68,13 +68,14 @@ fn wanted_at(numbers: &[(usize, i16)], place: usize) -> i16 {
     B
 }
 
-// The mosaic has these numbers at these places, and is blank elsewhere.
-fn assert_numbers(rt: &impl Abort, raw: &[u8], numbers: &[(usize, i16)]) {
-    assert!(rt; raw.len() == 2 * 54 * 58);
+// Whether the mosaic has these numbers at these places, and is blank elsewhere.
+fn has_numbers(raw: &[u8], numbers: &[(usize, i16)]) -> bool {
     for (place, bytes) in raw.chunks_exact(2).enumerate() {
-        let wanted = wanted_at(numbers, place).to_be_bytes();
-        assert!(rt; bytes == wanted.as_slice(), "number {place}");
+        if bytes != wanted_at(numbers, place).to_be_bytes().as_slice() {
+            return false;
+        }
     }
+    raw.len() == 2 * 54 * 58
 }
 
 // Tiles have a mosaic.
@@ -96,18 +97,36 @@ fn mosaic<R: Threads + Sync>(
     }
 }
 
-// The mosaic of these tiles of two columns has these numbers at these places.
-fn check_small<R: Threads + Sync + Abort>(
+// The mosaic of these tiles of `2^n` columns.
+fn mosaic_of<R: Threads + Sync>(
+    rt: &R,
+    alloc: Global,
+    n: u8,
+    cells: &[(u64, [i16; 4])],
+) -> Result<Vec<u8>, Fail> {
+    let depth = depth().ok_or("no depth")?;
+    if n < 1 || n > 9 {
+        return Err("no such tiles".into());
+    }
+    let tiles = tiles(alloc, depth, n, cells)?;
+    mosaic(rt, alloc, depth, n, &tiles)
+}
+
+// Whether the mosaic of these tiles of two columns has these numbers at these places.
+fn shows<R: Threads + Sync>(
     rt: &R,
     alloc: Global,
     cells: &[(u64, [i16; 4])],
     numbers: &[(usize, i16)],
-) -> Result<(), Fail> {
+) -> Result<bool, Fail> {
+    let raw = mosaic_of(rt, alloc, 1, cells)?;
+    Ok(has_numbers(&raw, numbers))
+}
+
+// Whether no tile has no mosaic.
+fn shows_none<R: Threads + Sync>(rt: &R, alloc: Global) -> Result<bool, Fail> {
     let depth = depth().ok_or("no depth")?;
-    let tiles = tiles(alloc, depth, 1, cells)?;
-    let raw = mosaic(rt, alloc, depth, 1, &tiles)?;
-    assert_numbers(rt, &raw, numbers);
-    Ok(())
+    Ok(whole(rt, alloc, depth, 1, &Store::new(alloc))?.is_none())
 }
 
 static LAST: [(u64, [i16; 4]); 1] = [(767, [9, B, B, B])];
@@ -141,11 +160,10 @@ static PLACES: [(usize, i16); 16] = [
 
 #[test]
 fn shows_tiles_of_two_columns(rt: HostRuntime) -> Result<(), Fail> {
-    let depth = depth().ok_or("no depth")?;
-    let none = Store::new(rt.alloc());
-    assert!(rt; whole(&rt, rt.alloc(), depth, 1, &none)?.is_none());
-    check_small(&rt, rt.alloc(), &LAST, &[(76, 9)])?;
-    check_small(&rt, rt.alloc(), &SEVERAL, &PLACES)
+    assert!(rt; shows_none(&rt, rt.alloc())?, "no tile");
+    assert!(rt; shows(&rt, rt.alloc(), &LAST, &[(76, 9)])?, "the last");
+    assert!(rt; shows(&rt, rt.alloc(), &SEVERAL, &PLACES)?, "several");
+    Ok(())
 }
 
 // The number at a place of a mosaic of 1,728 columns.
@@ -160,77 +178,62 @@ fn number(raw: &[u8], column: usize, up: usize) -> Option<i16> {
     }
 }
 
-// The mosaic of these tiles of `2^n` columns, which are shown with 64.
-fn large<R: Threads + Sync>(
+// A column, a line from the bottom, and the number there.
+type Place = (usize, usize, i16);
+
+// Whether the mosaic of these tiles of `2^n` columns, which are shown with 64, has these numbers.
+fn shows_large<R: Threads + Sync>(
     rt: &R,
     alloc: Global,
-    n: u8,
-    cells: &[(u64, [i16; 4])],
-) -> Result<Vec<u8>, Fail>
-    requires least_n { 1 ≤ n }
-    requires greatest_n { n ≤ 9 }
-{
-    let depth = depth().ok_or("no depth")?;
-    let tiles = tiles(alloc, depth, n, cells)?;
-    mosaic(rt, alloc, depth, n, &tiles)
+    (n, cells, places): &LargeRow,
+) -> Result<bool, Fail> {
+    let raw = mosaic_of(rt, alloc, *n, cells)?;
+    Ok(has_places(&raw, places))
 }
 
-// The mosaic has this number at each of the places.
-fn assert_places(rt: &impl Abort, raw: &[u8], n: u8, places: &[(usize, usize)], wanted: i16) {
-    for (column, up) in places {
-        let is_wanted = number(raw, *column, *up) == Some(wanted);
-        assert!(rt; is_wanted, "n {n} at {column} {up}");
+fn has_places(raw: &[u8], places: &[Place]) -> bool {
+    for (column, up, wanted) in places {
+        if number(raw, *column, *up) != Some(*wanted) {
+            return false;
+        }
     }
+    raw.len() == 2 * 1728 * 1856
 }
 
-// Cell 28 stands in row 1 and column 1: columns 64 to 127, lines 1,728 to 1,791 from the bottom. A column and a line from
-// the bottom within it, and outside it.
-static INSIDE: [(usize, usize); 5] = [(64, 1728), (127, 1728), (64, 1791), (127, 1791), (90, 1750)];
-
-static OUTSIDE: [(usize, usize); 6] = [
-    (63, 1728),
-    (128, 1728),
-    (64, 1727),
-    (64, 1792),
-    (0, 0),
-    (1727, 1855),
+// Cell 28 stands in row 1 and column 1: columns 64 to 127, lines 1,728 to 1,791 from the bottom. Places within it, which
+// have number 3, and outside it.
+const ALL_3: [Place; 11] = [
+    (64, 1728, 3),
+    (127, 1728, 3),
+    (64, 1791, 3),
+    (127, 1791, 3),
+    (90, 1750, 3),
+    (63, 1728, B),
+    (128, 1728, B),
+    (64, 1727, B),
+    (64, 1792, B),
+    (0, 0, B),
+    (1727, 1855, B),
 ];
 
-// Cell 28 of a tile of `2^n` columns that repeats these four numbers has the wanted one everywhere.
-fn check_large<R: Threads + Sync + Abort>(
-    rt: &R,
-    alloc: Global,
-    n: u8,
-    four: [i16; 4],
-    wanted: i16,
-) -> Result<(), Fail>
-    requires least_n { 1 ≤ n }
-    requires greatest_n { n ≤ 9 }
-{
-    let raw = large(rt, alloc, n, &[(28, four)])?;
-    assert!(rt; raw.len() == 2 * 1728 * 1856, "n {n}");
-    assert_places(rt, &raw, n, &INSIDE, wanted);
-    assert_places(rt, &raw, n, &OUTSIDE, B);
-    Ok(())
-}
-
-#[test]
-fn halves_a_larger_tile(rt: HostRuntime) -> Result<(), Fail> {
-    check_large(&rt, rt.alloc(), 6, [3, 3, 3, 3], 3)?;
-    check_large(&rt, rt.alloc(), 7, [1, 2, 3, 5], 3)?;
-    check_large(&rt, rt.alloc(), 8, [4, B, B, 6], 5)
-}
-
-static MANY: [(u64, [i16; 4]); 4] = [
-    (0, [1, 2, 3, 5]),
-    (28, [4, B, B, 6]),
-    (500, [-1, -2, B, B]),
-    (767, [7, 7, 7, B]),
+// The same with number 5.
+const ALL_5: [Place; 11] = [
+    (64, 1728, 5),
+    (127, 1728, 5),
+    (64, 1791, 5),
+    (127, 1791, 5),
+    (90, 1750, 5),
+    (63, 1728, B),
+    (128, 1728, B),
+    (64, 1727, B),
+    (64, 1792, B),
+    (0, 0, B),
+    (1727, 1855, B),
 ];
 
-// Cells 0, 28, 500 and 767 of 64 columns and lines stand in rows 0, 1, 18 and 28 and in columns 0, 1, 14 and 11: a column
-// and a line from the bottom, and the number there. The mean of -1 and -2 is rounded up.
-static CORNERS: [(usize, usize, i16); 12] = [
+// Cells 0, 28, 500 and 767 of 64 columns and lines stand in rows 0, 1, 18 and 28 and in columns 0, 1, 14 and 11. The mean of
+// -1 and -2 is rounded up.
+const CORNERS: [Place; 12] = [
     (0, 1792, 3),
     (63, 1855, 3),
     (64, 1792, B),
@@ -245,12 +248,29 @@ static CORNERS: [(usize, usize, i16); 12] = [
     (768, 0, B),
 ];
 
+// n of tiles of `2^n` columns, the tiles, and numbers of their mosaic.
+type LargeRow = (u8, &'static [(u64, [i16; 4])], &'static [Place]);
+
+static LARGE: [LargeRow; 4] = [
+    (6, &[(28, [3, 3, 3, 3])], &ALL_3),
+    (7, &[(28, [1, 2, 3, 5])], &ALL_3),
+    (8, &[(28, [4, B, B, 6])], &ALL_5),
+    (
+        9,
+        &[
+            (0, [1, 2, 3, 5]),
+            (28, [4, B, B, 6]),
+            (500, [-1, -2, B, B]),
+            (767, [7, 7, 7, B]),
+        ],
+        &CORNERS,
+    ),
+];
+
 #[test]
-fn halves_many_large_tiles(rt: HostRuntime) -> Result<(), Fail> {
-    let raw = large(&rt, rt.alloc(), 9, &MANY)?;
-    assert!(rt; raw.len() == 2 * 1728 * 1856);
-    for (column, up, wanted) in &CORNERS {
-        assert_places(&rt, &raw, 9, &[(*column, *up)], *wanted);
+fn halves_larger_tiles(rt: HostRuntime) -> Result<(), Fail> {
+    for row in &LARGE {
+        assert!(rt; shows_large(&rt, rt.alloc(), row)?, "n {}", row.0);
     }
     Ok(())
 }
@@ -281,9 +301,9 @@ fn change(
     }
 }
 
-// The mosaic after a change, made of the one before it, has these numbers at these places; there is none where no tile is
-// left.
-fn check_change<R: Threads + Sync + Abort>(
+// Whether the mosaic after a change, made of the one before it, has these numbers at these places; there is none where no
+// tile is left.
+fn is_patched<R: Threads + Sync>(
     rt: &R,
     alloc: Global,
     depth: Depth,
@@ -291,7 +311,7 @@ fn check_change<R: Threads + Sync + Abort>(
     cell: u64,
     four: Option<[i16; 4]>,
     numbers: &[(usize, i16)],
-) -> Result<(), Fail>
+) -> Result<bool, Fail>
     requires cell { cell < 768 }
     requires tiles { AreOfOrder3 depth 1 tiles.old }
     ensures { IfOk result (λ _. AreOfOrder3 depth 1 tiles.new) }
@@ -299,10 +319,9 @@ fn check_change<R: Threads + Sync + Abort>(
     let old = mosaic(rt, alloc, depth, 1, tiles)?;
     change(alloc, depth, tiles, cell, four)?;
     match patch(alloc, depth, 1, &old, &[cell], tiles)? {
-        Some(raw) => assert_numbers(rt, &raw, numbers),
-        None => assert!(rt; numbers.is_empty()),
+        Some(raw) => Ok(has_numbers(&raw, numbers)),
+        None => Ok(numbers.is_empty()),
     }
-    Ok(())
 }
 
 // Makes the changes, one after the other.
@@ -315,7 +334,8 @@ fn check_changes<R: Threads + Sync + Abort>(
     requires { AreOfOrder3 depth 1 tiles.old }
 {
     for (cell, four, numbers) in &CHANGES {
-        check_change(rt, alloc, depth, tiles, cell % 768, *four, numbers)?;
+        let patched = is_patched(rt, alloc, depth, tiles, cell % 768, *four, numbers)?;
+        assert!(rt; patched, "cell {cell} as {four:?}");
     }
     Ok(())
 }

@@ -7,6 +7,7 @@ use pyramid_model::Shape;
 use pyramid_model::plain::{Leaves, exists, fits, pixels, value};
 use std::alloc::Global;
 use std::collections::BTreeMap;
+use std::process::Abort;
 use std::test::Fail;
 
 /// The blank number.
@@ -25,6 +26,20 @@ fn leaves_in(alloc: Global, table: &[Leaf]) -> Result<Leaves, Fail> {
 
 static FIRST: [Leaf; 1] = [(0, [1, 2, 3, 5])];
 
+// The shape of a survey of leaves of that order, whose tiles have `2^n` columns.
+fn shape(top: u8, n: u8, combine: Combine) -> Option<Shape> {
+    if top < 3 || top > 11 || n < 1 || n > 9 {
+        return None;
+    }
+    let depth = Depth::new(16, B)?.with(combine);
+    Some(Shape {
+        top,
+        low: 3,
+        n,
+        depth,
+    })
+}
+
 // Tiles over the first leaf, of order 4, and whether they exist.
 static TILES: [(u8, u64, bool); 5] = [
     (4, 0, true),
@@ -34,78 +49,88 @@ static TILES: [(u8, u64, bool); 5] = [
     (0, 0, true),
 ];
 
-#[test]
-fn tiles_exist_above_leaves(rt: HostRuntime) -> Result<(), Fail> {
-    let depth = Depth::new(16, B).ok_or("no depth")?;
-    let shape = Shape {
-        top: 4,
-        low: 3,
-        n: 1,
-        depth,
-    };
-    let leaves = leaves_in(rt.alloc(), &FIRST)?;
-    for (order, npix, there) in &TILES {
-        assert!(rt; *order <= 4 && *npix < cells(*order));
-        assert!(rt;
-            exists(&leaves, &shape, *order, *npix) == *there,
-            "tile {npix} of order {order}"
-        );
-    }
-    Ok(())
-}
-
 // Cells over the pixels of that leaf, and their values.
 static VALUES: [(u8, u64, i64); 5] = [(5, 0, 3), (5, 1, 1), (5, 4, B), (4, 0, 3), (4, 1, B)];
 
-#[test]
-fn cells_have_values(rt: HostRuntime) -> Result<(), Fail> {
-    let depth = Depth::new(16, B).ok_or("no depth")?;
-    let shape = Shape {
-        top: 4,
-        low: 3,
-        n: 1,
-        depth,
-    };
-    let leaves = leaves_in(rt.alloc(), &FIRST)?;
-    assert!(rt; fits(&leaves, &shape));
-    for (order, cell, wanted) in &VALUES {
-        assert!(rt; *order <= 5 && *cell < cells(*order));
-        assert!(rt;
-            value(&leaves, &shape, *order, *cell) == *wanted,
-            "cell {cell} of order {order}"
-        );
+// Whether a tile exists, if it is one of the survey.
+fn existence(leaves: &Leaves, shape: &Shape, order: u8, npix: u64) -> Option<bool> {
+    if order > shape.top || npix >= cells(order) {
+        return None;
     }
+    Some(exists(leaves, shape, order, npix))
+}
+
+// The value of a cell that is one of the survey.
+fn value_of(leaves: &Leaves, shape: &Shape, order: u8, cell: u64) -> Option<i64> {
+    if order > shape.top + shape.n || cell >= cells(order) || !fits(leaves, shape) {
+        return None;
+    }
+    Some(value(leaves, shape, order, cell))
+}
+
+// The tiles and the cells over the first leaf.
+fn check_first(rt: &impl Abort, leaves: &Leaves, shape: &Shape) {
+    for (order, npix, there) in &TILES {
+        let found = existence(leaves, shape, *order, *npix);
+        assert!(rt; found == Some(*there), "tile {order}/{npix}");
+    }
+    for (order, cell, wanted) in &VALUES {
+        let found = value_of(leaves, shape, *order, *cell);
+        assert!(rt; found == Some(*wanted), "cell {order}/{cell}");
+    }
+}
+
+#[test]
+fn tiles_exist_and_cells_have_values_above_leaves(rt: HostRuntime) -> Result<(), Fail> {
+    let shape = shape(4, 1, Combine::Mean).ok_or("no shape")?;
+    let leaves = leaves_in(rt.alloc(), &FIRST)?;
+    check_first(&rt, &leaves, &shape);
     Ok(())
 }
 
-// Whether the pixels of a tile over these leaves are those.
-fn are_pixels(
+// The order of the leaves, n, the order and the number of a tile, and its numbers.
+type TileRow = (u8, u8, u8, u64, &'static [i64]);
+
+// Whether the tile of a row has its numbers over these leaves.
+fn has_pixels(
     alloc: Global,
     leaves: &Leaves,
-    shape: &Shape,
-    order: u8,
-    npix: u64,
-    wanted: &[i64],
-) -> Result<bool, Fail>
-    requires top { shape.now.top ≤ 11 }
-    requires n { shape.now.n ≤ 9 }
-{
-    if order > shape.top || npix >= cells(order) || !fits(leaves, shape) {
+    combine: Combine,
+    row: &TileRow,
+) -> Result<bool, Fail> {
+    let (top, n, order, npix, wanted) = *row;
+    let shape = shape(top, n, combine).ok_or("no shape")?;
+    if order > shape.top || npix >= cells(order) || !fits(leaves, &shape) {
         return Err("no tile of the survey".into());
     }
-    let numbers = pixels(alloc, leaves, shape, order, npix)?;
+    let numbers = pixels(alloc, leaves, &shape, order, npix)?;
     Ok(numbers.as_slice() == wanted)
 }
 
-// The order of the leaves, which are combined so, and a tile over them: its order, its number and its pixels. In the last one
-// means are taken order by order: at once they would give 1.
-static SMALL: [(u8, Combine, &[Leaf], u8, u64, [i64; 4]); 5] = [
-    (4, Combine::Mean, &[(0, [1, 2, 3, 5])], 4, 0, [1, 2, 3, 5]),
-    (4, Combine::Mean, &[(0, [1, 2, 3, 5])], 3, 0, [B, B, 3, B]),
-    (4, Combine::Median, &[(0, [1, 2, 3, 5])], 3, 0, [B, B, 2, B]),
-    (4, Combine::Mean, &[(1, [7, 7, 7, 7])], 3, 0, [7, B, B, B]),
+// How the numbers are combined, the leaves, and a tile over them. In the last row means are taken order by order: at once
+// they would give 1.
+static SMALL: [(Combine, &[Leaf], TileRow); 5] = [
     (
-        5,
+        Combine::Mean,
+        &[(0, [1, 2, 3, 5])],
+        (4, 1, 4, 0, &[1, 2, 3, 5]),
+    ),
+    (
+        Combine::Mean,
+        &[(0, [1, 2, 3, 5])],
+        (4, 1, 3, 0, &[B, B, 3, B]),
+    ),
+    (
+        Combine::Median,
+        &[(0, [1, 2, 3, 5])],
+        (4, 1, 3, 0, &[B, B, 2, B]),
+    ),
+    (
+        Combine::Mean,
+        &[(1, [7, 7, 7, 7])],
+        (4, 1, 3, 0, &[7, B, B, B]),
+    ),
+    (
         Combine::Mean,
         &[
             (0, [1, 1, 2, 2]),
@@ -113,27 +138,28 @@ static SMALL: [(u8, Combine, &[Leaf], u8, u64, [i64; 4]); 5] = [
             (2, [1, 1, 1, 2]),
             (3, [1, 1, 1, 2]),
         ],
-        3,
-        0,
-        [B, B, 2, B],
+        (5, 1, 3, 0, &[B, B, 2, B]),
     ),
 ];
 
+// Whether the tile of a row has its numbers over the leaves of a table.
+fn has_small_pixels(
+    alloc: Global,
+    combine: Combine,
+    table: &[Leaf],
+    row: &TileRow,
+) -> Result<bool, Fail> {
+    let leaves = leaves_in(alloc, table)?;
+    has_pixels(alloc, &leaves, combine, row)
+}
+
 #[test]
 fn tiles_have_pixels(rt: HostRuntime) -> Result<(), Fail> {
-    let alloc = rt.alloc();
-    let depth = Depth::new(16, B).ok_or("no depth")?;
-    for (top, combine, table, order, npix, wanted) in &SMALL {
-        assert!(rt; 3 <= *top && *top <= 11);
-        let shape = Shape {
-            top: *top,
-            low: 3,
-            n: 1,
-            depth: depth.with(*combine),
-        };
-        let leaves = leaves_in(alloc, table)?;
-        let same = are_pixels(alloc, &leaves, &shape, *order, *npix, wanted)?;
-        assert!(rt; same, "tile {npix} of order {order} over {table:?}");
+    for (combine, table, row) in &SMALL {
+        assert!(rt;
+            has_small_pixels(rt.alloc(), *combine, table, row)?,
+            "{row:?}"
+        );
     }
     Ok(())
 }
@@ -161,8 +187,8 @@ fn made_leaves(alloc: Global, n: u8) -> Result<Leaves, Fail> {
     Ok(leaves)
 }
 
-// A row: the order of the leaves, n, the order and the number of a tile, its numbers. scripts/pyramid-values.py made them.
-static LARGER: [(u8, u8, u8, u64, &[i64]); 4] = [
+// scripts/pyramid-values.py made them.
+static LARGER: [TileRow; 4] = [
     (
         4,
         2,
@@ -197,21 +223,16 @@ static LARGER: [(u8, u8, u8, u64, &[i64]); 4] = [
     ),
 ];
 
+// Whether the tile of a row has its numbers over leaves by a rule.
+fn has_larger_pixels(alloc: Global, row: &TileRow) -> Result<bool, Fail> {
+    let leaves = made_leaves(alloc, row.1)?;
+    has_pixels(alloc, &leaves, Combine::Mean, row)
+}
+
 #[test]
 fn larger_tiles_have_pixels(rt: HostRuntime) -> Result<(), Fail> {
-    let alloc = rt.alloc();
-    let depth = Depth::new(16, B).ok_or("no depth")?;
-    for (top, n, order, npix, wanted) in &LARGER {
-        assert!(rt; 3 <= *top && *top <= 11 && 1 <= *n && *n <= 9);
-        let shape = Shape {
-            top: *top,
-            low: 3,
-            n: *n,
-            depth,
-        };
-        let leaves = made_leaves(alloc, *n)?;
-        let same = are_pixels(alloc, &leaves, &shape, *order, *npix, wanted)?;
-        assert!(rt; same, "tile {npix} of order {order} over {top}, {n}");
+    for row in &LARGER {
+        assert!(rt; has_larger_pixels(rt.alloc(), row)?, "{row:?}");
     }
     Ok(())
 }

@@ -2,13 +2,11 @@
 ghost use Rattle.std.specs.Prelude.{◌≡◌, ◌≤◌, ◌*◌, All, IsTrue, length};
 ghost use Rattle.parent_rule.specs.Depth.{IsNumber};
 
+use parent_rule::Combine::{self, Mean, Median};
 use parent_rule::{
-    Combine, Depth, Permit, Steps, mean_of_full_i16, mean_of_full_i32, mean_of_full_u8,
-    mean_of_i16, mean_of_i32, mean_of_u8, mean_rows, mean4, median_of_i16, median_of_i32,
-    median_of_u8,
+    Depth, Permit, Steps, mean_of_full_i16, mean_of_full_i32, mean_of_full_u8, mean_of_i16,
+    mean_of_i32, mean_of_u8, mean_rows, mean4, median_of_i16, median_of_i32, median_of_u8,
 };
-use std::process::Abort;
-use std::test::Fail;
 
 // Whether each is a number of the depth.
 fn are_numbers(depth: Depth, numbers: &[i64]) -> bool
@@ -29,52 +27,50 @@ const B16: i16 = -32768;
 
 const B32: i32 = -2147483648;
 
-// Each row: the bits of a number, the blank one, four numbers and their mean.
-static MEANS: [(u8, i64, [i64; 4], i64); 12] = [
-    (16, B, [1, 2, B, B], 2),
-    (16, B, [-1, -2, B, B], -1),
-    (16, B, [1, 2, 3, 5], 3),
-    (16, B, [B, B, B, B], B),
-    (16, 0, [-1, 1, 0, 0], 1),
-    (16, B, [B, B, -7, B], -7),
-    (16, B, [1, B, 1, 2], 1),
-    (16, B, [B, 1, 2, 2], 2),
-    (16, B, [-1, -1, B, -2], -1),
-    (16, B, [-1, -2, -2, B], -2),
-    (16, B, [-1, -2, -3, -4], -2),
+// How four numbers are combined, the bits of each, the blank one, the four, and what they give.
+type FourRow = (Combine, u8, i64, [i64; 4], i64);
+
+static FOURS: [FourRow; 19] = [
+    (Mean, 16, B, [1, 2, B, B], 2),
+    (Mean, 16, B, [-1, -2, B, B], -1),
+    (Mean, 16, B, [1, 2, 3, 5], 3),
+    (Mean, 16, B, [B, B, B, B], B),
+    (Mean, 16, 0, [-1, 1, 0, 0], 1),
+    (Mean, 16, B, [B, B, -7, B], -7),
+    (Mean, 16, B, [1, B, 1, 2], 1),
+    (Mean, 16, B, [B, 1, 2, 2], 2),
+    (Mean, 16, B, [-1, -1, B, -2], -1),
+    (Mean, 16, B, [-1, -2, -2, B], -2),
+    (Mean, 16, B, [-1, -2, -3, -4], -2),
     (
+        Mean,
         64,
         i64::MIN,
         [i64::MAX, i64::MAX, i64::MAX, i64::MAX],
         i64::MAX,
     ),
+    (Median, 16, B, [1, 2, 3, 5], 2),
+    (Median, 16, B, [-1, -2, B, B], -2),
+    (Median, 16, B, [7, B, B, B], 7),
+    (Median, 16, B, [B, B, B, B], B),
+    (Median, 16, B, [3, 1, 2, B], 2),
+    (Median, 16, B, [B, 5, 1, 5], 5),
+    (Median, 16, B, [9, -4, B, 0], 0),
 ];
 
-// Each row: four numbers of 16 bits and their lower median.
-static MEDIANS: [([i64; 4], i64); 7] = [
-    ([1, 2, 3, 5], 2),
-    ([-1, -2, B, B], -2),
-    ([7, B, B, B], 7),
-    ([B, B, B, B], B),
-    ([3, 1, 2, B], 2),
-    ([B, 5, 1, 5], 5),
-    ([9, -4, B, 0], 0),
-];
+// Whether the four of a row give what it says.
+fn four_give((combine, bitpix, blank, four, wanted): &FourRow) -> bool {
+    match Depth::new(*bitpix, *blank) {
+        Some(depth) => give(depth.with(*combine), four, *wanted),
+        None => false,
+    }
+}
 
 #[test]
-fn combines_four(rt: HostRuntime) -> Result<(), Fail> {
-    for (bitpix, blank, four, wanted) in &MEANS {
-        let depth = Depth::new(*bitpix, *blank).ok_or("no depth")?;
-        assert!(rt;
-            give(depth, four, *wanted),
-            "{four:?} of {bitpix} bits, blank {blank}"
-        );
+fn combines_four(rt: HostRuntime) {
+    for row in &FOURS {
+        assert!(rt; four_give(row), "{row:?}");
     }
-    let median = Depth::new(16, B).ok_or("no depth")?.with(Combine::Median);
-    for (four, wanted) in &MEDIANS {
-        assert!(rt; give(median, four, *wanted), "{four:?}");
-    }
-    Ok(())
 }
 
 // Each row: the bits of a number, the blank one, and whether there is such a depth.
@@ -94,54 +90,52 @@ static DEPTHS: [(u8, i64, bool); 10] = [
 // Each row: the bits of a number, and its bytes.
 static WIDTHS: [(u8, usize); 4] = [(8, 1), (16, 2), (32, 4), (64, 8)];
 
-// Whether the depth has these bits and bytes, with 3 as the blank number, and takes either way to combine.
-fn has_width(depth: Depth, bitpix: u8, bytes: usize) -> bool {
-    let median = depth.with(Combine::Median);
+// Whether there is a depth of these bits and bytes with 3 as the blank number, which takes either way to combine.
+fn has_width(bitpix: u8, bytes: usize) -> bool {
+    let Some(depth) = Depth::new(bitpix, 3) else {
+        return false;
+    };
+    let median = depth.with(Median);
     depth.bitpix() == bitpix
         && depth.bytes() == bytes
         && depth.blank() == 3
-        && depth.combine() == Combine::Mean
-        && median.combine() == Combine::Median
-        && median.with(Combine::Mean) == depth
+        && depth.combine() == Mean
+        && median.combine() == Median
+        && median.with(Mean) == depth
 }
 
 #[test]
-fn knows_the_depths(rt: HostRuntime) -> Result<(), Fail> {
+fn knows_the_depths(rt: HostRuntime) {
     for (bitpix, blank, known) in &DEPTHS {
         let is_known = Depth::new(*bitpix, *blank).is_some();
         assert!(rt; is_known == *known, "{bitpix} bits, blank {blank}");
     }
     for (bitpix, bytes) in &WIDTHS {
-        let depth = Depth::new(*bitpix, 3).ok_or("no depth")?;
-        assert!(rt; has_width(depth, *bitpix, *bytes), "{bitpix} bits");
+        assert!(rt; has_width(*bitpix, *bytes), "{bitpix} bits");
     }
-    Ok(())
 }
 
-// Issues a permit, compares it and the count of steps, and spends it.
-fn issues(rt: &impl Abort, npix: u64, steps: &mut Steps, count: u64) {
+// Issues a permit, spends it, and answers whether it is that cell's, and the steps are then so many.
+fn issues(npix: u64, steps: &mut Steps, count: u64) -> bool {
     let permit = Permit::issue(29, npix, steps);
-    assert!(rt;
-        permit.order() == 29 && permit.npix() == npix,
-        "cell {npix}"
-    );
-    assert!(rt; steps.count() == count, "cell {npix}");
+    let is_its = permit.order() == 29 && permit.npix() == npix;
     permit.spend();
+    is_its && steps.count() == count
 }
 
 #[test]
 fn counts_permits(rt: HostRuntime) {
     let mut steps = Steps::new();
     assert!(rt; steps.count() == 0);
-    issues(&rt, 0, &mut steps, 1);
-    issues(&rt, u64::MAX, &mut steps, 2);
-    issues(&rt, 7, &mut steps, 3);
+    assert!(rt; issues(0, &mut steps, 1));
+    assert!(rt; issues(u64::MAX, &mut steps, 2));
+    assert!(rt; issues(7, &mut steps, 3));
     steps.tick();
     assert!(rt; steps.count() == 4);
 }
 
-// Compares each place of a combined row with the four numbers under it.
-fn agrees(rt: &impl Abort, depth: Depth, top: &[i64], bottom: &[i64], out: &mut [i64])
+// Combines two rows, and answers whether each place has what the four numbers under it give.
+fn agrees(depth: Depth, top: &[i64], bottom: &[i64], out: &mut [i64]) -> bool
     requires top_length { length top.now ≡ 2 * length out.old }
     requires bottom_length { length bottom.now ≡ 2 * length out.old }
     requires top { All (IsNumber depth.bitpix) top.now }
@@ -150,9 +144,11 @@ fn agrees(rt: &impl Abort, depth: Depth, top: &[i64], bottom: &[i64], out: &mut 
     mean_rows(top, bottom, depth, out);
     for (i, number) in out.iter().enumerate() {
         let square = [top[2 * i], bottom[2 * i], top[2 * i + 1], bottom[2 * i + 1]];
-        assert!(rt; are_numbers(depth, &square));
-        assert!(rt; *number == mean4(square, depth), "place {i} at {depth:?}");
+        if !give(depth, &square, *number) {
+            return false;
+        }
     }
+    true
 }
 
 const BLANK: i64 = 255;
@@ -169,202 +165,150 @@ fn fill_rows(top: &mut [i64; 130], bottom: &mut [i64; 130]) {
     }
 }
 
-// Combines the last places of the two rows, by both rules.
-fn length_agrees(
-    rt: &impl Abort,
-    depth: Depth,
-    top: &[i64; 130],
-    bottom: &[i64; 130],
-    length: usize,
-)
-    requires { length ≤ 65 }
-{
+// Whether the last places of the two rows are combined rightly, by both rules.
+fn length_agrees(bitpix: u8, top: &[i64; 130], bottom: &[i64; 130], length: usize) -> bool {
+    let Some(depth) = Depth::new(bitpix, BLANK) else {
+        return false;
+    };
+    if length > 65 {
+        return false;
+    }
     let mut out = [0; 65];
     let top = &top[130 - 2 * length..];
     let bottom = &bottom[130 - 2 * length..];
     let out = &mut out[..length];
-    assert!(rt; are_numbers(depth, top) && are_numbers(depth, bottom));
-    agrees(rt, depth, top, bottom, out);
-    agrees(rt, depth.with(Combine::Median), top, bottom, out);
+    are_numbers(depth, top)
+        && are_numbers(depth, bottom)
+        && agrees(depth, top, bottom, out)
+        && agrees(depth.with(Median), top, bottom, out)
 }
 
+static LENGTHS: [usize; 6] = [0, 1, 7, 8, 9, 65];
+
 #[test]
-fn combines_rows_place_by_place(rt: HostRuntime) -> Result<(), Fail> {
+fn combines_rows_place_by_place(rt: HostRuntime) {
     let mut top = [BLANK; 130];
     let mut bottom = [BLANK; 130];
     fill_rows(&mut top, &mut bottom);
     for (bitpix, _) in &WIDTHS {
-        let depth = Depth::new(*bitpix, BLANK).ok_or("no depth")?;
-        for length in [0, 1, 7, 8, 9, 65] {
-            length_agrees(&rt, depth, &top, &bottom, length);
+        for length in &LENGTHS {
+            assert!(rt;
+                length_agrees(*bitpix, &top, &bottom, *length),
+                "{length} places of {bitpix} bits"
+            );
         }
     }
-    Ok(())
 }
 
-// Each row: the blank number, four numbers of 8 bits and their mean.
-static MEANS_OF_8: [(u8, [u8; 4], u8); 8] = [
-    (255, [1, 2, 255, 255], 2),
-    (0, [254, 255, 255, 0], 255),
-    (0, [255, 255, 255, 255], 255),
-    (255, [0, 0, 0, 1], 0),
-    (0, [0, 0, 0, 0], 0),
-    (2, [1, 1, 3, 3], 3),
-    (128, [127, 129, 128, 128], 129),
-    (255, [255, 3, 255, 255], 3),
+// How four numbers of 8 bits are combined, the blank number, the four, and what they give.
+static FOURS_OF_8: [(Combine, u8, [u8; 4], u8); 13] = [
+    (Mean, 255, [1, 2, 255, 255], 2),
+    (Mean, 0, [254, 255, 255, 0], 255),
+    (Mean, 0, [255, 255, 255, 255], 255),
+    (Mean, 255, [0, 0, 0, 1], 0),
+    (Mean, 0, [0, 0, 0, 0], 0),
+    (Mean, 2, [1, 1, 3, 3], 3),
+    (Mean, 128, [127, 129, 128, 128], 129),
+    (Mean, 255, [255, 3, 255, 255], 3),
+    (Median, 255, [1, 2, 3, 5], 2),
+    (Median, 255, [255, 5, 1, 5], 5),
+    (Median, 0, [255, 0, 0, 255], 255),
+    (Median, 7, [7, 7, 7, 7], 7),
+    (Median, 7, [9, 8, 200, 7], 9),
 ];
 
-// Whether the four have that mean; four without a blank also by the form for such.
-fn have_mean_8(blank: u8, four: &[u8; 4], wanted: u8) -> bool {
+// Whether the four give that one, without a blank also by the form of the mean for such.
+fn give_8(combine: Combine, blank: u8, four: &[u8; 4], wanted: u8) -> bool {
     let [a, b, c, d] = *four;
-    if mean_of_u8(a, b, c, d, blank) != wanted {
-        return false;
+    if combine == Median {
+        return median_of_u8(a, b, c, d, blank) == wanted;
     }
     if a != blank && b != blank && c != blank && d != blank {
-        return mean_of_full_u8(a, b, c, d, blank) == wanted;
+        if mean_of_full_u8(a, b, c, d, blank) != wanted {
+            return false;
+        }
     }
-    true
-}
-
-#[test]
-fn means_of_8_bits(rt: HostRuntime) {
-    for (blank, four, wanted) in &MEANS_OF_8 {
-        assert!(rt;
-            have_mean_8(*blank, four, *wanted),
-            "{four:?}, blank {blank}"
-        );
-    }
+    mean_of_u8(a, b, c, d, blank) == wanted
 }
 
 // The same of numbers of 16 bits.
-static MEANS_OF_16: [(i16, [i16; 4], i16); 8] = [
-    (B16, [32767, 32767, 32767, 32767], 32767),
-    (B16, [-32767, -32767, -32767, -32767], -32767),
-    (0, [B16, B16, B16, B16], B16),
-    (B16, [B16, -32767, 32767, B16], 0),
-    (-1, [-3, 1, -2, 0], 0),
-    (-1, [-3, 1, -1, -1], 0),
-    (B16, [-1, -2, -3, -4], -2),
-    (B16, [1, B16, 1, 2], 1),
+static FOURS_OF_16: [(Combine, i16, [i16; 4], i16); 13] = [
+    (Mean, B16, [32767, 32767, 32767, 32767], 32767),
+    (Mean, B16, [-32767, -32767, -32767, -32767], -32767),
+    (Mean, 0, [B16, B16, B16, B16], B16),
+    (Mean, B16, [B16, -32767, 32767, B16], 0),
+    (Mean, -1, [-3, 1, -2, 0], 0),
+    (Mean, -1, [-3, 1, -1, -1], 0),
+    (Mean, B16, [-1, -2, -3, -4], -2),
+    (Mean, B16, [1, B16, 1, 2], 1),
+    (Median, B16, [5, 3, 2, 1], 2),
+    (Median, B16, [-1, -2, B16, B16], -2),
+    (Median, 0, [B16, 32767, 32767, 0], 32767),
+    (Median, B16, [32767, B16, B16, B16], 32767),
+    (Median, B16, [9, -4, B16, 0], 0),
 ];
 
-// Whether the four have that mean; four without a blank also by the form for such.
-fn have_mean_16(blank: i16, four: &[i16; 4], wanted: i16) -> bool {
+fn give_16(combine: Combine, blank: i16, four: &[i16; 4], wanted: i16) -> bool {
     let [a, b, c, d] = *four;
-    if mean_of_i16(a, b, c, d, blank) != wanted {
-        return false;
+    if combine == Median {
+        return median_of_i16(a, b, c, d, blank) == wanted;
     }
     if a != blank && b != blank && c != blank && d != blank {
-        return mean_of_full_i16(a, b, c, d, blank) == wanted;
+        if mean_of_full_i16(a, b, c, d, blank) != wanted {
+            return false;
+        }
     }
-    true
-}
-
-#[test]
-fn means_of_16_bits(rt: HostRuntime) {
-    for (blank, four, wanted) in &MEANS_OF_16 {
-        assert!(rt;
-            have_mean_16(*blank, four, *wanted),
-            "{four:?}, blank {blank}"
-        );
-    }
+    mean_of_i16(a, b, c, d, blank) == wanted
 }
 
 const MOST: i32 = 2147483647;
 
 // The same of numbers of 32 bits.
-static MEANS_OF_32: [(i32, [i32; 4], i32); 8] = [
-    (B32, [MOST, MOST, MOST, MOST], MOST),
-    (0, [B32, B32, B32, B32], B32),
-    (0, [B32, MOST, B32, MOST], 1),
-    (B32, [B32, -2147483647, MOST, B32], 0),
-    (7, [7, 6, 8, 7], 8),
-    (B32, [B32, B32, B32, B32], B32),
-    (B32, [-1, -2, -3, -4], -2),
-    (B32, [1, B32, 2, 2], 2),
+static FOURS_OF_32: [(Combine, i32, [i32; 4], i32); 12] = [
+    (Mean, B32, [MOST, MOST, MOST, MOST], MOST),
+    (Mean, 0, [B32, B32, B32, B32], B32),
+    (Mean, 0, [B32, MOST, B32, MOST], 1),
+    (Mean, B32, [B32, -2147483647, MOST, B32], 0),
+    (Mean, 7, [7, 6, 8, 7], 8),
+    (Mean, B32, [B32, B32, B32, B32], B32),
+    (Mean, B32, [-1, -2, -3, -4], -2),
+    (Mean, B32, [1, B32, 2, 2], 2),
+    (Median, B32, [5, 3, 2, 1], 2),
+    (Median, B32, [B32, B32, B32, B32], B32),
+    (Median, 1, [B32, 1, MOST, 1], B32),
+    (Median, B32, [4, 4, 4, B32], 4),
 ];
 
-// Whether the four have that mean; four without a blank also by the form for such.
-fn have_mean_32(blank: i32, four: &[i32; 4], wanted: i32) -> bool {
+fn give_32(combine: Combine, blank: i32, four: &[i32; 4], wanted: i32) -> bool {
     let [a, b, c, d] = *four;
-    if mean_of_i32(a, b, c, d, blank) != wanted {
-        return false;
+    if combine == Median {
+        return median_of_i32(a, b, c, d, blank) == wanted;
     }
     if a != blank && b != blank && c != blank && d != blank {
-        return mean_of_full_i32(a, b, c, d, blank) == wanted;
+        if mean_of_full_i32(a, b, c, d, blank) != wanted {
+            return false;
+        }
     }
-    true
+    mean_of_i32(a, b, c, d, blank) == wanted
 }
 
 #[test]
-fn means_of_32_bits(rt: HostRuntime) {
-    for (blank, four, wanted) in &MEANS_OF_32 {
+fn combines_four_of_each_width(rt: HostRuntime) {
+    for (combine, blank, four, wanted) in &FOURS_OF_8 {
         assert!(rt;
-            have_mean_32(*blank, four, *wanted),
+            give_8(*combine, *blank, four, *wanted),
             "{four:?}, blank {blank}"
         );
     }
-}
-
-// Each row: the blank number, four numbers of a width and their lower median.
-static MEDIANS_OF_8: [(u8, [u8; 4], u8); 5] = [
-    (255, [1, 2, 3, 5], 2),
-    (255, [255, 5, 1, 5], 5),
-    (0, [255, 0, 0, 255], 255),
-    (7, [7, 7, 7, 7], 7),
-    (7, [9, 8, 200, 7], 9),
-];
-
-static MEDIANS_OF_16: [(i16, [i16; 4], i16); 5] = [
-    (B16, [5, 3, 2, 1], 2),
-    (B16, [-1, -2, B16, B16], -2),
-    (0, [B16, 32767, 32767, 0], 32767),
-    (B16, [32767, B16, B16, B16], 32767),
-    (B16, [9, -4, B16, 0], 0),
-];
-
-static MEDIANS_OF_32: [(i32, [i32; 4], i32); 4] = [
-    (B32, [5, 3, 2, 1], 2),
-    (B32, [B32, B32, B32, B32], B32),
-    (1, [B32, 1, 2147483647, 1], B32),
-    (B32, [4, 4, 4, B32], 4),
-];
-
-// Whether the four have that lower median.
-fn have_median_8(blank: u8, four: &[u8; 4], wanted: u8) -> bool {
-    let [a, b, c, d] = *four;
-    median_of_u8(a, b, c, d, blank) == wanted
-}
-
-// Whether the four have that lower median.
-fn have_median_16(blank: i16, four: &[i16; 4], wanted: i16) -> bool {
-    let [a, b, c, d] = *four;
-    median_of_i16(a, b, c, d, blank) == wanted
-}
-
-// Whether the four have that lower median.
-fn have_median_32(blank: i32, four: &[i32; 4], wanted: i32) -> bool {
-    let [a, b, c, d] = *four;
-    median_of_i32(a, b, c, d, blank) == wanted
-}
-
-#[test]
-fn medians_of_each_width(rt: HostRuntime) {
-    for (blank, four, wanted) in &MEDIANS_OF_8 {
+    for (combine, blank, four, wanted) in &FOURS_OF_16 {
         assert!(rt;
-            have_median_8(*blank, four, *wanted),
+            give_16(*combine, *blank, four, *wanted),
             "{four:?}, blank {blank}"
         );
     }
-    for (blank, four, wanted) in &MEDIANS_OF_16 {
+    for (combine, blank, four, wanted) in &FOURS_OF_32 {
         assert!(rt;
-            have_median_16(*blank, four, *wanted),
-            "{four:?}, blank {blank}"
-        );
-    }
-    for (blank, four, wanted) in &MEDIANS_OF_32 {
-        assert!(rt;
-            have_median_32(*blank, four, *wanted),
+            give_32(*combine, *blank, four, *wanted),
             "{four:?}, blank {blank}"
         );
     }

@@ -1,5 +1,5 @@
 //! A history of plain numbers.
-ghost use Rattle.std.specs.Prelude.{◌≡◌};
+ghost use Rattle.std.specs.Prelude.{◌≡◌, ◌<◌};
 
 use shared_history::{Blank, Law, Naming, Seat, SharedHistory, Shown, Window};
 use std::alloc::{AllocError, Global};
@@ -49,6 +49,20 @@ fn more<J: Naming>(
     }
 }
 
+// Whether the window of a seat finds nothing that wasn't seen.
+fn finds_nothing<J: Naming>(
+    window: &mut Window<u64, Numbers, J>,
+    shown: &Shown<u64, Numbers, J>,
+    seat: usize,
+) -> bool
+    requires { seat < shown.now.seats }
+{
+    match window.look(shown, seat) {
+        Some(_more) => false,
+        None => true,
+    }
+}
+
 // Two numbers are appended by the other seat, and seen through a window.
 fn appended<J: Naming, R: Wait + Abort>(
     rt: &R,
@@ -56,38 +70,37 @@ fn appended<J: Naming, R: Wait + Abort>(
     seat: Seat<u64, Numbers, J>,
 ) -> Result<(), Fail> {
     let (number, mut window, first) = seat.into_parts();
-    assert!(rt; number == 1 && seen(&first) == (1, 7));
+    if number != 1 || seen(&first) != (1, 7) || first.seats() != 2 {
+        return Err("not the first number of two seats".into());
+    }
     check_first(rt, history, &mut window, &first)
 }
 
-// Only the first number was appended.
+// Only the first number was appended, and then a second.
 fn check_first<J: Naming, R: Wait + Abort>(
     rt: &R,
     history: &SharedHistory<u64, Numbers, J>,
     window: &mut Window<u64, Numbers, J>,
     first: &Shown<u64, Numbers, J>,
-) -> Result<(), Fail> {
-    if first.seats() != 2 {
-        return Err("not two seats".into());
-    }
-    assert!(rt; window.look(first, 1).is_none());
+) -> Result<(), Fail>
+    requires { first.now.seats ≡ 2 }
+{
+    assert!(rt; finds_nothing(window, first, 1));
     let second = add(rt, history, 0, 9)?;
     check_second(rt, history, window, first, &second)
 }
 
-// The second number was appended too, and wasn't looked for.
+// The second number was appended too, and wasn't looked for, and then a third.
 fn check_second<J: Naming, R: Wait + Abort>(
     rt: &R,
     history: &SharedHistory<u64, Numbers, J>,
     window: &mut Window<u64, Numbers, J>,
     first: &Shown<u64, Numbers, J>,
     second: &Shown<u64, Numbers, J>,
-) -> Result<(), Fail> {
-    assert!(rt; seen(second) == (2, 9));
+) -> Result<(), Fail>
+    requires { first.now.seats ≡ 2 }
+{
     add(rt, history, 0, 8)?;
-    if first.seats() != 2 {
-        return Err("not two seats".into());
-    }
     match window.look(first, 1) {
         Some(third) => check_third(rt, first, second, &third),
         None => Err("nothing was shown".into()),
@@ -101,11 +114,9 @@ fn check_third<J: Naming>(
     second: &Shown<u64, Numbers, J>,
     third: &Shown<u64, Numbers, J>,
 ) -> Result<(), Fail> {
-    assert!(rt; seen(third) == (3, 8));
-    assert!(rt; more(first, second, 1)? == Some((2, 9)));
-    assert!(rt; more(third, third, 0)?.is_none());
-    assert!(rt; more(third, second, 1).is_err());
-    assert!(rt; more(first, third, 0).is_err());
+    assert!(rt; seen(second) == (2, 9) && seen(third) == (3, 8));
+    assert!(rt; more(first, second, 1)? == Some((2, 9)) && more(third, third, 0)?.is_none());
+    assert!(rt; more(third, second, 1).is_err() && more(first, third, 0).is_err());
     Ok(())
 }
 
@@ -126,18 +137,19 @@ fn opened<J: Naming, R: Wait + Abort>(
     history.close(rt);
     told?;
     match seats.pop() {
-        Some(seat) => ended(rt, seat),
-        None => Err("no seat".into()),
+        Some(seat) => assert!(rt; ended(seat)),
+        None => return Err("no seat".into()),
     }
+    Ok(())
 }
 
 // Once the history has ended its window finds nothing, however often one looks, though less was seen than was shown.
-fn ended<J: Naming>(rt: &impl Abort, seat: Seat<u64, Numbers, J>) -> Result<(), Fail> {
+fn ended<J: Naming>(seat: Seat<u64, Numbers, J>) -> bool {
     let (number, mut window, first) = seat.into_parts();
-    assert!(rt; number == 0 && seen(&first) == (1, 7));
-    assert!(rt; window.look(&first, number).is_none());
-    assert!(rt; window.look(&first, number).is_none());
-    Ok(())
+    number == 0
+        && seen(&first) == (1, 7)
+        && finds_nothing(&mut window, &first, number)
+        && finds_nothing(&mut window, &first, number)
 }
 
 #[test]

@@ -8,22 +8,31 @@ use std::process::Abort;
 use std::sync::Arc;
 use std::test::Fail;
 
+// The number that is shared, if one is.
+fn number(shared: Option<Arc<u64>>) -> Option<u64> {
+    match shared {
+        Some(shared) => Some(*shared),
+        None => None,
+    }
+}
+
 // Puts the value at the key, or takes the key out where no value is given, and answers the old value.
 fn change(
     alloc: Global,
-    store: &mut Store<u8>,
+    store: &mut Store<u64>,
     key: u64,
-    value: Option<u8>,
-) -> Result<Option<u8>, AllocError> {
-    let old = match value {
-        Some(value) => store.put(key, Arc::new(alloc, value)?)?,
-        None => store.remove(key)?,
-    };
-    Ok(old.map(|shared| *shared))
+    value: Option<u64>,
+) -> Result<Option<u64>, AllocError> {
+    match value {
+        Some(value) => Ok(number(store.put(key, Arc::new(alloc, value)?)?)),
+        None => Ok(number(store.remove(key)?)),
+    }
 }
 
 // A key, the value that is put at it or none where it is taken out, its old value, and the pairs after the change.
-static CHANGES: [(u64, Option<u8>, Option<u8>, &str); 8] = [
+type ChangeRow = (u64, Option<u64>, Option<u64>, &'static str);
+
+static CHANGES: [ChangeRow; 8] = [
     (5, None, None, "{}"),
     (9, Some(1), None, "{9: 1}"),
     (4, Some(2), None, "{4: 2, 9: 1}"),
@@ -39,42 +48,60 @@ static CHANGES: [(u64, Option<u8>, Option<u8>, &str); 8] = [
     (0, Some(6), None, "{0: 6, 4: 5, 18446744073709551615: 3}"),
 ];
 
-// Whether the store is shown so.
-fn is_shown(alloc: Global, store: &Store<u8>, pairs: &str) -> Result<bool, AllocError> {
+// Whether the change of a row finds the old value, and the store is then shown so.
+fn changes(
+    alloc: Global,
+    store: &mut Store<u64>,
+    (key, value, old, pairs): &ChangeRow,
+) -> Result<bool, AllocError> {
+    let found = change(alloc, store, *key, *value)?;
     let shown = format!(in alloc; "{store:?}")?;
-    Ok(shown.as_str() == pairs)
+    Ok(found == *old && shown.as_str() == *pairs)
 }
 
-#[test]
-fn a_change_is_of_one_key(rt: HostRuntime) -> Result<(), Fail> {
-    let mut store = Store::new(rt.alloc());
-    for (key, value, old, pairs) in &CHANGES {
-        let found = change(rt.alloc(), &mut store, *key, *value)?;
-        assert!(rt; found == *old, "the old value before {pairs}");
-        assert!(rt; is_shown(rt.alloc(), &store, pairs)?, "{pairs}");
+fn check_changes(rt: &impl Abort, alloc: Global, store: &mut Store<u64>) -> Result<(), Fail> {
+    for row in &CHANGES {
+        assert!(rt; changes(alloc, store, row)?, "{row:?}");
     }
     Ok(())
 }
 
+#[test]
+fn a_change_is_of_one_key(rt: HostRuntime) -> Result<(), Fail> {
+    check_changes(&rt, rt.alloc(), &mut Store::new(rt.alloc()))
+}
+
 // The pairs of a store, by ascending key.
-const PAIRS: [(u64, u8); 3] = [(4, 2), (9, 1), (u64::MAX, 3)];
+static PAIRS: [(u64, u64); 3] = [(4, 2), (9, 1), (u64::MAX, 3)];
+
+// The store of these pairs.
+fn store_of(alloc: Global, pairs: &[(u64, u64)]) -> Result<Store<u64>, AllocError> {
+    let mut store = Store::new(alloc);
+    for (key, value) in pairs {
+        store.put(*key, Arc::new(alloc, *value)?)?;
+    }
+    Ok(store)
+}
 
 // The value of the key.
-fn value_of(store: &Store<u8>, key: u64) -> Option<u8> {
-    store.get(key).map(|shared| **shared)
+fn value_of(store: &Store<u64>, key: u64) -> Option<u64> {
+    match store.get(key) {
+        Some(shared) => Some(**shared),
+        None => None,
+    }
 }
 
 // Pair `i` by ascending key.
-fn pair_at(store: &Store<u8>, i: usize) -> Option<(u64, u8)> {
-    store.at(i).map(|(key, shared)| (key, **shared))
+fn pair_at(store: &Store<u64>, i: usize) -> Option<(u64, u64)> {
+    match store.at(i) {
+        Some((key, shared)) => Some((key, **shared)),
+        None => None,
+    }
 }
 
-fn check_pairs(rt: &impl Abort, store: &Store<u8>) {
-    for (i, (key, value)) in PAIRS.iter().enumerate() {
-        assert!(rt; pair_at(store, i) == Some((*key, *value)), "pair {i}");
-        assert!(rt; value_of(store, *key) == Some(*value), "key {key}");
-    }
-    assert!(rt; store.at(3).is_none() && store.get(5).is_none() && store.len() == 3);
+// Whether that is pair `i`.
+fn is_pair(store: &Store<u64>, i: usize, key: u64, value: u64) -> bool {
+    pair_at(store, i) == Some((key, value)) && value_of(store, key) == Some(value)
 }
 
 // From which key to below which other one there is one.
@@ -91,12 +118,15 @@ static RANGES: [(u64, u64, bool); 10] = [
     (0, u64::MAX, true),
 ];
 
-fn check_ranges(rt: &impl Abort, store: &Store<u8>) {
+// The store has the pairs and no others.
+fn check_pairs(rt: &impl Abort, store: &Store<u64>) {
+    for (i, (key, value)) in PAIRS.iter().enumerate() {
+        assert!(rt; is_pair(store, i, *key, *value), "pair {i}");
+    }
+    assert!(rt; store.at(3).is_none() && store.get(5).is_none() && store.len() == 3);
     for (low, high, found) in &RANGES {
-        assert!(rt;
-            store.any_in(*low, *high) == *found,
-            "from {low} to below {high}"
-        );
+        let is_there = store.any_in(*low, *high);
+        assert!(rt; is_there == *found, "from {low} to below {high}");
     }
 }
 
@@ -105,40 +135,45 @@ fn crosses_threads<S: Send + Sync>(_store: &S) {}
 
 #[test]
 fn pairs_are_found(rt: HostRuntime) -> Result<(), Fail> {
-    let mut store = Store::new(rt.alloc());
-    for (key, value) in PAIRS {
-        change(rt.alloc(), &mut store, key, Some(value))?;
-    }
-    check_pairs(&rt, &store);
-    check_ranges(&rt, &store);
+    let store = store_of(rt.alloc(), &PAIRS)?;
     crosses_threads(&store);
+    check_pairs(&rt, &store);
     Ok(())
 }
 
-// A store of the keys below 1,000, each with its last digit.
-fn last_digits(alloc: Global) -> Result<Store<u8>, AllocError> {
+// A store of the keys below a count, each from the one before by a step, and each with its last digit.
+fn filled(alloc: Global, count: u64, step: u64) -> Result<Store<u64>, AllocError>
+    requires { 0 < count }
+{
     let mut store = Store::new(alloc);
-    for key in 0..1000 {
-        change(alloc, &mut store, key, Some((key % 10) as u8))?;
+    for i in 0..count {
+        let key = i.wrapping_mul(step) % count;
+        store.put(key, Arc::new(alloc, key % 10)?)?;
     }
     Ok(store)
 }
 
-#[test]
-fn a_shared_store_changes_alone(rt: HostRuntime) -> Result<(), Fail> {
-    let store = last_digits(rt.alloc())?;
-    let mut other = store.share()?;
-    let taken = change(rt.alloc(), &mut other, 500, None)?;
-    assert!(rt; taken == Some(0));
-    let _ = change(rt.alloc(), &mut other, 1000, Some(7))?;
-    check_shares(&rt, &store, &other);
+// The store of the keys below 1,000 stays as it is while its share is changed.
+fn check_share(
+    rt: &impl Abort,
+    alloc: Global,
+    store: &Store<u64>,
+    share: &mut Store<u64>,
+) -> Result<(), Fail> {
+    assert!(rt; change(alloc, share, 500, None)? == Some(0));
+    assert!(rt; change(alloc, share, 1000, Some(7))?.is_none());
+    assert!(rt; store.len() == 1000 && value_of(store, 500) == Some(0));
+    assert!(rt;
+        share.len() == 1000 && value_of(share, 500).is_none() && is_pair(share, 999, 1000, 7)
+    );
     Ok(())
 }
 
-fn check_shares(rt: &impl Abort, store: &Store<u8>, other: &Store<u8>) {
-    assert!(rt; store.len() == 1000 && value_of(store, 500) == Some(0));
-    assert!(rt; other.len() == 1000 && value_of(other, 500).is_none());
-    assert!(rt; pair_at(other, 999) == Some((1000, 7)));
+#[test]
+fn a_shared_store_changes_alone(rt: HostRuntime) -> Result<(), Fail> {
+    let store = filled(rt.alloc(), 1000, 1)?;
+    let mut share = store.share()?;
+    check_share(&rt, rt.alloc(), &store, &mut share)
 }
 
 // Numbers that look like chance, and are the same at each run.
@@ -171,15 +206,6 @@ impl Chance {
     }
 }
 
-// Whether both are the same value, or neither is there.
-fn are_same(pages: &Option<Arc<u64>>, plain: &Option<Arc<u64>>) -> bool {
-    match (pages, plain) {
-        (Some(pages), Some(plain)) => **pages == **plain,
-        (None, None) => true,
-        _ => false,
-    }
-}
-
 // A store and the plain one, to which the same is done.
 #[derive(Drop)]
 struct Both {
@@ -204,16 +230,14 @@ impl Both {
 
     // Puts the value at the key, and answers whether both had the same one there.
     fn put(&mut self, key: u64, shared: Arc<u64>) -> Result<bool, AllocError> {
-        let plain = self.plain.put(key, shared.clone()?)?;
-        let pages = self.pages.put(key, shared)?;
-        Ok(are_same(&pages, &plain))
+        let plain = number(self.plain.put(key, shared.clone()?)?);
+        Ok(number(self.pages.put(key, shared)?) == plain)
     }
 
     // Takes the key out, and answers whether both had the same value there.
     fn remove(&mut self, key: u64) -> Result<bool, AllocError> {
-        let plain = self.plain.remove(key)?;
-        let pages = self.pages.remove(key)?;
-        Ok(are_same(&pages, &plain))
+        let plain = number(self.plain.remove(key)?);
+        Ok(number(self.pages.remove(key)?) == plain)
     }
 
     // Whether a key from `low` to below `high` is in both, or in neither.
@@ -233,14 +257,19 @@ impl Both {
         Ok(same && self.same_range(key, key.saturating_add(2)) && self.same_range(key, end))
     }
 
+    // Whether both have the value at the key, which is pair `i` of the pages.
+    fn have(&self, i: usize, key: u64, value: u64) -> bool {
+        match self.plain.get(key) {
+            Some(plain) => **plain == value && is_pair(&self.pages, i, key, value),
+            None => false,
+        }
+    }
+
     // Whether both have the same pairs, each by its key, by its place and in turn.
     fn same(&self) -> bool {
         let mut seen = 0usize;
         for (key, shared) in &self.pages {
-            let at = self.pages.at(seen).map(|(key, shared)| (key, **shared));
-            let plain = self.plain.get(key).map(|shared| **shared);
-            let found = self.pages.get(key).map(|shared| **shared);
-            if at != Some((key, **shared)) || plain != found || found != Some(**shared) {
+            if !self.have(seen, key, **shared) {
                 return false;
             }
             seen = seen.saturating_add(1);
@@ -250,7 +279,7 @@ impl Both {
 }
 
 // So many changes of keys below a bound, two puts for each removal, or two removals for each put.
-const RUNS: [(u64, u64, bool); 6] = [
+static RUNS: [(u64, u64, bool); 6] = [
     (300, 40, true),
     (20_000, 12_000, true),
     (6_000, 9_000, true),
@@ -259,13 +288,13 @@ const RUNS: [(u64, u64, bool); 6] = [
     (9_000, 300, true),
 ];
 
+// Makes the changes of a run, and answers whether both answer the same at each, and have the same pairs after them.
 fn run(
     alloc: Global,
     both: &mut Both,
     chance: &mut Chance,
-    run: (u64, u64, bool),
+    (changes, bound, grows): (u64, u64, bool),
 ) -> Result<bool, AllocError> {
-    let (changes, bound, grows) = run;
     for i in 0..changes {
         let key = chance.key(bound);
         let value = chance.value(i, grows);
@@ -273,7 +302,25 @@ fn run(
             return Ok(false);
         }
     }
-    Ok(true)
+    Ok(both.same())
+}
+
+// Makes the runs, and keeps a share from before each.
+fn check_runs(
+    rt: &impl Abort,
+    alloc: Global,
+    both: &mut Both,
+    kept: &mut Vec<Both>,
+) -> Result<(), Fail> {
+    let mut chance = Chance(2026);
+    for (i, changes) in RUNS.iter().enumerate() {
+        kept.push(both.share()?)?;
+        assert!(rt; run(alloc, both, &mut chance, *changes)?, "run {i}");
+    }
+    for (i, old) in kept.iter().enumerate() {
+        assert!(rt; old.same(), "the share before run {i}");
+    }
+    Ok(())
 }
 
 #[test]
@@ -282,33 +329,19 @@ fn pages_answer_as_the_ordered_map_does(rt: HostRuntime) -> Result<(), Fail> {
         pages: Store::new(rt.alloc()),
         plain: PlainStore::new(rt.alloc()),
     };
-    let mut chance = Chance(2026);
-    let mut kept = Vec::new(rt.alloc());
-    for (i, changes) in RUNS.iter().enumerate() {
-        kept.push(both.share()?)?;
-        assert!(rt;
-            run(rt.alloc(), &mut both, &mut chance, *changes)?,
-            "run {i}"
-        );
-        assert!(rt; both.same(), "after run {i}");
-    }
-    for (i, old) in kept.iter().enumerate() {
-        assert!(rt; old.same(), "the share before run {i}");
-    }
-    Ok(())
+    check_runs(&rt, rt.alloc(), &mut both, &mut Vec::new(rt.alloc()))
 }
 
 // The keys below a prime, each from the one before by a step: ascending, descending and scattered.
 const PRIME: u64 = 9001;
 
-const STEPS: [u64; 3] = [1, PRIME - 1, 1999];
+static STEPS: [u64; 3] = [1, PRIME - 1, 1999];
 
 // Whether the store has each key below the prime in its place.
-fn has_all(store: &Store<u8>) -> bool {
+fn has_all(store: &Store<u64>) -> bool {
     let mut next = 0;
-    for (key, _) in store {
-        let at = store.at(key as usize).map(|(key, _)| key);
-        if key != next || at != Some(key) {
+    for (key, shared) in store {
+        if key != next || pair_at(store, key as usize) != Some((key, **shared)) {
             return false;
         }
         next = next.saturating_add(1);
@@ -316,35 +349,25 @@ fn has_all(store: &Store<u8>) -> bool {
     next == PRIME && store.len() as u64 == PRIME
 }
 
-// A store of each key below the prime, put in by this step.
-fn filled(alloc: Global, step: u64) -> Result<Store<u8>, AllocError> {
-    let mut store = Store::new(alloc);
-    for i in 0..PRIME {
-        change(alloc, &mut store, i.wrapping_mul(step) % PRIME, Some(1))?;
-    }
-    Ok(store)
-}
-
-// Takes each key below the prime out by this step.
-fn empty(alloc: Global, store: &mut Store<u8>, step: u64) -> Result<(), AllocError> {
-    for i in 0..PRIME {
-        change(alloc, store, i.wrapping_mul(step) % PRIME, None)?;
-    }
-    Ok(())
-}
-
 // Whether the store has each key below the prime, and none once they are taken out by this step.
-fn is_emptied(alloc: Global, store: &mut Store<u8>, step: u64) -> Result<bool, AllocError> {
+fn is_emptied(store: &mut Store<u64>, step: u64) -> Result<bool, AllocError> {
     let had_all = has_all(store);
-    empty(alloc, store, step)?;
+    for i in 0..PRIME {
+        store.remove(i.wrapping_mul(step) % PRIME)?;
+    }
     Ok(had_all && store.at(0).is_none() && store.len() == 0)
+}
+
+// Whether the keys go in and out by this step.
+fn go_in_and_out(alloc: Global, step: u64) -> Result<bool, AllocError> {
+    let mut store = filled(alloc, PRIME, step)?;
+    is_emptied(&mut store, step)
 }
 
 #[test]
 fn keys_go_in_and_out_in_any_order(rt: HostRuntime) -> Result<(), Fail> {
-    for step in STEPS {
-        let mut store = filled(rt.alloc(), step)?;
-        assert!(rt; is_emptied(rt.alloc(), &mut store, step)?, "step {step}");
+    for step in &STEPS {
+        assert!(rt; go_in_and_out(rt.alloc(), *step)?, "step {step}");
     }
     Ok(())
 }
