@@ -5,7 +5,7 @@ ghost use Rattle.healpix_nested.specs.Cells.{cell_count};
 ghost use Rattle.edit_journal.specs.Leaves.{FitsTile};
 
 use crate::clocks::spent_since;
-use crate::survey::{leaf_of, leaf_tile};
+use crate::survey::leaf_of;
 use edit_journal::Edit;
 use generation::Generation;
 use std::alloc::Global;
@@ -25,25 +25,13 @@ const STEP: u64 = 40503;
 
 const LEAVES: u64 = 65536;
 
-/// The least nanoseconds of processor time of accepting one edit, as a mean over many, each of which puts a tile on one of the
+/// The least nanoseconds of processor time of accepting one edit, as a mean over many, each of which puts the tile on one of the
 /// first 65,536 leaves. Of the states only the newest is kept.
 ///
 /// # Errors
 ///
 /// Where there is no memory, or no clock, or the survey takes no more edits.
 pub fn time_edits<R: CpuClock>(
-    rt: &R,
-    alloc: Global,
-    generation: &Arc<Generation>,
-) -> io::Result<u128>
-    requires { (arc_value generation.now).prefix ≡ 0 }
-{
-    let tile = leaf_tile(alloc, generation.conf().shape(), 1, 1)?;
-    time_rounds(rt, alloc, generation, &tile)
-}
-
-// The least of all rounds.
-fn time_rounds<R: CpuClock>(
     rt: &R,
     alloc: Global,
     generation: &Arc<Generation>,

@@ -3,32 +3,31 @@ ghost use Rattle.std.specs.Prelude.{◌≡◌, IfOk};
 ghost use Rattle.edit_journal.specs.Leaves.{FitsTile};
 
 use crate::clocks::spent_since;
+use crate::line::{Figure, print_line};
 use crate::tiles::small_tile;
 use edit_journal::{Edit, Journal};
 use leaf_store::Store;
 use parent_rule::Depth;
 use pyramid_model::Shape;
 use std::alloc::Global;
-use std::io::ErrorKind;
+use std::fs::Files;
+use std::io::{ErrorKind, Print};
 use std::sync::Arc;
 use std::time::{CpuClock, Duration};
 use std::{fs, io};
 use tile_pixels::Tile;
 
-/// The nanoseconds of processor time of all edits, and the most memory that the process has held, in kilobytes.
-#[derive(Clone, Copy)]
-pub struct JournalTimes {
-    pub processor: u128,
-    pub held: u64,
-}
-
-/// Times so many edits, each of which puts one shared tile of 8 bytes on leaf 0.
+/// Prints the nanoseconds of processor time of so many edits, each of which puts one shared tile of 8 bytes on leaf 0, for each
+/// edit; and the most memory that the process has held, in kilobytes.
 ///
 /// # Errors
 ///
-/// Where there is no memory, no clock or no account of the memory, or a journal takes no more edits.
-pub fn time_journal(rt: &HostRuntime, edits: u32) -> io::Result<JournalTimes> {
-    let alloc = rt.alloc();
+/// Where there is no memory, no clock or no account of the memory, or a journal takes no more edits, or the output no more.
+pub fn print_journals<R: CpuClock + Files + AllocGlobal + Print>(
+    rt: &R,
+    alloc: Global,
+    edits: u32,
+) -> io::Result<()> {
     let depth = Depth::new(16, 0).ok_or(io::Error::from(ErrorKind::InvalidData))?;
     let shape = Shape {
         top: 3,
@@ -41,27 +40,37 @@ pub fn time_journal(rt: &HostRuntime, edits: u32) -> io::Result<JournalTimes> {
 }
 
 // Times so many edits of leaf 0 of a survey of that shape.
-fn time_edits(
-    rt: &HostRuntime,
+fn time_edits<R: CpuClock + Files + AllocGlobal + Print>(
+    rt: &R,
     alloc: Global,
     shape: Shape,
     tile: &Arc<Tile>,
     edits: u32,
-) -> io::Result<JournalTimes>
+) -> io::Result<()>
     requires { FitsTile shape tile.now.value }
 {
     let start = rt.process_cpu_time()?;
     let journals = journals(alloc, shape, tile, edits)?;
-    let times = times_since(rt, start);
+    let printed = print_since(rt, start, edits);
     drop(journals);
-    times
+    printed
 }
 
-// What the process took since the start, and has held.
-fn times_since(rt: &HostRuntime, start: Duration) -> io::Result<JournalTimes> {
-    let processor = spent_since(rt, start)?;
+// What the process took for so many edits since the start, and has held.
+fn print_since<R: CpuClock + Files + AllocGlobal + Print>(
+    rt: &R,
+    start: Duration,
+    edits: u32,
+) -> io::Result<()> {
+    let took = spent_since(rt, start)?;
     let held = most_held(rt)?;
-    Ok(JournalTimes { processor, held })
+    print_line(
+        rt,
+        &[
+            Figure::Each(took, u128::from(edits)),
+            Figure::Whole(u128::from(held)),
+        ],
+    )
 }
 
 // The journal with no edit, and those after each edit.
@@ -104,21 +113,13 @@ fn after_one(journal: &Journal, tile: &Arc<Tile>) -> io::Result<Journal>
 }
 
 // The most kilobytes that the process has held, as Linux tells it.
-fn most_held(rt: &HostRuntime) -> io::Result<u64> {
+fn most_held<R: Files + AllocGlobal>(rt: &R) -> io::Result<u64> {
     let status = fs::read_to_string(rt, "/proc/self/status")?;
     most_in(status.as_str()).ok_or(io::Error::from(ErrorKind::InvalidData))
 }
 
-// The number of the line of the most memory.
+// The number behind the name of the most memory.
 fn most_in(status: &str) -> Option<u64> {
-    for line in status.lines() {
-        if let Some(rest) = line.strip_prefix("VmHWM:") {
-            return first_number(rest);
-        }
-    }
-    None
-}
-
-fn first_number(text: &str) -> Option<u64> {
-    text.split_whitespace().next()?.parse::<u64>().ok()
+    let (_, rest) = status.split_once("VmHWM:")?;
+    rest.split_whitespace().next()?.parse::<u64>().ok()
 }

@@ -3,14 +3,16 @@ ghost use Rattle.std.specs.Prelude.{◌≡◌, IfOk, All, length, vec_len, vec_c
 ghost use Rattle.rebuild_worker.specs.Level.{IsAboveLeaves, HaveShape};
 
 use crate::clocks::{Started, Took, passed_since};
+use crate::line::{Figure, print_line};
 use crate::survey::{sky, sky_shape};
-use crate::tiles::sum_after;
+use crate::tiles::{PIXELS, sum_after};
 use leaf_store::Store;
 use parent_rule::{Depth, Permit, Steps};
 use pyramid_model::Shape;
 use rebuild_worker::{Named, level_parallel, level_serial};
 use std::alloc::{AllocError, Global};
 use std::io;
+use std::io::Print;
 use std::thread::Threads;
 use std::time::{Clock, CpuClock, Instant};
 use survey_link::OpenGate;
@@ -20,59 +22,56 @@ const ROUNDS: u32 = 8;
 
 const MERGES: u64 = 192;
 
-/// The tiles that a level makes.
-pub const TILES: u128 = 192;
+// The pixels that a level makes.
+const MADE: u128 = 192 * PIXELS as u128;
 
-/// The least nanoseconds that a level took, by the clock on the wall and of processor time, and a sum of the bytes of its
-/// tiles.
-#[derive(Clone, Copy)]
-pub struct LevelTimes {
-    pub processor: u128,
-    pub serial: u128,
-    pub parallel: u128,
-    pub sum: u32,
-}
-
-/// Times both functions by turns.
+/// Prints the least nanoseconds that a level took, for each pixel: by one worker, of processor time and by the clock on the wall,
+/// and by many; and a sum of the bytes of its tiles. Both are timed by turns.
 ///
 /// # Errors
 ///
-/// Where there is no memory, or no clock.
-pub fn time_level<R: Clock + CpuClock + Threads + Sync>(
+/// Where there is no memory, or no clock, or the output takes no more.
+pub fn print_level<R: Clock + CpuClock + Threads + Print + Sync>(
     rt: &R,
     alloc: Global,
     depth: Depth,
     blanks: u32,
-) -> io::Result<LevelTimes> {
+) -> io::Result<()> {
     let tiles = sky(alloc, depth, blanks)?;
-    time_rounds(rt, alloc, sky_shape(depth), &tiles)
+    print_rounds(rt, alloc, sky_shape(depth), &tiles)
 }
 
 // The least of all rounds.
-fn time_rounds<R: Clock + CpuClock + Threads + Sync>(
+fn print_rounds<R: Clock + CpuClock + Threads + Print + Sync>(
     rt: &R,
     alloc: Global,
     shape: Shape,
     tiles: &Store<Tile>,
-) -> io::Result<LevelTimes>
+) -> io::Result<()>
     requires top { shape.top ≡ 3 }
     requires tiles { HaveShape shape tiles.now }
 {
-    let mut times = LevelTimes {
-        processor: u128::MAX,
-        serial: u128::MAX,
-        parallel: u128::MAX,
-        sum: 0,
-    };
+    let mut processor = u128::MAX;
+    let mut wall = u128::MAX;
+    let mut parallel = u128::MAX;
+    let mut sum = 0;
     for _ in 0..ROUNDS {
         let serial = time_serial(rt, alloc, shape, tiles)?;
-        times.processor = times.processor.min(serial.processor);
-        times.serial = times.serial.min(serial.wall);
-        let (parallel, sum) = time_parallel(rt, alloc, shape, tiles)?;
-        times.parallel = times.parallel.min(parallel);
-        times.sum = sum;
+        processor = processor.min(serial.processor);
+        wall = wall.min(serial.wall);
+        let (took, of_level) = time_parallel(rt, alloc, shape, tiles)?;
+        parallel = parallel.min(took);
+        sum = of_level;
     }
-    Ok(times)
+    print_line(
+        rt,
+        &[
+            Figure::Each(processor, MADE),
+            Figure::Each(wall, MADE),
+            Figure::Each(parallel, MADE),
+            Figure::Whole(u128::from(sum)),
+        ],
+    )
 }
 
 // What a level takes by one worker.

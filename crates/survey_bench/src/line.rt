@@ -3,25 +3,21 @@ use std::fmt::{self, Display, Formatter, Write};
 use std::io;
 use std::io::Print;
 
-/// A number of a line: a whole one, or hundredths, which are shown with two digits behind the point.
+/// A number of a line: a whole one, or nanoseconds for each of so many pieces, shown with two digits behind the point.
 #[derive(Clone, Copy)]
 pub enum Figure {
     Whole(u128),
-    Hundredths(u128),
-}
-
-impl Figure {
-    /// How many nanoseconds fall to each of some pieces.
-    pub fn each(nanos: u128, pieces: u128) -> Figure {
-        Figure::Hundredths(nanos.saturating_mul(100) / pieces.max(1))
-    }
+    Each(u128, u128),
 }
 
 impl Display for Figure {
     fn fmt<W: Write>(&self, f: &mut Formatter<W>) -> fmt::Result {
         match self {
             Figure::Whole(number) => write!(f, "{number}"),
-            Figure::Hundredths(count) => write!(f, "{}.{:02}", count / 100, count % 100),
+            Figure::Each(nanos, pieces) => {
+                let count = nanos.saturating_mul(100) / (*pieces).max(1);
+                write!(f, "{}.{:02}", count / 100, count % 100)
+            }
         }
     }
 }

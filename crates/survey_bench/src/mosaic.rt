@@ -6,6 +6,7 @@ ghost use Rattle.allsky_mosaic.specs.Tiles.{AreOfOrder3, IsMosaic, order_3, leaf
 ghost use Rattle.tile_pixels.specs.Tile.{HasShape};
 
 use crate::clocks::{Started, spent_since};
+use crate::line::{Figure, print_line};
 use crate::survey::{leaf_tile, sky, sky_shape};
 use crate::tiles::{N, sum_after};
 use allsky_mosaic::{patch, whole};
@@ -13,7 +14,7 @@ use leaf_store::Store;
 use parent_rule::Depth;
 use std::alloc::Global;
 use std::io;
-use std::io::ErrorKind;
+use std::io::{ErrorKind, Print};
 use std::sync::Arc;
 use std::thread::Threads;
 use std::time::{Clock, CpuClock, Duration};
@@ -24,42 +25,43 @@ const ROUNDS: u32 = 5;
 // The cell whose tile is replaced.
 const REPLACED: u64 = 400;
 
-/// The numbers of a mosaic of 1,728 by 1,856.
-pub const NUMBERS: u128 = 3207168;
+// The numbers of a mosaic of 1,728 by 1,856.
+const NUMBERS: u128 = 3207168;
 
-/// The least nanoseconds that a mosaic took, of processor time and by the clock on the wall, those of one that is patched,
-/// and a sum of the bytes of both.
+// The nanoseconds that a mosaic took, of processor time and by the clock on the wall, those of one that is patched, and a sum of
+// the bytes of both.
 #[derive(Clone, Copy)]
-pub struct MosaicTimes {
-    pub processor: u128,
-    pub wall: u128,
-    pub patch: u128,
-    pub sum: u32,
+struct MosaicTimes {
+    processor: u128,
+    wall: u128,
+    patch: u128,
+    sum: u32,
 }
 
-/// Times both functions by turns.
+/// Prints the least nanoseconds of a mosaic, for each of its numbers, and a sum of the bytes: as a whole, of processor time and by
+/// the clock on the wall, and where it is patched, of processor time. Both are timed by turns.
 ///
 /// # Errors
 ///
-/// Where there is no memory, or no clock.
-pub fn time_mosaic<R: Clock + CpuClock + Threads + Sync>(
+/// Where there is no memory, or no clock, or the output takes no more.
+pub fn print_mosaic<R: Clock + CpuClock + Threads + Print + Sync>(
     rt: &R,
     alloc: Global,
     depth: Depth,
     blanks: u32,
-) -> io::Result<MosaicTimes> {
+) -> io::Result<()> {
     let tiles = sky(alloc, depth, blanks)?;
-    time_rounds(rt, alloc, depth, blanks, &tiles)
+    print_rounds(rt, alloc, depth, blanks, &tiles)
 }
 
 // The least of all rounds.
-fn time_rounds<R: Clock + CpuClock + Threads + Sync>(
+fn print_rounds<R: Clock + CpuClock + Threads + Print + Sync>(
     rt: &R,
     alloc: Global,
     depth: Depth,
     blanks: u32,
     tiles: &Store<Tile>,
-) -> io::Result<MosaicTimes>
+) -> io::Result<()>
     requires { AreOfOrder3 depth 9 tiles.now }
 {
     let mut times = MosaicTimes {
@@ -75,7 +77,15 @@ fn time_rounds<R: Clock + CpuClock + Threads + Sync>(
         times.patch = times.patch.min(round.patch);
         times.sum = round.sum;
     }
-    Ok(times)
+    print_line(
+        rt,
+        &[
+            Figure::Each(times.processor, NUMBERS),
+            Figure::Each(times.wall, NUMBERS),
+            Figure::Each(times.patch, NUMBERS),
+            Figure::Whole(u128::from(times.sum)),
+        ],
+    )
 }
 
 // A mosaic as a whole, and one that is patched.

@@ -32,25 +32,14 @@ pub fn depth(bits: &str, way: &str) -> Option<Depth> {
         "median" => Combine::Median,
         _ => return None,
     };
-    let depth = match bits {
-        "8" => Depth::new(8, 255)?,
-        "16" => Depth::new(16, i64::from(i16::MIN))?,
-        "32" => Depth::new(32, i64::from(i32::MIN))?,
-        "64" => Depth::new(64, i64::MIN)?,
+    let (bitpix, blank) = match bits {
+        "8" => (8, 255),
+        "16" => (16, i64::from(i16::MIN)),
+        "32" => (32, i64::from(i32::MIN)),
+        "64" => (64, i64::MIN),
         _ => return None,
     };
-    Some(depth.with(way))
-}
-
-/// The tile of a seed.
-///
-/// # Errors
-///
-/// Where there is no memory for it.
-pub fn child(alloc: Global, depth: Depth, blanks: u32, seed: u32) -> io::Result<Tile>
-    ensures { IfOk result (λ tile. HasShape tile depth 9) }
-{
-    seeded(alloc, depth, N, blanks, seed)
+    Some(Depth::new(bitpix, blank)?.with(way))
 }
 
 /// The tile of a seed, of `2^n` columns and lines.

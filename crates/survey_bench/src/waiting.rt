@@ -1,25 +1,22 @@
 //! How long a publication keeps the edits of another board waiting.
-ghost use Rattle.std.specs.Prelude.{◌≡◌, []};
-ghost use Rattle.pyramid_model.specs.Shape.{IsShape};
-
+use crate::boards::{Times, Work, at_once, do_work};
 use crate::clocks::passed_since;
 use crate::edits::opened;
+use crate::line::{Figure, print_line};
 use crate::survey::{FULL, FULL_LEAVES, first_generation};
-use crate::workers::{Worker, is_accepted, workers};
+use crate::workers::{Worker, is_accepted};
 use edit_journal::Edit;
 use parent_rule::Steps;
-use pyramid_model::Shape;
-use reader_pin::{Board, ChangedWith, Published, Survey, SurveyBook, SurveySeat, open_shared};
+use reader_pin::{ChangedWith, Published, SurveyBook};
 use shared_history::Naming;
 use std::alloc::Global;
 use std::io;
-use std::io::ErrorKind;
+use std::io::{ErrorKind, Print};
 use std::marker::Brand;
 use std::sync::Wait;
 use std::sync::atomic::{AtomicU64, Ordering};
-use std::thread::{Threads, for_each_mut, yield_now};
+use std::thread::{Threads, yield_now};
 use std::time::{Clock, Instant};
-use survey_core::State;
 use survey_link::OpenGate;
 
 // A survey of 768 such leaves takes 256 edits; a round makes two.
@@ -33,135 +30,76 @@ const BEGUN: u64 = 1;
 
 const ENDED: u64 = 2;
 
-/// The least nanoseconds of a publication of one leaf, alone and while another board calls; and of the longest of that board's
-/// calls, while the publication went on and of as many calls alone.
-#[derive(Clone, Copy)]
-pub struct WaitTimes {
-    pub alone: u128,
-    pub beside: u128,
-    pub wait: u128,
-    pub call: u128,
-    /// How many calls were answered while the publication with the least `wait` went on.
-    pub calls: u32,
-}
-
-/// Times publications of one leaf in a full sky of order 3, of 768 leaves of 512 by 512. The calls of the other board are edits
-/// that add a leaf which is there: each takes the survey's lock, is refused, and makes no event.
+/// Prints the least nanoseconds of a publication of one leaf in a full sky of order 3, of 768 leaves of 512 by 512, alone and while
+/// another board calls; of the longest of that board's calls, while the publication goes on and of as many calls alone; and how
+/// many were answered while it went on. These calls are edits that add a leaf which is there: each takes the survey's lock, is
+/// refused, and makes no event.
 ///
 /// # Errors
 ///
-/// Where there is no memory, or no clock, or no call of the other board was ever answered while a publication went on.
-pub fn time_waits<R: Clock + Threads + Wait + Sync>(
+/// Where there is no memory, or no clock, or no call of the other board was ever answered while a publication went on, or the output
+/// takes no more.
+pub fn print_waits<R: Clock + Threads + Wait + Print + Sync>(
     rt: &R,
     alloc: Global,
-) -> io::Result<WaitTimes> {
+) -> io::Result<()> {
     let state = opened(alloc, &first_generation(rt, alloc, FULL, FULL_LEAVES)?)?;
-    let times = waits::<Brand, R>(rt, alloc, SurveyBook::new(), state)?;
+    let mut times = Times::new();
+    let book = SurveyBook::new();
+    do_work::<Brand, R>(rt, alloc, book, state, 2, Work::Publications, &mut times)?;
     if times.calls == 0 {
         return Err(io::Error::from(ErrorKind::TimedOut));
     }
-    Ok(times)
-}
-
-// Opens the survey with two places, and ends it.
-fn waits<J: Naming + Send + Sync, R: Clock + Threads + Wait + Sync>(
-    rt: &R,
-    alloc: Global,
-    book: SurveyBook,
-    state: State,
-) -> io::Result<WaitTimes>
-    requires book { book ≡ J.book }
-    requires first { state.batches ≡ [] }
-{
-    let shape = state.conf().shape();
-    let (survey, seats): (Survey<J>, Vec<SurveySeat<J>>) = open_shared(rt, alloc, book, state, 2)?;
-    let times = at_places(rt, alloc, &survey, seats, shape);
-    survey.close(rt);
-    times
-}
-
-// The rounds of two places of a survey of that shape.
-fn at_places<J: Naming + Send + Sync, R: Clock + Threads + Wait + Sync>(
-    rt: &R,
-    alloc: Global,
-    survey: &Survey<J>,
-    seats: Vec<SurveySeat<J>>,
-    shape: Shape,
-) -> io::Result<WaitTimes>
-    requires { IsShape shape.top shape.low shape.n }
-{
-    let mut workers = workers(alloc, survey, seats, shape, 1000)?;
-    rounds(rt, workers.as_mut_slice()).ok_or(io::Error::from(ErrorKind::Unsupported))
-}
-
-// All rounds.
-fn rounds<'a, J: Naming + Send + Sync, R: Clock + Threads + Wait + Sync>(
-    rt: &R,
-    workers: &mut [Worker<'a, J>],
-) -> Option<WaitTimes> {
-    let mut times = WaitTimes {
-        alone: u128::MAX,
-        beside: u128::MAX,
-        wait: u128::MAX,
-        call: u128::MAX,
-        calls: 0,
-    };
-    for at in 0..ROUNDS {
-        round(rt, workers, at, &mut times)?;
-    }
-    Some(times)
-}
-
-// A publication alone, one beside the calls of the other board, and as many calls alone.
-fn round<'a, J: Naming + Send + Sync, R: Clock + Threads + Wait + Sync>(
-    rt: &R,
-    workers: &mut [Worker<'a, J>],
-    at: u64,
-    times: &mut WaitTimes,
-) -> Option<()> {
-    let first = at.wrapping_mul(2);
-    let alone = publish(rt, workers.first_mut()?, first, &AtomicU64::new(0))?;
-    times.alone = times.alone.min(alone);
-    both_at_once(rt, workers, first.wrapping_add(1));
-    times.beside = times.beside.min(workers.first()?.nanos?);
-    calls_alone(rt, workers.last_mut()?, times)
-}
-
-// The first board publishes in a thread of its own, while the other one calls.
-fn both_at_once<'a, J: Naming + Send + Sync, R: Clock + Threads + Wait + Sync>(
-    rt: &R,
-    workers: &mut [Worker<'a, J>],
-    edit: u64,
-) {
-    let stage = AtomicU64::new(0);
-    for_each_mut(
+    print_line(
         rt,
-        workers,
-        2,
-        &|place, worker| { worker.nanos = part(rt, place, worker, edit, &stage) },
-    );
+        &[
+            Figure::Whole(times.alone),
+            Figure::Whole(times.beside),
+            Figure::Whole(times.part_beside),
+            Figure::Whole(times.part_alone),
+            Figure::Whole(u128::from(times.calls)),
+        ],
+    )
 }
 
-// As many calls alone as the other board has made beside the publication.
-fn calls_alone<'a, J: Naming, R: Clock + Wait>(
+/// All rounds: a publication alone, one beside the calls of the other board, and as many calls alone.
+pub fn publications<'a, J: Naming + Send + Sync, R: Clock + Threads + Wait + Sync>(
     rt: &R,
-    other: &mut Worker<'a, J>,
-    times: &mut WaitTimes,
+    alloc: Global,
+    workers: &mut [Worker<'a, J>],
+    times: &mut Times,
 ) -> Option<()> {
-    let (wait, calls) = (other.nanos?, other.calls);
-    if calls > 0 && wait < times.wait {
-        times.wait = wait;
-        times.calls = calls;
-    }
-    let call = longest(rt, other, calls, &AtomicU64::new(BEGUN))?;
-    if calls > 0 {
-        times.call = times.call.min(call);
+    for round in 0..ROUNDS {
+        let edit = round * 2;
+        let alone = publish(rt, workers.first_mut()?, edit, &AtomicU64::new(0))?;
+        times.alone = times.alone.min(alone);
+        at_once(rt, alloc, workers, Work::Publication(edit + 1));
+        times.beside = times.beside.min(workers.first()?.nanos?);
+        keep_calls(rt, workers.last_mut()?, times)?;
     }
     Some(())
 }
 
-// The first place publishes, the other one calls.
-fn part<'a, J: Naming, R: Clock + Threads + Wait + Sync>(
+// Keeps the longest call beside the publication, where it is less, and that of as many calls alone.
+fn keep_calls<'a, J: Naming, R: Clock + Wait>(
+    rt: &R,
+    other: &mut Worker<'a, J>,
+    times: &mut Times,
+) -> Option<()> {
+    let (wait, calls) = (other.nanos?, other.calls);
+    if calls > 0 && wait < times.part_beside {
+        times.part_beside = wait;
+        times.calls = calls;
+    }
+    let call = longest(rt, other, calls, &AtomicU64::new(BEGUN))?;
+    if calls > 0 {
+        times.part_alone = times.part_alone.min(call);
+    }
+    Some(())
+}
+
+/// The first place publishes, the other one calls.
+pub fn publication_at<'a, J: Naming, R: Clock + Threads + Wait + Sync>(
     rt: &R,
     place: usize,
     worker: &mut Worker<'a, J>,

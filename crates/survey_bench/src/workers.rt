@@ -29,7 +29,10 @@ pub struct Worker<'a, J: Naming> {
     pub calls: u32,
 }
 
-/// A worker at each place of a survey of that shape; the tile of its edits has this seed.
+// The seed of the tile of the edits.
+const SEED: u64 = 1000;
+
+/// A worker at each place of a survey of that shape.
 ///
 /// # Errors
 ///
@@ -39,13 +42,12 @@ pub fn workers<'a, J: Naming>(
     survey: &'a Survey<J>,
     seats: Vec<SurveySeat<J>>,
     shape: Shape,
-    seed: u64,
 ) -> io::Result<Vec<Worker<'a, J>>>
     requires { IsShape shape.top shape.low shape.n }
 {
     let mut workers = Vec::new(alloc);
     for seat in seats {
-        workers.push(worker_at(alloc, survey, seat, shape, seed)?)?;
+        workers.push(worker_at(alloc, survey, seat, shape)?)?;
     }
     Ok(workers)
 }
@@ -56,11 +58,10 @@ fn worker_at<'a, J: Naming>(
     survey: &'a Survey<J>,
     seat: SurveySeat<J>,
     shape: Shape,
-    seed: u64,
 ) -> io::Result<Worker<'a, J>>
     requires { IsShape shape.top shape.low shape.n }
 {
-    let tile = leaf_tile(alloc, shape, 1, seed)?;
+    let tile = leaf_tile(alloc, shape, 1, SEED)?;
     Ok(Worker {
         board: Shared::new(alloc, survey, seat),
         tile,

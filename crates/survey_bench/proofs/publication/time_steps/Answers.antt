@@ -1,7 +1,7 @@
 use Rattle.std.proofs.Common.{ℕ, take, ap, ◌∙◌}
 use Rattle.edit_journal.specs.Leaves.{leaves_of}
 use Rattle.edit_journal.specs.Journal.{journal_edits}
-use Rattle.survey_bench.proofs.publication.time_step.Goals as goal
+use Rattle.survey_bench.proofs.publication.time_steps.Goals as goal
 
 pub next-requires-clause-holds : goal.next-requires-clause-holds
 unfolding leaves_of
