@@ -1,5 +1,5 @@
 //! Four numbers and rows of numbers combined, as tables; depths, permits and steps.
-ghost use Rattle.std.specs.Prelude.{◌≡◌, ◌≤◌, ◌*◌, All, IsTrue, length};
+ghost use Rattle.std.specs.Prelude.{◌≡◌, ◌*◌, All, IsTrue, length};
 ghost use Rattle.parent_rule.specs.Depth.{IsNumber};
 
 use parent_rule::Combine::{self, Mean, Median};
