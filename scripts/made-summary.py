@@ -1,6 +1,6 @@
 #!/usr/bin/python3
-"""Prints the rows MADE of crates/run_tests/src/make.rt, and one of scripts/check-statuses.sh: NUMBER, EDITS and the line that
-`hipsd make` writes. The surveys are made here from docs/DEFINITIONS.md and docs/FORMATS.md, cell by cell, with nothing of the
+"""Prints the rows of the table MADE of crates/run_tests/src/make.rt, and one of scripts/check-statuses.sh, with NUMBER, EDITS and
+the line that `hipsd make` writes. The surveys are made here from docs/DEFINITIONS.md and docs/FORMATS.md, cell by cell, with nothing of the
 program, by survey_files.py.
 
 With --check it compares the rows with those that stand there, and ends with status 1 where one differs or is missing.
@@ -13,9 +13,11 @@ from pathlib import Path
 from survey_files import Survey
 
 TOP_FOLDER = Path(__file__).parent.parent
-TABLES = ("crates/run_tests/src/make.rt", "scripts/check-statuses.sh")
-# In the second the eighth edit takes a leaf away, in the third three leaves have one parent.
-ROWS = ((0, 1), (1479, 8), (26741, 8), (7, 4096))
+# In the second of the first table the eighth edit takes a leaf away, in the third three leaves have one parent.
+TABLES = (
+    ("crates/run_tests/src/make.rt", "make {} {}||0|{}^|none", ((0, 1), (1479, 8), (26741, 8))),
+    ("scripts/check-statuses.sh", "{} {}|{}", ((7, 4096),)),
+)
 MADE = Survey("make", "Made survey", top=5, low=3, width=32)
 
 
@@ -36,13 +38,12 @@ def summary(number, edits):
 
 
 def main():
-    rows = [f"{number} {edits}|{summary(number, edits)}" for number, edits in ROWS]
+    made = [(name, form.format(*row, summary(*row))) for name, form, rows in TABLES for row in rows]
     if sys.argv[1:] == ["--check"]:
-        table = "".join((TOP_FOLDER / name).read_text() for name in TABLES)
-        missing = [line for line in rows if line not in table]
+        missing = [row for name, row in made if row not in (TOP_FOLDER / name).read_text()]
         print("\n".join(missing))
         sys.exit(1 if missing else 0)
-    print("\n".join(rows))
+    print("\n".join(row for name, row in made))
 
 
 if len(sys.argv) == 3:

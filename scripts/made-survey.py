@@ -60,7 +60,7 @@ def script(number, edits):
 def row(number, edits):
     text = script(number, edits)
     placed = sum((place + 1) * byte for place, byte in enumerate(text)) % 2**64
-    return f"    ({number}, {edits}, {len(text)}, {sum(text)}, {placed}),"
+    return f"{number} {edits}|{len(text)} {sum(text)} {placed}"
 
 
 def main():

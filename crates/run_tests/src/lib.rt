@@ -21,6 +21,8 @@ mod session;
 #[cfg(test)]
 mod survey;
 #[cfg(test)]
+mod texts;
+#[cfg(test)]
 mod together;
 #[cfg(test)]
 mod words;

@@ -1,16 +1,35 @@
-//! Runs of the whole program over ends in memory, for the tests of its commands. Only here do they call `run`, of which so much
-//! is promised that each call is dear to prove.
+//! Runs of the whole program over ends in memory, each told by a row of text. Only here do the tests of its commands call
+//! `run`, of which so much is promised that each call is dear to prove.
+//!
+//! A row has these fields, with a `|` between two. Those behind the output may be empty or left out.
+//!
+//! | | Field | Where it is empty |
+//! |---|---|---|
+//! | 0 | the command line | no words |
+//! | 1 | the input | none |
+//! | 2 | the status | |
+//! | 3 | the output | none |
+//! | 4 | the files of the shelf | the description of the small survey |
+//! | 5 | in pieces of how many bytes the input comes | 1,000 |
+//! | 6 | the read that fails | none |
+//! | 7 | for how many bytes of output there is room | 65,536 |
+//! | 8 | the write or flush that fails | none |
+//! | 9 | the paths of the shelf after the run | those before it |
+
+use crate::texts::{SMALL, bytes_of, field, paths, shelf_of};
 use hipsd_run::run;
 use log::Log;
 use parent_rule::Steps;
 use std::alloc::{AllocError, Global};
+use std::process::Abort;
 use std::sync::Wait;
+use std::test::Fail;
 use std::thread::Threads;
 use std::time::Clock;
 use survey_link::{Door, MemDoor, MemShelf, MemSink, MemSource, OpenGate};
 
-/// Runs a command line over these ends, and answers its status.
-pub(crate) fn run_with_doors<R, D>(
+// Runs a command line over these ends, and answers its status.
+fn run_line<R, D>(
     rt: &R,
     line: &str,
     source: &mut MemSource,
@@ -34,38 +53,108 @@ where
     Ok(run(rt, &words, source, sink, shelf, doors, &gate, &mut steps))
 }
 
-/// Runs a command line over these ends, without doors, and answers its status.
-pub(crate) fn run_line<R: AllocGlobal + Threads + Wait + Sync + Clock + Log>(
-    rt: &R,
-    line: &str,
-    source: &mut MemSource,
-    sink: &mut MemSink,
-    shelf: &mut MemShelf,
-) -> Result<u8, AllocError> {
-    let mut doors: Vec<MemDoor> = Vec::new(rt.alloc());
-    run_with_doors(rt, line, source, sink, shelf, &mut doors)
+// The number in a field of a row, or else this one.
+fn number_or(row: &str, at: usize, other: usize) -> usize {
+    field(row, at).parse::<usize>().unwrap_or(other)
 }
 
-/// The field of a row with this number; a `|` stands between them.
-pub(crate) fn field(row: &str, at: usize) -> &str {
-    row.split('|').nth(at).unwrap_or("")
-}
-
-/// A number that stands in a field, where one does.
-pub(crate) fn numbers(alloc: Global, text: &str) -> Result<Vec<u64>, AllocError> {
-    let mut list = Vec::new(alloc);
-    if let Ok(number) = text.parse::<u64>() {
-        list.push(number)?;
+// The call in a field of a row, where one stands there.
+fn failing(alloc: Global, row: &str, at: usize) -> Result<Vec<u64>, AllocError> {
+    let mut calls = Vec::new(alloc);
+    if let Ok(call) = field(row, at).parse::<u64>() {
+        calls.push(call)?;
     }
-    Ok(list)
+    Ok(calls)
 }
 
-/// A source without input.
-pub(crate) fn no_input(alloc: Global) -> MemSource {
-    MemSource::new(Vec::new(alloc), 1, Vec::new(alloc))
+/// Runs the command line of a row with that input over the shelf and the doors, and answers its status and the output.
+pub(crate) fn ran_with_doors<R, D>(
+    rt: &R,
+    row: &str,
+    input: Vec<u8>,
+    shelf: &mut MemShelf,
+    doors: &mut Vec<D>,
+) -> Result<(u8, Vec<u8>), Fail>
+where
+    R: AllocGlobal + Threads + Wait + Sync + Clock + Log,
+    D: Door + Send,
+    D::In: Send,
+    D::Out: Send,
+{
+    let alloc = rt.alloc();
+    let piece = number_or(row, 5, 1_000).max(1);
+    let mut source = MemSource::new(input, piece, failing(alloc, row, 6)?);
+    let mut sink = MemSink::new(alloc, number_or(row, 7, 65_536), failing(alloc, row, 8)?)?;
+    let status = run_line(rt, field(row, 0), &mut source, &mut sink, shelf, doors)?;
+    Ok((status, Vec::from_slice(alloc, sink.bytes())?))
 }
 
-/// A shelf without files.
-pub(crate) fn no_files(alloc: Global) -> MemShelf {
-    MemShelf::new(alloc, Vec::new(alloc))
+/// The same without doors.
+pub(crate) fn ran<R: AllocGlobal + Threads + Wait + Sync + Clock + Log>(
+    rt: &R,
+    row: &str,
+    input: Vec<u8>,
+    shelf: &mut MemShelf,
+) -> Result<(u8, Vec<u8>), Fail> {
+    let mut doors: Vec<MemDoor> = Vec::new(rt.alloc());
+    ran_with_doors(rt, row, input, shelf, &mut doors)
+}
+
+/// Whether a run with that status and that output ended as its row says.
+pub(crate) fn is_so(alloc: Global, row: &str, status: u8, written: &[u8]) -> Result<bool, Fail> {
+    let output = bytes_of(alloc, field(row, 3))?;
+    Ok(field(row, 2).parse::<u8>() == Ok(status) && written == output.as_slice())
+}
+
+/// Whether the run of a row over that shelf ends so.
+pub(crate) fn ends<R: AllocGlobal + Threads + Wait + Sync + Clock + Log>(
+    rt: &R,
+    row: &str,
+    shelf: &mut MemShelf,
+) -> Result<bool, Fail> {
+    let alloc = rt.alloc();
+    let (status, written) = ran(rt, row, bytes_of(alloc, field(row, 1))?, shelf)?;
+    is_so(alloc, row, status, &written)
+}
+
+// The same, and whether the shelf has the paths after it that the row says.
+fn leaves<R: AllocGlobal + Threads + Wait + Sync + Clock + Log>(
+    rt: &R,
+    row: &str,
+    shelf: &mut MemShelf,
+) -> Result<bool, Fail> {
+    let before = paths(rt.alloc(), shelf)?;
+    let ended = ends(rt, row, shelf)?;
+    let after = paths(rt.alloc(), shelf)?;
+    match field(row, 9) {
+        "" => Ok(ended && after == before),
+        wanted => Ok(ended && after.as_str() == wanted),
+    }
+}
+
+/// Whether the run of a row goes so over a shelf of its own.
+pub(crate) fn goes<R: AllocGlobal + Threads + Wait + Sync + Clock + Log>(
+    rt: &R,
+    row: &str,
+) -> Result<bool, Fail> {
+    let files = match field(row, 4) {
+        "" => SMALL,
+        files => files,
+    };
+    let mut shelf = shelf_of(rt.alloc(), files)?;
+    leaves(rt, row, &mut shelf)
+}
+
+/// Each run goes so whose row is one of these between the two texts.
+pub(crate) fn all_go<R: AllocGlobal + Threads + Wait + Sync + Clock + Log + Abort>(
+    rt: &R,
+    before: &str,
+    rows: &str,
+    behind: &str,
+) -> Result<(), Fail> {
+    for part in rows.lines() {
+        let row = format!(in rt.alloc(); "{before}{part}{behind}")?;
+        assert!(rt; goes(rt, row.as_str())?, "{row}");
+    }
+    Ok(())
 }

@@ -1,23 +1,16 @@
 //! Runs of `serve` over doors in memory.
-use crate::runs::{no_files, no_input, run_with_doors};
-use crate::session::bytes_of;
-use crate::survey::{SMALL, describe};
+use crate::runs::{is_so, ran_with_doors};
+use crate::texts::{SMALL, bytes_of, field, paths, shelf_of};
 use log::Log;
 use std::alloc::Global;
 use std::sync::Wait;
 use std::test::Fail;
 use std::thread::Threads;
 use std::time::Clock;
-use survey_link::{Door, MemDoor, MemSink, MemSource, Shelf};
+use survey_link::{Door, MemDoor, MemSink, MemSource};
 
-// Runs `serve` on the small survey without leaves over all these doors, up to so many connections of each, and answers the
-// status; 255 where the shelf changed, or something was written though the words are a command's.
-pub(crate) fn serve<R, D>(
-    rt: &R,
-    connections: &str,
-    places: &str,
-    doors: &mut Vec<D>,
-) -> Result<u8, Fail>
+/// Whether the run of a row ends so on the small survey over these doors, and leaves the shelf as it was.
+pub(crate) fn serves<R, D>(rt: &R, row: &str, doors: &mut Vec<D>) -> Result<bool, Fail>
 where
     R: AllocGlobal + Threads + Wait + Sync + Clock + Log,
     D: Door + Send,
@@ -25,21 +18,10 @@ where
     D::Out: Send,
 {
     let alloc = rt.alloc();
-    let line = format!(in alloc; "serve x {connections} {places}")?;
-    let mut shelf = no_files(alloc);
-    describe(alloc, &mut shelf, SMALL)?;
-    let mut sink = MemSink::new(alloc, 1_024, Vec::new(alloc))?;
-    let ended = run_with_doors(
-        rt,
-        line.as_str(),
-        &mut no_input(alloc),
-        &mut sink,
-        &mut shelf,
-        doors,
-    )?;
-    let silent = ended == 1 || sink.bytes().is_empty();
-    let stays = shelf.list(alloc)?.len() == 1;
-    Ok(if silent && stays { ended } else { 255 })
+    let mut shelf = shelf_of(alloc, SMALL)?;
+    let (status, written) = ran_with_doors(rt, row, Vec::new(alloc), &mut shelf, doors)?;
+    let stays = paths(alloc, &mut shelf)?.as_str() == "survey.conf";
+    Ok(stays && is_so(alloc, row, status, &written)?)
 }
 
 static ASKED: &str = "GET /properties HTTP/1.1~Host: a~~";
@@ -56,36 +38,53 @@ fn door_of(alloc: Global, fails: u64) -> Result<MemDoor, Fail> {
     Ok(MemDoor::new(alloc, clients, Vec::from_slice(alloc, &[fails])?)?)
 }
 
-// The words CONNECTIONS and PLACES, the accept of each of two doors that fails, the status, and how many of the doors' clients
-// were served: one whose own door works is served whichever other door fails.
-static RUNS: [(&str, &str, u64, u64, u8, usize); 5] = [
-    ("1", "2", 9, 9, 0, 2),
-    ("65536", "1", 9, 9, 0, 1),
-    ("1", "2", 0, 9, 8, 1),
-    ("1", "2", 9, 0, 8, 1),
-    ("1", "3", 9, 9, 1, 0),
-];
+// The accept of each of two doors that fails, and how many of the doors' clients are served: one whose own door works is served
+// whichever other door fails. Then the row of the run.
+static RUNS: &str = "\
+9 9|2|serve x 1 2||0|
+9 9|1|serve x 65536 1||0|
+0 9|1|serve x 1 2||8|
+9 0|1|serve x 1 2||8|
+9 9|0|serve x 1 3||1|usage: hipsd COMMAND^
+";
+
+// How many of the doors' clients got that reply.
+fn served(doors: &[MemDoor], reply: &[u8]) -> usize {
+    doors
+        .iter()
+        .filter(|door| match door.given(0) {
+            Some((_, sink)) => sink.bytes() == reply,
+            None => false,
+        })
+        .count()
+}
+
+// Whether the run of a row goes so over these doors.
+fn goes<R: AllocGlobal + Threads + Wait + Sync + Clock + Log>(
+    rt: &R,
+    row: &str,
+    doors: &mut Vec<MemDoor>,
+) -> Result<bool, Fail> {
+    let reply = bytes_of(rt.alloc(), REPLY)?;
+    let run = row.splitn(3, '|').nth(2).unwrap_or("");
+    let ended = serves(rt, run, doors)?;
+    Ok(ended && field(row, 1).parse::<usize>() == Ok(served(doors, &reply)))
+}
+
+// The two doors of a row.
+fn doors_of(alloc: Global, row: &str) -> Result<Vec<MemDoor>, Fail> {
+    let mut doors = Vec::new(alloc);
+    for fails in field(row, 0).split(' ') {
+        doors.push(door_of(alloc, fails.parse::<u64>()?)?)?;
+    }
+    Ok(doors)
+}
 
 #[test]
 fn serves_the_doors_of_its_places(rt: HostRuntime) -> Result<(), Fail> {
-    let alloc = rt.alloc();
-    let reply = bytes_of(alloc, REPLY)?;
-    for (connections, places, first, second, status, served) in &RUNS {
-        let mut doors = Vec::new(alloc);
-        doors.push(door_of(alloc, *first)?)?;
-        doors.push(door_of(alloc, *second)?)?;
-        let ended = serve(&rt, connections, places, &mut doors)?;
-        let count = doors
-            .iter()
-            .filter(|door| match door.given(0) {
-                Some((_, sink)) => sink.bytes() == reply.as_slice(),
-                None => false,
-            })
-            .count();
-        assert!(rt;
-            (ended, count) == (*status, *served),
-            "{connections} {places} {first} {second}"
-        );
+    for row in RUNS.lines() {
+        let mut doors = doors_of(rt.alloc(), row)?;
+        assert!(rt; goes(&rt, row, &mut doors)?, "{row}");
     }
     Ok(())
 }

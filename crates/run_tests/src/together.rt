@@ -1,13 +1,16 @@
 //! Two clients of `serve` that wait for one another.
 ghost use Rattle.std.specs.Prelude.{None};
 
-use crate::serve::serve;
-use crate::session::bytes_of;
+use crate::serve::serves;
+use crate::texts::bytes_of;
+use log::Log;
 use std::alloc::Global;
-use std::sync::Arc;
+use std::str::from_utf8;
 use std::sync::atomic::{AtomicU64, Ordering};
+use std::sync::{Arc, Wait};
 use std::test::Fail;
-use std::thread::yield_now;
+use std::thread::{Threads, yield_now};
+use std::time::Clock;
 use survey_link::{Door, DoorFault, Failed, MemSink, Sink, Source, SureSource};
 
 // How many replies a client has.
@@ -119,22 +122,23 @@ impl Door for OneDoor {
     }
 }
 
-// A client that sends these parts, each once the other one has so many replies.
-fn door_of(
-    alloc: Global,
-    parts: &[(u64, &str)],
-    own: &Count,
-    other: &Count,
-) -> Result<OneDoor, Fail> {
-    let mut list = Vec::new(alloc);
-    for (after, text) in parts {
-        list.push(Part {
-            after: *after,
-            requests: SureSource::new(bytes_of(alloc, text)?),
+// The parts of what a client sends, one a line: after how many replies of the other one, and the requests.
+fn parts_of(alloc: Global, rows: &str) -> Result<Vec<Part>, Fail> {
+    let mut parts = Vec::new(alloc);
+    for row in rows.lines() {
+        let (after, requests) = row.split_once('|').unwrap_or((row, ""));
+        parts.push(Part {
+            after: after.parse::<u64>()?,
+            requests: SureSource::new(bytes_of(alloc, requests)?),
         })?;
     }
+    Ok(parts)
+}
+
+// The door of a client that sends these parts.
+fn door_of(alloc: Global, rows: &str, own: &Count, other: &Count) -> Result<OneDoor, Fail> {
     let client = Client {
-        parts: list,
+        parts: parts_of(alloc, rows)?,
         other: Arc::try_clone(other)?,
     };
     let replies = Replies {
@@ -147,47 +151,46 @@ fn door_of(
     })
 }
 
-static PUT: &str =
-    "PUT /Norder4/Dir0/Npix0.fits HTTP/1.1~Host: a~Content-Length: 2888~~%tile 4 0 1 2 3 5%";
-
-static GET: &str = "GET /properties HTTP/1.1~Host: a~~";
+// What the first client sends; the third part is so many requests for the head.
+static PUT_AND_GET: &str = "\
+0|PUT /Norder4/Dir0/Npix0.fits HTTP/1.1~Host: a~Content-Length: 2888~~%tile 4 0 1 2 3 5%
+1|GET /properties HTTP/1.1~Host: a~~
+2|";
 
 static HEAD: &str = "HEAD /properties HTTP/1.1~Host: a~~";
 
-static PUBLISH: &str = "POST /publish HTTP/1.1~Host: a~~";
+// What the second client sends.
+static GET_AND_PUBLISH: &str = "\
+0|GET /properties HTTP/1.1~Host: a~~
+1|POST /publish HTTP/1.1~Host: a~~";
+
+// The doors of the two clients, whose replies are counted so.
+fn doors_between(alloc: Global, one: &Count, other: &Count) -> Result<Vec<OneDoor>, Fail> {
+    let heads = HEAD.repeat(alloc, 1_024)?;
+    let rows = format!(in alloc; "{PUT_AND_GET}{heads}")?;
+    let mut doors = Vec::new(alloc);
+    doors.push(door_of(alloc, &rows, one, other)?)?;
+    doors.push(door_of(alloc, GET_AND_PUBLISH, other, one)?)?;
+    Ok(doors)
+}
+
+fn doors_of(alloc: Global) -> Result<Vec<OneDoor>, Fail> {
+    let one = Arc::new(alloc, AtomicU64::new(0))?;
+    let other = Arc::new(alloc, AtomicU64::new(0))?;
+    doors_between(alloc, &one, &other)
+}
 
 static CREATED: &str = "HTTP/1.1 201 Created~Content-Length: 0~Survey-Edits: 1~~";
 
 static PUBLISHED: &str =
     "HTTP/1.1 200 OK~Content-Type: text/plain~Content-Length: 12~Survey-Prefix: 1~~published 1^";
 
-// The heads of the properties before and after the publication, and these.
+// The heads of the properties before the publication, and after it.
 static OLD: &str =
     "HTTP/1.1 200 OK~Content-Type: text/plain~Content-Length: 380~Survey-Prefix: 0~~";
 
 static NEW: &str =
     "HTTP/1.1 200 OK~Content-Type: text/plain~Content-Length: 380~Survey-Prefix: 1~~";
-
-static OLD_TEXT: &str = "%properties%0^";
-
-static NEW_TEXT: &str = "%properties%1^";
-
-// How many of the heads that these bytes are show the publication, none after it the state before; `None` where they are
-// others, or not so many.
-fn count_new(mut bytes: &[u8], heads: usize, old: &[u8], new: &[u8]) -> Option<usize> {
-    let mut found = 0_usize;
-    for _ in 0..heads {
-        match (bytes.strip_prefix(old), bytes.strip_prefix(new)) {
-            (_, Some(rest)) => {
-                bytes = rest;
-                found = found.saturating_add(1);
-            }
-            (Some(rest), None) if found == 0 => bytes = rest,
-            _ => return None,
-        }
-    }
-    if bytes.is_empty() { Some(found) } else { None }
-}
 
 // All that the client of a door was sent.
 fn sent(door: &OneDoor) -> &[u8] {
@@ -197,50 +200,48 @@ fn sent(door: &OneDoor) -> &[u8] {
     }
 }
 
-// What is left of these bytes behind the one text or the other.
-fn behind<'a>(bytes: &'a [u8], one: &[u8], other: &[u8]) -> Option<&'a [u8]> {
-    match bytes.strip_prefix(one) {
-        Some(rest) => Some(rest),
-        None => bytes.strip_prefix(other),
-    }
+// What the first client is sent where so many of its replies show the state before the publication: they come first.
+fn first_replies(alloc: Global, old: usize) -> Result<Vec<u8>, Fail> {
+    let properties = match old {
+        0 => format!(in alloc; "{NEW}%properties%1^")?,
+        _ => format!(in alloc; "{OLD}%properties%0^")?,
+    };
+    let heads = old.saturating_sub(1);
+    let old = OLD.repeat(alloc, heads)?;
+    let new = NEW.repeat(alloc, 1_024_usize.saturating_sub(heads))?;
+    let text = format!(in alloc; "{CREATED}{properties}{old}{new}")?;
+    bytes_of(alloc, &text)
 }
 
-// How many of the first client's replies to HEAD show the publication; `None` where its replies are others.
-fn shown(alloc: Global, bytes: &[u8]) -> Result<Option<usize>, Fail> {
-    let (old, new) = (bytes_of(alloc, OLD)?, bytes_of(alloc, NEW)?);
-    let (mut before, mut after) = (bytes_of(alloc, OLD)?, bytes_of(alloc, NEW)?);
-    before.extend_from_slice(bytes_of(alloc, OLD_TEXT)?.as_slice())?;
-    after.extend_from_slice(bytes_of(alloc, NEW_TEXT)?.as_slice())?;
-    let created = bytes_of(alloc, CREATED)?;
-    match bytes.strip_prefix(created.as_slice()) {
-        Some(rest) => match behind(rest, &before, &after) {
-            Some(rest) => Ok(count_new(rest, 1_024, &old, &new)),
-            None => Ok(None),
-        },
-        None => Ok(None),
+// Whether the first client was sent that, and the publication was shown to it.
+fn is_first(alloc: Global, sent: &[u8]) -> Result<bool, Fail> {
+    let old = from_utf8(sent)?.matches("Survey-Prefix: 0").count();
+    Ok(old <= 1_024 && sent == first_replies(alloc, old)?.as_slice())
+}
+
+// Whether the second client was sent the properties before its publication, and what it published.
+fn is_second(alloc: Global, sent: &[u8]) -> Result<bool, Fail> {
+    let text = format!(in alloc; "{OLD}%properties%0^{PUBLISHED}")?;
+    Ok(sent == bytes_of(alloc, &text)?.as_slice())
+}
+
+// Whether both clients are served so.
+fn are_served<R: AllocGlobal + Threads + Wait + Sync + Clock + Log>(
+    rt: &R,
+    doors: &mut Vec<OneDoor>,
+) -> Result<bool, Fail> {
+    let ended = serves(rt, "serve x 1 2||0|", doors)?;
+    match doors.as_slice() {
+        [first, second] => {
+            Ok(ended && is_first(rt.alloc(), sent(first))? && is_second(rt.alloc(), sent(second))?)
+        }
+        _ => Ok(false),
     }
 }
 
 #[test]
 fn two_connections_are_served_at_once(rt: HostRuntime) -> Result<(), Fail> {
-    let alloc = rt.alloc();
-    let one = Arc::new(alloc, AtomicU64::new(0))?;
-    let other = Arc::new(alloc, AtomicU64::new(0))?;
-    let mut heads = String::new(alloc);
-    for _ in 0..1_024 {
-        heads.push_str(HEAD)?;
-    }
-    let parts = [(0, PUT), (1, GET), (2, heads.as_str())];
-    let mut doors = Vec::new(alloc);
-    doors.push(door_of(alloc, &parts, &one, &other)?)?;
-    doors.push(door_of(alloc, &[(0, GET), (1, PUBLISH)], &other, &one)?)?;
-    assert_eq!(rt; serve(&rt, "1", "2", &mut doors)?, 0);
-    assert_eq!(rt; doors.len(), 2);
-    let count = shown(alloc, sent(&doors[0]))?;
-    assert!(rt; count.is_some_and(|count| count > 0));
-    let mut replies = bytes_of(alloc, OLD)?;
-    replies.extend_from_slice(bytes_of(alloc, OLD_TEXT)?.as_slice())?;
-    replies.extend_from_slice(bytes_of(alloc, PUBLISHED)?.as_slice())?;
-    assert!(rt; sent(&doors[1]) == replies.as_slice());
+    let mut doors = doors_of(rt.alloc())?;
+    assert!(rt; are_served(&rt, &mut doors)?);
     Ok(())
 }

@@ -1,69 +1,40 @@
 //! The words of a command line, as tables. A row has a blank between two words.
-use hipsd_run::{Command, address_of, read_command, words};
-use leaf_probe::Probe;
+use crate::texts::field;
+use hipsd_run::{address_of, read_command, words};
 use std::alloc::Global;
+use std::env;
+use std::io::{self, ErrorKind};
 use std::net::SocketAddr;
 use std::test::Fail;
 
-// The command that the words of a row ask for.
-fn read(alloc: Global, row: &str) -> Result<Option<Command>, Fail> {
+// The words of a row.
+fn list(alloc: Global, row: &str) -> Result<Vec<String>, Fail> {
     let mut words = Vec::new(alloc);
     for word in row.split(' ') {
         words.push(String::from_str(alloc, word)?)?;
     }
-    Ok(read_command(&words))
+    Ok(words)
 }
 
-static PROBES: [(&str, u8, u8, u8, u64); 3] = [
-    ("probe 4 1 3 0", 4, 1, 3, 0),
-    ("probe 11 9 11 18446744073709551615", 11, 9, 11, u64::MAX),
-    ("probe 3 1 0 768", 3, 1, 0, 768),
-];
+// Rows of the table of commands, and what they ask for.
+static COMMANDS: &str = "\
+probe 4 1 3 0|Some(Probe(Probe { top: 4, n: 1, order: 3, npix: 0 }))
+probe 11 9 11 18446744073709551615|Some(Probe(Probe { top: 11, n: 9, order: 11, npix: 18446744073709551615 }))
+probe 3 1 0 768|Some(Probe(Probe { top: 3, n: 1, order: 0, npix: 768 }))
+make 0 1|Some(Make { number: 0, edits: 1 })
+make 18446744073709551615 4096|Some(Make { number: 18446744073709551615, edits: 4096 })
+session|Some(Session)
+export|Some(Export)
+verify|Some(Verify)
+past 1|Some(Past { cache: 1 })
+past 8|Some(Past { cache: 8 })
+catalog 0 4096|Some(Catalog { top: 0, per_tile: 4096 })
+catalog 11 1|Some(Catalog { top: 11, per_tile: 1 })
+mirror 127.0.0.1:8080|Some(Mirror)
+mirror x|Some(Mirror)
+";
 
-static MADE: [(&str, u64, u32); 2] = [
-    ("make 0 1", 0, 1),
-    ("make 18446744073709551615 4096", u64::MAX, 4096),
-];
-
-#[test]
-fn reads_numbers_of_commands(rt: HostRuntime) -> Result<(), Fail> {
-    let alloc = rt.alloc();
-    for (row, top, n, order, npix) in &PROBES {
-        let asked = Probe {
-            top: *top,
-            n: *n,
-            order: *order,
-            npix: *npix,
-        };
-        let command = read(alloc, row)?;
-        assert!(rt; command == Some(Command::Probe(asked)), "{row}");
-    }
-    for (row, number, edits) in &MADE {
-        let (number, edits) = (*number, *edits);
-        let command = read(alloc, row)?;
-        assert!(rt; command == Some(Command::Make { number, edits }), "{row}");
-    }
-    Ok(())
-}
-
-#[test]
-fn reads_names_of_commands(rt: HostRuntime) -> Result<(), Fail> {
-    let alloc = rt.alloc();
-    assert!(rt; read(alloc, "session")? == Some(Command::Session));
-    assert!(rt; read(alloc, "export")? == Some(Command::Export));
-    assert!(rt; read(alloc, "verify")? == Some(Command::Verify));
-    assert!(rt; read(alloc, "past 1")? == Some(Command::Past { cache: 1 }));
-    assert!(rt; read(alloc, "past 8")? == Some(Command::Past { cache: 8 }));
-    let (top, per_tile) = (0, 4096);
-    assert!(rt; read(alloc, "catalog 0 4096")? == Some(Command::Catalog { top, per_tile }));
-    let (top, per_tile) = (11, 1);
-    assert!(rt; read(alloc, "catalog 11 1")? == Some(Command::Catalog { top, per_tile }));
-    assert!(rt; read(alloc, "mirror 127.0.0.1:8080")? == Some(Command::Mirror));
-    assert!(rt; read(alloc, "mirror x")? == Some(Command::Mirror));
-    Ok(())
-}
-
-// No rows of the table of commands; the first one is an empty word, and in another a word is empty.
+// No rows of it; the first one is an empty word, and in another a word is empty.
 static NONE: &str = "
 probe
 probe 4 1 3
@@ -108,33 +79,66 @@ mirror a b
 Mirror a
 ";
 
+// Whether the words of a row ask for that command.
+fn asks(alloc: Global, row: &str, wanted: &str) -> Result<bool, Fail> {
+    let command = read_command(&list(alloc, row)?);
+    let shown = format!(in alloc; "{command:?}")?;
+    Ok(shown.as_str() == wanted)
+}
+
 #[test]
-fn refuses_what_is_no_row_of_the_table(rt: HostRuntime) -> Result<(), Fail> {
-    let alloc = rt.alloc();
-    assert!(rt; read_command(&Vec::new(alloc)) == None);
-    for row in NONE.lines() {
-        assert!(rt; read(alloc, row)? == None, "{row}");
+fn reads_rows_of_the_table(rt: HostRuntime) -> Result<(), Fail> {
+    for row in COMMANDS.lines() {
+        assert!(rt; asks(rt.alloc(), field(row, 0), field(row, 1))?, "{row}");
     }
     Ok(())
 }
 
-// The words are those behind the program's name; the address is the second of them, or the place that was found for it.
+#[test]
+fn refuses_what_is_no_row_of_the_table(rt: HostRuntime) -> Result<(), Fail> {
+    assert!(rt; read_command(&Vec::new(rt.alloc())) == None);
+    for row in NONE.lines() {
+        assert!(rt; asks(rt.alloc(), row, "None")?, "{row}");
+    }
+    Ok(())
+}
+
+// Whether that is the address.
+fn is_address(
+    alloc: Global,
+    words: &[String],
+    place: Option<SocketAddr>,
+    wanted: &str,
+) -> Result<bool, Fail> {
+    Ok(address_of(alloc, words, place)?.as_str() == wanted)
+}
+
+// Whether the words are those behind the program's name, and the address is the second of them, or the place that was found
+// for it.
+fn hands_on(alloc: Global, words: &[String]) -> Result<bool, Fail> {
+    let place = "127.0.0.1:81".parse::<SocketAddr>()?;
+    Ok(
+        words.join(alloc, "|")?.as_str() == "mirror|peer:80"
+            && is_address(alloc, words, None, "peer:80")?
+            && is_address(alloc, words, Some(place), "127.0.0.1:81")?
+            && is_address(alloc, words.get(..1).unwrap_or(words), None, "")?,
+    )
+}
+
 #[test]
 fn words_are_handed_on(rt: HostRuntime) -> Result<(), Fail> {
-    let alloc = rt.alloc();
-    let mut given = Vec::new(alloc);
-    for word in ["hipsd", "mirror", "peer:80"] {
-        given.push(String::from_str(alloc, word)?)?;
-    }
-    let words = words(alloc, Ok(given.into_iter()))?;
-    assert_eq!(rt; words.len(), 2);
-    assert_eq!(rt; words[0].as_str(), "mirror");
-    assert_eq!(rt; address_of(alloc, &words, None)?.as_str(), "peer:80");
-    let place = "127.0.0.1:81".parse::<SocketAddr>()?;
-    assert_eq!(rt;
-        address_of(alloc, &words, Some(place))?.as_str(),
-        "127.0.0.1:81"
-    );
-    assert_eq!(rt; address_of(alloc, &words[..1], None)?.as_str(), "");
+    let given = list(rt.alloc(), "hipsd mirror peer:80")?;
+    let words = words(rt.alloc(), Ok(given.into_iter()))?;
+    assert!(rt; hands_on(rt.alloc(), &words)?);
+    Ok(())
+}
+
+// A word that is not UTF-8 makes the list of words empty; any other failure to get the words is passed on.
+#[test]
+fn words_that_are_not_text_are_none(rt: HostRuntime) -> Result<(), Fail> {
+    let not_text: io::Result<env::Args> = Err(ErrorKind::InvalidData.into());
+    assert!(rt; words(rt.alloc(), not_text)?.is_empty());
+    let no_words: io::Result<env::Args> = Err(ErrorKind::OutOfMemory.into());
+    assert!(rt; words(rt.alloc(), no_words).is_err());
     Ok(())
 }
