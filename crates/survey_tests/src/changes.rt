@@ -8,6 +8,7 @@ use reader_pin::{Board, BoardRefusal, ChangedWith, Solo};
 use small_files::SURVEY;
 use small_survey::{first_state, fits};
 use std::alloc::{AllocError, Global};
+use std::process::Abort;
 use std::sync::Arc;
 use std::sync::atomic::{AtomicU64, Ordering};
 use std::test::Fail;
@@ -89,57 +90,36 @@ impl Gate for Counting {
     }
 }
 
-// Puts the leaf whose tile has that number four times.
-fn puts_same<R>(
+// A leaf, the number that its tile has four times, and how many have passed the gate after a publication; 0 where there is none.
+// Three leaves under three cells, then one of them again: one tile is merged for it.
+static PUTS: [(u32, u8, u64); 4] = [(0, 1, 0), (4, 2, 0), (8, 3, 3), (0, 4, 4)];
+
+fn merges_one<R: Threads + Abort + Sync>(
     rt: &R,
     alloc: Global,
     board: &mut Solo,
-    leaf: u32,
-    number: u32,
-) -> Result<bool, Fail> {
-    let [_, _, high, low] = number.to_be_bytes();
-    let bytes = [high, low, high, low, high, low, high, low];
-    puts(rt, alloc, board, leaf, &bytes)
-}
-
-// Puts a leaf under each of three cells, and publishes them.
-fn puts_three<R: Threads + Sync>(rt: &R, alloc: Global, board: &mut Solo) -> Result<bool, Fail> {
-    for cell in 0..3 {
-        if !puts_same(rt, alloc, board, cell * 4, cell + 1)? {
-            return Ok(false);
-        }
-    }
-    Ok(publishes(rt, board, &OpenGate::new()))
-}
-
-// Puts one of these leaves again, and publishes it through the gate.
-fn puts_one<R: Threads + Sync>(
-    rt: &R,
-    alloc: Global,
-    board: &mut Solo,
-    gate: &Counting,
-) -> Result<bool, Fail> {
-    Ok(puts_same(rt, alloc, board, 0, 4)? && publishes(rt, board, gate))
-}
-
-// Whether one passes the gate for the last edit.
-fn passes_one<R: Threads + Sync>(rt: &R, alloc: Global, board: &mut Solo) -> Result<bool, Fail> {
+) -> Result<(), Fail> {
     let gate = Counting {
         passed: AtomicU64::new(0),
     };
-    let is_put = puts_three(rt, alloc, board)? && puts_one(rt, alloc, board, &gate)?;
-    Ok(is_put && gate.passed.load(Ordering::SeqCst) == 1)
-}
-
-fn merges_one<R: Threads + Sync>(rt: &R, alloc: Global) -> Result<bool, Fail> {
-    let mut board = opened(rt, alloc, SURVEY)?;
-    passes_one(rt, alloc, &mut board)
+    for (leaf, number, passed) in &PUTS {
+        let n = *number;
+        assert!(rt;
+            puts(rt, alloc, board, *leaf, &[0, n, 0, n, 0, n, 0, n])?,
+            "{leaf} {n}"
+        );
+        if *passed > 0 {
+            assert!(rt; publishes(rt, board, &gate), "{leaf} {n}");
+            assert!(rt; gate.passed.load(Ordering::SeqCst) == *passed, "{leaf} {n}");
+        }
+    }
+    Ok(())
 }
 
 #[test]
 fn one_merge_for_one_leaf(rt: HostRuntime) -> Result<(), Fail> {
-    assert!(rt; merges_one(&rt, rt.alloc())?);
-    Ok(())
+    let mut board = opened(&rt, rt.alloc(), SURVEY)?;
+    merges_one(&rt, rt.alloc(), &mut board)
 }
 
 // A number below the end that looks random.
@@ -292,8 +272,11 @@ fn at_once<R: Threads + Sync>(
 // Whether the board's generation is that of all its edits, and has the files that its leaves make.
 fn is_made<R: Threads + Sync>(rt: &R, alloc: Global, board: &Solo) -> Result<bool, Fail> {
     let state = board.last();
+    if state.tip() != state.edits() {
+        return Ok(false);
+    }
     let whole = at_once(rt, alloc, state.generation())?;
-    Ok(state.tip() == state.edits() && are_same(alloc, &whole, state.generation())?)
+    are_same(alloc, &whole, state.generation())
 }
 
 // The names that every description here has: tiles of two columns, numbers of 16 bits.
@@ -321,11 +304,16 @@ fn all_go<R: Threads + Sync>(
     Ok(true)
 }
 
-// The same over a survey whose description ends by these lines.
+// The same over a survey with that description.
+fn goes_by<R: Threads + Sync>(rt: &R, alloc: Global, top: u8, conf: &str) -> Result<bool, Fail> {
+    let mut board = opened(rt, alloc, conf)?;
+    all_go(rt, alloc, &mut board, top)
+}
+
+// The same where the description ends by these lines.
 fn goes<R: Threads + Sync>(rt: &R, alloc: Global, top: u8, lines: &str) -> Result<bool, Fail> {
     let conf = format!(in alloc; "{NAMES}hips_order = {top}\n{lines}")?;
-    let mut board = opened(rt, alloc, &conf)?;
-    all_go(rt, alloc, &mut board, top)
+    goes_by(rt, alloc, top, &conf)
 }
 
 // Lowest orders and ways to combine.

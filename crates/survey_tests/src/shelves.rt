@@ -2,7 +2,7 @@
 use generation::Generation;
 use log::Log;
 use parent_rule::Steps;
-use shelf_io::{LoadRefusal, export, load, verify};
+use shelf_io::{LoadRefusal, Verdict, export, load, verify};
 use small_files::{SURVEY, tile_file};
 use std::alloc::{AllocError, Global};
 use std::process::Abort;
@@ -51,11 +51,18 @@ NAXIS2  =                    2
 BLANK   =               -32768
 END";
 
-// A shelf with a description and a note.
+// Puts a description and a note.
+fn put_own(shelf: &mut MemShelf, conf: &str) -> Result<(), LinkFault> {
+    shelf.put("survey.conf", conf.as_bytes())?;
+    shelf.put("note.txt", b"keep")
+}
+
+// A shelf with a description and a note; without a description it is empty.
 fn shelf_of(alloc: Global, conf: &str, fails: Vec<u64>) -> Result<MemShelf, LinkFault> {
     let mut shelf = MemShelf::new(alloc, fails);
-    shelf.put("survey.conf", conf.as_bytes())?;
-    shelf.put("note.txt", b"keep")?;
+    if !conf.is_empty() {
+        put_own(&mut shelf, conf)?;
+    }
     Ok(shelf)
 }
 
@@ -76,31 +83,6 @@ fn opened<R: Threads + Sync + Clock + Log>(
     load(rt, alloc, shelf, &OpenGate::new(), &mut Steps::new())
 }
 
-// How a shelf that isn't loaded is refused.
-fn refusal<R: Threads + Sync + Clock + Log>(
-    rt: &R,
-    alloc: Global,
-    shelf: &mut MemShelf,
-) -> Result<String, AllocError> {
-    if let Err(refusal) = opened(rt, alloc, shelf) {
-        return refusal.to_string(alloc);
-    }
-    String::from_str(alloc, "loaded")
-}
-
-// Whether the shelf compares so with the generation.
-fn compares<R: Clock + Log>(
-    rt: &R,
-    alloc: Global,
-    shelf: &mut MemShelf,
-    generation: &Generation,
-    wanted: &str,
-) -> Result<bool, Fail> {
-    let verdict = verify(rt, alloc, shelf, generation)?;
-    let told = verdict.to_string(alloc)?;
-    Ok(told.as_str() == wanted)
-}
-
 // The paths of the shelf, in order, each with a space behind it.
 fn listed(alloc: Global, shelf: &mut MemShelf) -> Result<String, Fail> {
     let mut paths = shelf.list(alloc)?;
@@ -113,14 +95,10 @@ fn listed(alloc: Global, shelf: &mut MemShelf) -> Result<String, Fail> {
     Ok(text)
 }
 
-// Whether these are the paths of the shelf.
-fn lists(alloc: Global, shelf: &mut MemShelf, wanted: &str) -> Result<bool, Fail> {
-    let found = listed(alloc, shelf)?;
-    Ok(found.as_str() == wanted)
-}
-
-// A description, the paths of files of ten bytes with a space between, and how loading is refused.
-static REFUSED: [(&str, &str, &str); 5] = [
+// A description, if there is one, the paths of files of ten bytes with a space between, or how many leaves have an empty file,
+// and how loading is refused.
+static REFUSED: [(&str, &str, &str); 8] = [
+    ("", "0", "conf absent"),
     (TOO_DEEP, "", "conf 5 4"),
     (NO_BLANK, "", "conf 0 5"),
     (NO_BLANK, "Norder4/Dir0/Npix0.fits", "conf 0 5"),
@@ -134,53 +112,14 @@ static REFUSED: [(&str, &str, &str); 5] = [
         "Norder4/Dir0/Npix12.fits Norder3/Dir0/Npix1.fits Norder4/Dir0/Npix3.fits Norder4/Dir0/Npix03.fits",
         "tile Norder4/Dir0/Npix3.fits 1 header 1",
     ),
+    (WIDE, "257", "leaves 257"),
+    (WIDE, "256", "tile Norder3/Dir0/Npix0.fits 1 header 1"),
 ];
 
 // Puts files at these paths.
 fn put_files(shelf: &mut MemShelf, paths: &str) -> Result<(), LinkFault> {
     for path in paths.split(' ') {
         shelf.put(path, b"0123456789")?;
-    }
-    Ok(())
-}
-
-// Whether the shelf is refused so.
-fn refuses<R: Threads + Sync + Clock + Log>(
-    rt: &R,
-    alloc: Global,
-    shelf: &mut MemShelf,
-    wanted: &str,
-) -> Result<bool, Fail> {
-    let told = refusal(rt, alloc, shelf)?;
-    Ok(told.as_str() == wanted)
-}
-
-fn refuses_empty<R: Threads + Sync + Clock + Log>(rt: &R, alloc: Global) -> Result<bool, Fail> {
-    let mut shelf = MemShelf::new(alloc, Vec::new(alloc));
-    refuses(rt, alloc, &mut shelf, "conf absent")
-}
-
-// Whether a shelf with these files is refused so.
-fn refuses_files<R: Threads + Sync + Clock + Log>(
-    rt: &R,
-    alloc: Global,
-    conf: &str,
-    paths: &str,
-    wanted: &str,
-) -> Result<bool, Fail> {
-    let mut shelf = shelf_of(alloc, conf, Vec::new(alloc))?;
-    put_files(&mut shelf, paths)?;
-    refuses(rt, alloc, &mut shelf, wanted)
-}
-
-#[test]
-fn what_is_no_survey_is_refused(rt: HostRuntime) -> Result<(), Fail> {
-    assert!(rt; refuses_empty(&rt, rt.alloc())?);
-    for (conf, paths, wanted) in &REFUSED {
-        assert!(rt;
-            refuses_files(&rt, rt.alloc(), conf, paths, wanted)?,
-            "{paths}: not {wanted}"
-        );
     }
     Ok(())
 }
@@ -194,66 +133,116 @@ fn put_leaves(alloc: Global, shelf: &mut MemShelf, count: u64) -> Result<(), Fai
     Ok(())
 }
 
-// Whether a shelf of so many empty files of leaves is refused so.
-fn refuses_wide<R: Threads + Sync + Clock + Log>(
+// Puts what a row asks for, and tells how loading is refused.
+fn refusal<R: Threads + Sync + Clock + Log>(
     rt: &R,
     alloc: Global,
-    count: u64,
+    shelf: &mut MemShelf,
+    files: &str,
+) -> Result<String, Fail> {
+    match files.parse::<u64>() {
+        Ok(count) => put_leaves(alloc, shelf, count)?,
+        Err(_) => put_files(shelf, files)?,
+    }
+    if let Err(refusal) = opened(rt, alloc, shelf) {
+        return Ok(refusal.to_string(alloc)?);
+    }
+    Ok(String::from_str(alloc, "loaded")?)
+}
+
+// Whether a shelf with these files is refused so.
+fn refuses<R: Threads + Sync + Clock + Log>(
+    rt: &R,
+    alloc: Global,
+    conf: &str,
+    files: &str,
     wanted: &str,
 ) -> Result<bool, Fail> {
-    let mut shelf = shelf_of(alloc, WIDE, Vec::new(alloc))?;
-    put_leaves(alloc, &mut shelf, count)?;
-    refuses(rt, alloc, &mut shelf, wanted)
+    let mut shelf = shelf_of(alloc, conf, Vec::new(alloc))?;
+    let told = refusal(rt, alloc, &mut shelf, files)?;
+    Ok(told.as_str() == wanted)
 }
 
 #[test]
-fn the_charge_of_the_leaves_is_limited(rt: HostRuntime) -> Result<(), Fail> {
-    let alloc = rt.alloc();
-    assert!(rt; refuses_wide(&rt, alloc, 257, "leaves 257")?);
-    assert!(rt; refuses_wide(&rt, alloc, 256, "tile Norder3/Dir0/Npix0.fits 1 header 1")?);
+fn what_is_no_survey_is_refused(rt: HostRuntime) -> Result<(), Fail> {
+    for (conf, files, wanted) in &REFUSED {
+        assert!(rt;
+            refuses(&rt, rt.alloc(), conf, files, wanted)?,
+            "{files}: not {wanted}"
+        );
+    }
     Ok(())
 }
 
-// Whether an export writes so many files.
-fn exports<R: Clock + Log>(
+// What a word asks of a shelf, and what is told: how many files an export writes, which paths there are, nothing where a stray
+// is put, and how the shelf compares with the generation.
+fn told<R: Clock + Log>(
     rt: &R,
     alloc: Global,
     shelf: &mut MemShelf,
     generation: &Generation,
-    count: u64,
+    word: &str,
+) -> Result<String, Fail> {
+    match word {
+        "export" => Ok(export(rt, alloc, shelf, generation)?.to_string(alloc)?),
+        "list" => listed(alloc, shelf),
+        "stray" => {
+            shelf.put("Norder3/Allsky.fits", b"stray")?;
+            Ok(String::new(alloc))
+        }
+        _ => Ok(verify(rt, alloc, shelf, generation)?.to_string(alloc)?),
+    }
+}
+
+// Whether the word of a row is told so.
+fn is_told<R: Clock + Log>(
+    rt: &R,
+    alloc: Global,
+    shelf: &mut MemShelf,
+    generation: &Generation,
+    row: &str,
 ) -> Result<bool, Fail> {
-    Ok(export(rt, alloc, shelf, generation)? == count)
+    let (word, wanted) = row.split_once('|').ok_or("no answer")?;
+    let found = told(rt, alloc, shelf, generation, word)?;
+    Ok(found.as_str() == wanted)
 }
 
-fn is_empty_survey<R: Clock + Log + Abort>(
+fn all_are_told<R: Clock + Log + Abort>(
     rt: &R,
     alloc: Global,
     shelf: &mut MemShelf,
     generation: &Generation,
+    rows: &str,
 ) -> Result<(), Fail> {
-    assert!(rt; exports(rt, alloc, shelf, generation, 2)?);
-    assert!(rt; lists(alloc, shelf, "Moc.fits note.txt properties survey.conf ")?);
-    shelf.put("Norder3/Allsky.fits", b"stray")?;
-    assert!(rt; compares(rt, alloc, shelf, generation, "differs Norder3/Allsky.fits")?);
-    assert!(rt; exports(rt, alloc, shelf, generation, 2)?);
-    assert!(rt; compares(rt, alloc, shelf, generation, "verified 2")?);
+    for row in rows.lines() {
+        assert!(rt; is_told(rt, alloc, shelf, generation, row)?, "{row}");
+    }
     Ok(())
 }
 
-fn is_opened_empty<R: Threads + Sync + Clock + Log + Abort>(
+// Loads a shelf, and asks these rows of it and of what was loaded.
+fn is_loaded<R: Threads + Sync + Clock + Log + Abort>(
     rt: &R,
     alloc: Global,
     shelf: &mut MemShelf,
+    rows: &str,
 ) -> Result<(), Fail> {
     let generation = opened(rt, alloc, shelf)?;
-    is_empty_survey(rt, alloc, shelf, &generation)
+    all_are_told(rt, alloc, shelf, &generation, rows)
 }
+
+// A survey without leaves: two files are written, and put again where a third one strays.
+static EMPTY: &str = "export|2
+list|Moc.fits note.txt properties survey.conf \nstray|
+verify|differs Norder3/Allsky.fits
+export|2
+verify|verified 2";
 
 #[test]
 fn an_empty_survey_has_two_files(rt: HostRuntime) -> Result<(), Fail> {
     let alloc = rt.alloc();
     let mut shelf = shelf_of(alloc, SURVEY, Vec::new(alloc))?;
-    is_opened_empty(&rt, alloc, &mut shelf)
+    is_loaded(&rt, alloc, &mut shelf, EMPTY)
 }
 
 // Whether the file at the path has so many bytes, and these stand behind its header.
@@ -268,58 +257,23 @@ fn holds(
     Ok(file.len() == len && file.get(2_880..2_888) == Some(numbers))
 }
 
-fn is_survey<R: Clock + Log + Abort>(
-    rt: &R,
-    alloc: Global,
-    shelf: &mut MemShelf,
-    generation: &Generation,
-) -> Result<(), Fail> {
-    assert!(rt; compares(rt, alloc, shelf, generation, "differs Moc.fits")?);
-    assert!(rt; exports(rt, alloc, shelf, generation, 5)?);
-    let numbers = [0x80, 0, 0x80, 0, 0, 3, 0x80, 0];
-    assert!(rt; holds(alloc, shelf, "Norder3/Dir0/Npix0.fits", 5_760, &numbers)?);
-    Ok(())
-}
-
-fn is_exported<R: Threads + Sync + Clock + Log + Abort>(
-    rt: &R,
-    alloc: Global,
-    shelf: &mut MemShelf,
-) -> Result<(), Fail> {
-    let generation = opened(rt, alloc, shelf)?;
-    is_survey(rt, alloc, shelf, &generation)
-}
-
-fn is_loaded_again<R: Threads + Sync + Clock + Log>(
-    rt: &R,
-    alloc: Global,
-    shelf: &mut MemShelf,
-) -> Result<bool, Fail> {
-    let generation = opened(rt, alloc, shelf)?;
-    compares(rt, alloc, shelf, &generation, "verified 5")
-}
-
-fn is_kept<R: Threads + Sync + Clock + Log + Abort>(
-    rt: &R,
-    alloc: Global,
-    shelf: &mut MemShelf,
-) -> Result<bool, Fail> {
-    is_exported(rt, alloc, shelf)?;
-    is_loaded_again(rt, alloc, shelf)
-}
-
+// A survey is exported, and loaded again.
 fn keeps_leaf<R: Threads + Sync + Clock + Log + Abort>(
     rt: &R,
     alloc: Global,
-) -> Result<bool, Fail> {
-    let mut shelf = shelf_with_leaf(alloc, Vec::new(alloc))?;
-    is_kept(rt, alloc, &mut shelf)
+    shelf: &mut MemShelf,
+) -> Result<(), Fail> {
+    is_loaded(rt, alloc, shelf, "verify|differs Moc.fits\nexport|5")?;
+    let numbers = [0x80, 0, 0x80, 0, 0, 3, 0x80, 0];
+    assert!(rt; holds(alloc, shelf, "Norder3/Dir0/Npix0.fits", 5_760, &numbers)?);
+    is_loaded(rt, alloc, shelf, "verify|verified 5")
 }
 
 #[test]
 fn a_survey_is_exported_and_loaded_again(rt: HostRuntime) -> Result<(), Fail> {
-    assert!(rt; keeps_leaf(&rt, rt.alloc())?);
-    Ok(())
+    let alloc = rt.alloc();
+    let mut shelf = shelf_with_leaf(alloc, Vec::new(alloc))?;
+    keeps_leaf(&rt, alloc, &mut shelf)
 }
 
 // Loads, exports twice and verifies while one call fails, counted from the first after the shelf was filled. How far it came:
@@ -353,49 +307,40 @@ fn how_far<R: Threads + Sync + Clock + Log>(
     shelf: &mut MemShelf,
 ) -> Result<u64, Fail> {
     match opened(rt, alloc, shelf) {
-        Ok(generation) => how_exported(rt, alloc, shelf, &generation),
+        Ok(generation) => how_far_with(rt, alloc, shelf, &generation),
         Err(LoadRefusal::ShelfFault) => Ok(100),
         Err(refusal) => Err(Fail::from(refusal)),
     }
 }
 
-fn how_exported<R: Clock + Log>(
+// How far it came with what was loaded.
+fn how_far_with<R: Clock + Log>(
     rt: &R,
     alloc: Global,
     shelf: &mut MemShelf,
     generation: &Generation,
 ) -> Result<u64, Fail> {
-    match export(rt, alloc, shelf, generation) {
-        Ok(_) => how_exported_again(rt, alloc, shelf, generation),
-        Err(LinkFault::Failed) => Ok(200),
-        Err(fault) => Err(Fail::from(fault)),
-    }
-}
-
-fn how_exported_again<R: Clock + Log>(
-    rt: &R,
-    alloc: Global,
-    shelf: &mut MemShelf,
-    generation: &Generation,
-) -> Result<u64, Fail> {
-    match export(rt, alloc, shelf, generation) {
-        Ok(_) => how_compared(rt, alloc, shelf, generation),
-        Err(LinkFault::Failed) => Ok(250),
-        Err(fault) => Err(Fail::from(fault)),
-    }
-}
-
-fn how_compared<R: Clock + Log>(
-    rt: &R,
-    alloc: Global,
-    shelf: &mut MemShelf,
-    generation: &Generation,
-) -> Result<u64, Fail> {
-    match verify(rt, alloc, shelf, generation) {
+    let mut stage = 200;
+    match goes_on(rt, alloc, shelf, generation, &mut stage) {
         Ok(verdict) => Ok(verdict.to_string(alloc)?.len() as u64),
-        Err(LinkFault::Failed) => Ok(300),
+        Err(LinkFault::Failed) => Ok(stage),
         Err(fault) => Err(Fail::from(fault)),
     }
+}
+
+// Exports twice and verifies; the stage is that of the call that comes next.
+fn goes_on<R: Clock + Log>(
+    rt: &R,
+    alloc: Global,
+    shelf: &mut MemShelf,
+    generation: &Generation,
+    stage: &mut u64,
+) -> Result<Verdict, LinkFault> {
+    export(rt, alloc, shelf, generation)?;
+    *stage = 250;
+    export(rt, alloc, shelf, generation)?;
+    *stage = 300;
+    verify(rt, alloc, shelf, generation)
 }
 
 // Whether the file at the path has this text.

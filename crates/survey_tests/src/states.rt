@@ -24,34 +24,40 @@ fn edit_of(alloc: Global, conf: &Conf, text: &str) -> Result<Edit, Fail> {
     Ok(edits.pop().ok_or("no edit")?)
 }
 
-// The state with the edit, or the number of its fault.
-fn accepted(state: &State, edit: Edit) -> Result<State, u8> {
+// The number of the edit's fault; where it has none, the state goes on with it.
+fn accepts(state: &mut State, edit: Edit) -> Option<u8> {
     if !fits(state, &edit) {
-        return Err(255);
+        return Some(255);
     }
     match state.accept(edit) {
-        Ok(next) => Ok(next),
-        Err(EditRefusal::Fault(fault)) => Err(fault.number()),
-        Err(EditRefusal::OutOfMemory) => Err(0),
+        Ok(next) => {
+            *state = next;
+            None
+        }
+        Err(EditRefusal::Fault(fault)) => Some(fault.number()),
+        Err(EditRefusal::OutOfMemory) => Some(0),
     }
 }
 
-// The state with the one edit of a body, or the number of its fault.
-fn with_edit(alloc: Global, state: &State, text: &str) -> Result<Result<State, u8>, Fail> {
+// The same with the one edit of a body.
+fn with_edit(alloc: Global, state: &mut State, text: &str) -> Result<Option<u8>, Fail> {
     let edit = edit_of(alloc, state.conf(), text)?;
-    Ok(accepted(state, edit))
+    Ok(accepts(state, edit))
 }
 
-// The state with the batch of a body, or the place and the number of its fault, as one number.
-fn with_batch(alloc: Global, state: &State, text: &str) -> Result<Result<State, u8>, Fail> {
+// The same with the batch of a body: the place and the number of its fault, as one number.
+fn with_batch(alloc: Global, state: &mut State, text: &str) -> Result<Option<u8>, Fail> {
     let body = body(alloc, text)?;
     let edits = read_batch(alloc, &body, state.conf(), &mut Steps::new())?;
     match state.accept_all(edits) {
-        Ok(next) => Ok(Ok(next)),
-        Err(BatchRefusal::Fault(fault)) => {
-            Ok(Err((fault.at.min(9) * 10) as u8 + fault.fault.number()))
+        Ok(next) => {
+            *state = next;
+            Ok(None)
         }
-        Err(BatchRefusal::OutOfMemory) => Ok(Err(0)),
+        Err(BatchRefusal::Fault(fault)) => {
+            Ok(Some((fault.at.min(9) * 10) as u8 + fault.fault.number()))
+        }
+        Err(BatchRefusal::OutOfMemory) => Ok(Some(0)),
     }
 }
 
@@ -64,15 +70,15 @@ fn can_publish(state: &State, k: u32) -> bool
     state.journal().is_end(k) && k <= state.edits() && state.tip() <= k
 }
 
-// The state with the first `k` edits published, or the tip, at which they are already.
-fn published<R: Threads + Sync>(
+// Publishes the first `k` edits; or the tip, at which they are already.
+fn publishes<R: Threads + Sync>(
     rt: &R,
     alloc: Global,
-    state: &State,
+    state: &mut State,
     k: u32,
-) -> Result<Result<State, u8>, Fail> {
+) -> Result<Option<u8>, Fail> {
     if !can_publish(state, k) {
-        return Ok(Err(255));
+        return Ok(Some(255));
     }
     let gate = OpenGate::new();
     let mut steps = Steps::new();
@@ -80,24 +86,28 @@ fn published<R: Threads + Sync>(
         .generation()
         .next(rt, state.journal(), k, &gate, &mut steps)?;
     match state.install(Arc::new(alloc, next)?) {
-        Ok(next) => Ok(Ok(next)),
-        Err(InstallRefusal::Already { tip }) => Ok(Err(tip.min(9) as u8)),
-        Err(InstallRefusal::OutOfMemory) => Ok(Err(0)),
+        Ok(next) => {
+            *state = next;
+            Ok(None)
+        }
+        Err(InstallRefusal::Already { tip }) => Ok(Some(tip.min(9) as u8)),
+        Err(InstallRefusal::OutOfMemory) => Ok(Some(0)),
     }
 }
 
-// One step by its word: `edit` or `batch` and a body, or `publish` and a number.
-fn after<R: Threads + Sync>(
+// One step by its word: `edit` or `batch` and a body, or `publish` and a number. What is said against it; nothing where the
+// state goes on.
+fn told<R: Threads + Sync>(
     rt: &R,
     alloc: Global,
-    state: &State,
+    state: &mut State,
     word: &str,
     rest: &str,
-) -> Result<Result<State, u8>, Fail> {
+) -> Result<Option<u8>, Fail> {
     match word {
         "edit" => with_edit(alloc, state, rest),
         "batch" => with_batch(alloc, state, rest),
-        _ => published(rt, alloc, state, rest.parse::<u32>()?),
+        _ => publishes(rt, alloc, state, rest.parse::<u32>()?),
     }
 }
 
@@ -118,17 +128,6 @@ publish|5|- 5 5 1
 publish|5|5 5 5 1
 batch|remove 3071;|- 6 5 0";
 
-// Goes on to the next state, if there is one; else what is said against it.
-fn told(state: &mut State, next: Result<State, u8>) -> Option<u8> {
-    match next {
-        Ok(next) => {
-            *state = next;
-            None
-        }
-        Err(number) => Some(number),
-    }
-}
-
 // What was said against a step, and the counts of the state after it.
 fn shown(alloc: Global, told: Option<u8>, state: &State) -> Result<String, AllocError> {
     let (edits, tip) = (state.edits(), state.tip());
@@ -148,8 +147,7 @@ fn goes<R: Threads + Sync>(
 ) -> Result<bool, Fail> {
     let (word, rest) = row.split_once('|').ok_or("no word")?;
     let (rest, expected) = rest.split_once('|').ok_or("no answer")?;
-    let next = after(rt, alloc, state, word, rest)?;
-    let told = told(state, next);
+    let told = told(rt, alloc, state, word, rest)?;
     let found = shown(alloc, told, state)?;
     Ok(found.as_str() == expected && state.generation().prefix() == state.tip())
 }
