@@ -1,8 +1,6 @@
 //! Connections that break off: the input is cut, or a call of the source or the sink fails.
-ghost use Rattle.std.specs.Prelude.{◌<◌};
-
 use crate::conversations::{EDIT, EDITED};
-use crate::rows::{push_replies, push_requests, replies, requests};
+use crate::rows::{replies, requests};
 use crate::surveys::{opened, serve};
 use hips_http::SessionEnd;
 use log::Log;
@@ -13,55 +11,34 @@ use std::process::Abort;
 use std::test::Fail;
 use std::thread::Threads;
 use std::time::Clock;
-use survey_link::{MemSink, MemSource, OpenGate};
+use survey_link::{MemSink, MemSource};
 
-// Serves a connection over the survey without leaves, with the bytes in pieces of some size, where the reads and the writes
-// with these numbers fail, and answers how it ends.
+// Serves a connection over the survey without leaves, and answers how it ends.
 fn breaks<R: Threads + Sync + Clock + Log>(
     rt: &R,
     alloc: Global,
-    input: &[u8],
-    piece: usize,
-    reads: &[u64],
+    source: &mut MemSource,
     sink: &mut MemSink,
-) -> Result<SessionEnd, Fail>
-    requires { 0 < piece }
-{
-    let reads = Vec::from_slice(alloc, reads)?;
-    let mut source = MemSource::new(Vec::from_slice(alloc, input)?, piece, reads);
+) -> Result<SessionEnd, Fail> {
     let mut board = opened(rt, alloc, SURVEY)?;
-    let gate = OpenGate::new();
-    let end = serve(
-        rt,
-        alloc,
-        &mut board,
-        &mut source,
-        sink,
-        &gate,
-        &mut Steps::new(),
-    );
-    Ok(end)
+    let mut steps = Steps::new();
+    Ok(serve(rt, alloc, &mut board, source, sink, &mut steps))
 }
 
-// Whether the connection of these bytes ends so with this output where the read with that number fails.
+// Whether the connection of that source ends so with this output.
 fn ends<R: Threads + Sync + Clock + Log>(
     rt: &R,
     alloc: Global,
-    input: &[u8],
-    piece: usize,
-    reads: &[u64],
+    source: &mut MemSource,
     wanted: SessionEnd,
     output: &[u8],
-) -> Result<bool, Fail>
-    requires { 0 < piece }
-{
+) -> Result<bool, Fail> {
     let mut sink = MemSink::new(alloc, 65_536, Vec::new(alloc))?;
-    let end = breaks(rt, alloc, input, piece, reads, &mut sink)?;
+    let end = breaks(rt, alloc, source, &mut sink)?;
     Ok(end == wanted && sink.bytes() == output)
 }
 
-// Whether the output is all that is written where only the first bytes of the input come, and where all come but the read
-// behind these fails. `begun` bytes are whole requests.
+// Whether the output is all that is written where only the first bytes of the input come. `begun` bytes are whole requests.
 fn is_cut<R: Threads + Sync + Clock + Log>(
     rt: &R,
     alloc: Global,
@@ -75,12 +52,22 @@ fn is_cut<R: Threads + Sync + Clock + Log>(
     } else {
         SessionEnd::Cut
     };
-    let first = input.get(..at).unwrap_or(input);
-    if !ends(rt, alloc, first, 65_536, &[], end, output)? {
-        return Ok(false);
-    }
-    let end = SessionEnd::ReadFault;
-    ends(rt, alloc, input, 1, &[at as u64], end, output)
+    let first = Vec::from_slice(alloc, input.get(..at).unwrap_or(input))?;
+    let mut source = MemSource::new(first, 65_536, Vec::new(alloc));
+    ends(rt, alloc, &mut source, end, output)
+}
+
+// Whether it is all that is written where all bytes would come, one by one, but the read behind these fails.
+fn is_failed<R: Threads + Sync + Clock + Log>(
+    rt: &R,
+    alloc: Global,
+    input: &[u8],
+    at: usize,
+    output: &[u8],
+) -> Result<bool, Fail> {
+    let fails = Vec::from_slice(alloc, &[at as u64])?;
+    let mut source = MemSource::new(Vec::from_slice(alloc, input)?, 1, fails);
+    ends(rt, alloc, &mut source, SessionEnd::ReadFault, output)
 }
 
 // Each cut within the last request, which begins there.
@@ -93,10 +80,9 @@ fn all_are_cut<R: Threads + Sync + Clock + Log + Abort>(
     output: &[u8],
 ) -> Result<(), Fail> {
     for at in begun..input.len() {
-        assert!(rt;
-            is_cut(rt, alloc, input, at, begun, output)?,
-            "{asked}, cut at {at}"
-        );
+        let ends = is_cut(rt, alloc, input, at, begun, output)?
+            && is_failed(rt, alloc, input, at, output)?;
+        assert!(rt; ends, "{asked}, cut at {at}");
     }
     Ok(())
 }
@@ -108,9 +94,9 @@ fn a_cut_input_is_answered_up_to_its_last_whole_request(rt: HostRuntime) -> Resu
     let mut output = Vec::new(alloc);
     for (asked, answered) in EDIT.lines().zip(EDITED.lines()) {
         let begun = input.len();
-        push_requests(alloc, &mut input, asked)?;
+        input.extend_from_slice(&requests(alloc, asked)?)?;
         all_are_cut(&rt, alloc, asked, &input, begun, &output)?;
-        push_replies(alloc, &mut output, answered)?;
+        output.extend_from_slice(&replies(alloc, answered)?)?;
     }
     Ok(())
 }
@@ -124,9 +110,9 @@ fn fails<R: Threads + Sync + Clock + Log>(
     wanted: SessionEnd,
 ) -> Result<bool, Fail> {
     let output = replies(alloc, EDITED)?;
-    let input = requests(alloc, EDIT)?;
+    let mut source = MemSource::new(requests(alloc, EDIT)?, 1, Vec::new(alloc));
     let mut sink = MemSink::new(alloc, 65_536, Vec::from_slice(alloc, &[call])?)?;
-    let end = breaks(rt, alloc, &input, 1, &[], &mut sink)?;
+    let end = breaks(rt, alloc, &mut source, &mut sink)?;
     Ok(end == wanted && is_begun(sink.bytes(), &output, end))
 }
 

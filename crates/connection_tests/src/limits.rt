@@ -1,6 +1,6 @@
 //! The most that a connection or a survey takes.
-use crate::rows::{push_replies, replies, requests};
-use crate::surveys::{answers, opened};
+use crate::rows::{replies, requests};
+use crate::surveys::{asks, goes, opened};
 use edit_journal::Edit;
 use hips_http::SessionEnd;
 use log::Log;
@@ -49,20 +49,6 @@ static FAR_ANSWERED: &str = "201 Created;Content-Length: 0;Survey-Edits: 1
 200 OK;Content-Type: text/plain;Content-Length: 12;Survey-Prefix: 2|line published 2
 200 OK;Content-Type: application/fits;Content-Length: 8640;Survey-Prefix: 2|coverage 11 2&long 16777216 67108863&pad
 200 OK;Content-Type: application/fits;Content-Length: 5760;Survey-Prefix: 2";
-
-// Whether these requests have these replies, as one connection over the board that is closed at their end.
-fn asks<R: Threads + Sync + Clock + Log>(
-    rt: &R,
-    alloc: Global,
-    board: &mut Solo,
-    asked: &str,
-    answered: &str,
-    steps: &mut Steps,
-) -> Result<bool, Fail> {
-    let output = replies(alloc, answered)?;
-    let input = requests(alloc, asked)?;
-    answers(rt, alloc, board, input, &output, SessionEnd::Closed, steps)
-}
 
 // Whether the two leaves are published, the survey has so many files then, and at most so many tiles were read or merged.
 fn publishes<R: Threads + Sync + Clock + Log>(
@@ -173,20 +159,8 @@ fn repeated(alloc: Global, bytes: &[u8], count: u32) -> Result<Vec<u8>, Fail> {
 // The bytes of so many replies, and of the last one.
 fn headed(alloc: Global, count: u32) -> Result<Vec<u8>, Fail> {
     let mut output = repeated(alloc, &replies(alloc, HEADED)?, count)?;
-    push_replies(alloc, &mut output, HEADED_LAST)?;
+    output.extend_from_slice(&replies(alloc, HEADED_LAST)?)?;
     Ok(output)
-}
-
-// Whether the connection of these requests ends so, when as many were answered as it takes.
-fn is_spent<R: Threads + Sync + Clock + Log>(
-    rt: &R,
-    alloc: Global,
-    input: Vec<u8>,
-    output: &[u8],
-) -> Result<bool, Fail> {
-    let mut board = opened(rt, alloc, SURVEY)?;
-    let end = SessionEnd::Spent;
-    answers(rt, alloc, &mut board, input, output, end, &mut Steps::new())
 }
 
 // The last reply is the one with all lines; the 65,537th request isn't answered.
@@ -195,6 +169,6 @@ fn a_connection_has_so_many_requests(rt: HostRuntime) -> Result<(), Fail> {
     let alloc = rt.alloc();
     let output = headed(alloc, 65_535)?;
     let input = repeated(alloc, &requests(alloc, "HEAD /Moc.fits")?, 65_537)?;
-    assert!(rt; is_spent(&rt, alloc, input, &output)?);
+    assert!(rt; goes(&rt, alloc, SURVEY, input, &output, SessionEnd::Spent)?);
     Ok(())
 }

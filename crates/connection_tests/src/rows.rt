@@ -3,8 +3,6 @@
 //! A row is the lines of a head with `;` between them, and behind a `|` the parts of a body with `&` between them. Each part
 //! is a word and what it takes.
 
-ghost use Rattle.std.specs.Prelude.{◌≤◌};
-
 use small_files::{TILE_CARDS, fill_block, header};
 use std::alloc::Global;
 use std::test::Fail;
@@ -91,11 +89,10 @@ fn push_times(file: &mut Vec<u8>, count: &str, bytes: &[u8]) -> Result<(), Fail>
 }
 
 // Appends numbers of so many bytes, the greatest byte first.
-fn push_numbers(file: &mut Vec<u8>, words: &str, width: usize) -> Result<(), Fail>
-    requires { width ≤ 8 }
-{
+fn push_numbers(file: &mut Vec<u8>, words: &str, width: usize) -> Result<(), Fail> {
+    let skipped = 8_usize.saturating_sub(width);
     for word in words.split(' ') {
-        file.extend_from_slice(&word.parse::<i64>()?.to_be_bytes()[8 - width..])?;
+        file.extend_from_slice(&word.parse::<i64>()?.to_be_bytes()[skipped..])?;
     }
     Ok(())
 }
@@ -146,12 +143,6 @@ fn push_coverage(alloc: Global, body: &mut Vec<u8>, counts: &str) -> Result<(), 
     push_header(alloc, body, &cards)
 }
 
-// Takes the last byte out.
-fn cut(body: &mut Vec<u8>) -> Result<(), Fail> {
-    body.truncate(body.len().saturating_sub(1));
-    Ok(())
-}
-
 // Appends a part of a body, or changes what stands there.
 fn push_part(alloc: Global, body: &mut Vec<u8>, part: &str) -> Result<(), Fail> {
     let (word, rest) = part.split_once(' ').unwrap_or((part, ""));
@@ -172,14 +163,15 @@ fn push_part(alloc: Global, body: &mut Vec<u8>, part: &str) -> Result<(), Fail> 
         "spaces" => push_times(body, rest, b" "),
         "blanks" => push_times(body, rest, &[0x80, 0]),
         "removals" => push_times(body, rest, b"remove 0\n"),
-        "cut" => cut(body),
+        // Without the last byte.
+        "cut" => Ok(body.truncate(body.len().saturating_sub(1))),
         "" => Ok(()),
         _ => Err("no such part".into()),
     }
 }
 
 // Appends the bytes that the parts of a body stand for.
-pub(crate) fn push_body(alloc: Global, bytes: &mut Vec<u8>, parts: &str) -> Result<(), Fail> {
+fn push_body(alloc: Global, bytes: &mut Vec<u8>, parts: &str) -> Result<(), Fail> {
     let mut body = Vec::new(alloc);
     for part in parts.split('&') {
         push_part(alloc, &mut body, part)?;
@@ -229,32 +221,20 @@ fn push_request(alloc: Global, bytes: &mut Vec<u8>, row: &str) -> Result<(), Fai
     }
 }
 
-// Appends the bytes of the requests in these rows, one a line.
-pub(crate) fn push_requests(alloc: Global, bytes: &mut Vec<u8>, rows: &str) -> Result<(), Fail> {
-    for row in rows.lines() {
-        push_request(alloc, bytes, row)?;
-    }
-    Ok(())
-}
-
-// Appends the bytes of the replies in these rows, one a line.
-pub(crate) fn push_replies(alloc: Global, bytes: &mut Vec<u8>, rows: &str) -> Result<(), Fail> {
-    for row in rows.lines() {
-        push_message(alloc, bytes, "HTTP/1.1 ", row, "")?;
-    }
-    Ok(())
-}
-
-// The bytes of the requests in these rows.
+// The bytes of the requests in these rows, one a line.
 pub(crate) fn requests(alloc: Global, rows: &str) -> Result<Vec<u8>, Fail> {
     let mut bytes = Vec::new(alloc);
-    push_requests(alloc, &mut bytes, rows)?;
+    for row in rows.lines() {
+        push_request(alloc, &mut bytes, row)?;
+    }
     Ok(bytes)
 }
 
-// The bytes of the replies in these rows.
+// The bytes of the replies in these rows, one a line.
 pub(crate) fn replies(alloc: Global, rows: &str) -> Result<Vec<u8>, Fail> {
     let mut bytes = Vec::new(alloc);
-    push_replies(alloc, &mut bytes, rows)?;
+    for row in rows.lines() {
+        push_message(alloc, &mut bytes, "HTTP/1.1 ", row, "")?;
+    }
     Ok(bytes)
 }

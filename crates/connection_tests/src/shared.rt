@@ -2,11 +2,10 @@
 ghost use Rattle.std.specs.Prelude.{◌≡◌};
 
 use crate::conversations::{EDIT, EDITED};
-use crate::rows::{replies, requests};
-use hips_http::{SessionEnd, session};
+use crate::surveys::asks;
 use log::Log;
 use parent_rule::Steps;
-use reader_pin::{Board, ChangedWith, Shared, Survey, SurveyBook, SurveySeat, open_shared};
+use reader_pin::{Shared, Survey, SurveyBook, SurveySeat, open_shared};
 use shared_history::Naming;
 use small_files::SURVEY;
 use small_survey::first_state;
@@ -17,7 +16,6 @@ use std::sync::Wait;
 use std::test::Fail;
 use std::thread::Threads;
 use std::time::Clock;
-use survey_link::{MemSink, MemSource, OpenGate};
 
 // What one connection asks after another one has edited and published, and what it is answered.
 static PIN: &str = "POST /pin
@@ -28,23 +26,6 @@ static PINNED: &str =
     "200 OK;Content-Type: text/plain;Content-Length: 9;Survey-Prefix: 1|line pinned 1
 200 OK;Content-Type: application/fits;Content-Length: 5760;Survey-Prefix: 1|tile 3 0&short -32768 -32768 3 -32768&pad
 ";
-
-// Whether a connection over the board that asks this is answered so.
-fn goes<B: ChangedWith<R>, R: Threads + Sync + Clock + Log>(
-    rt: &R,
-    alloc: Global,
-    board: &mut B,
-    asked: &str,
-    answered: &str,
-) -> Result<bool, Fail> {
-    let output = replies(alloc, answered)?;
-    let mut source = MemSource::new(requests(alloc, asked)?, 65_536, Vec::new(alloc));
-    let mut sink = MemSink::new(alloc, 65_536, Vec::new(alloc))?;
-    let gate = OpenGate::new();
-    let mut steps = Steps::new();
-    let served = session(rt, alloc, board, &mut source, &mut sink, &gate, &mut steps);
-    Ok(served.end == SessionEnd::Closed && sink.bytes() == output.as_slice())
-}
 
 // One connection edits and publishes; then another one pins, and sees it.
 fn pinned<'a, J: Naming, R: Threads + Wait + Sync + Clock + Log + Abort>(
@@ -59,8 +40,9 @@ fn pinned<'a, J: Naming, R: Threads + Wait + Sync + Clock + Log + Abort>(
     }
     let (first, others) = boards.split_first_mut().ok_or("no board")?;
     let (second, _) = others.split_first_mut().ok_or("one board")?;
-    assert!(rt; goes(rt, alloc, first, EDIT, EDITED)?);
-    assert!(rt; goes(rt, alloc, second, PIN, PINNED)?);
+    let mut steps = Steps::new();
+    assert!(rt; asks(rt, alloc, first, EDIT, EDITED, &mut steps)?);
+    assert!(rt; asks(rt, alloc, second, PIN, PINNED, &mut steps)?);
     Ok(())
 }
 

@@ -1,14 +1,15 @@
 //! Connections to a survey without leaves.
+use crate::rows::{replies, requests};
 use hips_http::{SessionEnd, session};
 use log::Log;
 use parent_rule::Steps;
-use reader_pin::Solo;
+use reader_pin::{ChangedWith, Solo};
 use small_survey::first_state;
 use std::alloc::Global;
 use std::test::Fail;
 use std::thread::Threads;
 use std::time::Clock;
-use survey_link::{Gate, MemSink, MemSource, OpenGate};
+use survey_link::{MemSink, MemSource, OpenGate};
 
 // The board of the survey with that description, without leaves.
 pub(crate) fn opened<R: Threads + Sync>(rt: &R, alloc: Global, conf: &str) -> Result<Solo, Fail> {
@@ -16,27 +17,27 @@ pub(crate) fn opened<R: Threads + Sync>(rt: &R, alloc: Global, conf: &str) -> Re
 }
 
 // Serves a connection over the board, and answers how it ends: `OutOfMemory` also where a reply told want of memory.
-pub(crate) fn serve<R: Threads + Sync + Clock + Log, G: Gate + Sync>(
+pub(crate) fn serve<B: ChangedWith<R>, R: Threads + Sync + Clock + Log>(
     rt: &R,
     alloc: Global,
-    board: &mut Solo,
+    board: &mut B,
     source: &mut MemSource,
     sink: &mut MemSink,
-    gate: &G,
     steps: &mut Steps,
 ) -> SessionEnd {
-    let served = session(rt, alloc, board, source, sink, gate, steps);
+    let gate = OpenGate::new();
+    let served = session(rt, alloc, board, source, sink, &gate, steps);
     if served.wants != 0 {
         return SessionEnd::OutOfMemory;
     }
     served.end
 }
 
-// Whether a connection with that input ends so, and what was written is the output.
-pub(crate) fn answers<R: Threads + Sync + Clock + Log>(
+// Whether a connection with that input over the board ends so, and what was written is the output.
+fn answers<B: ChangedWith<R>, R: Threads + Sync + Clock + Log>(
     rt: &R,
     alloc: Global,
-    board: &mut Solo,
+    board: &mut B,
     input: Vec<u8>,
     output: &[u8],
     wanted: SessionEnd,
@@ -44,7 +45,34 @@ pub(crate) fn answers<R: Threads + Sync + Clock + Log>(
 ) -> Result<bool, Fail> {
     let mut sink = MemSink::new(alloc, 16_777_216, Vec::new(alloc))?;
     let mut source = MemSource::new(input, 65_536, Vec::new(alloc));
-    let gate = OpenGate::new();
-    let end = serve(rt, alloc, board, &mut source, &mut sink, &gate, steps);
+    let end = serve(rt, alloc, board, &mut source, &mut sink, steps);
     Ok(end == wanted && sink.bytes() == output)
+}
+
+// Whether these requests have these replies, as one connection over the board that is closed at their end.
+pub(crate) fn asks<B: ChangedWith<R>, R: Threads + Sync + Clock + Log>(
+    rt: &R,
+    alloc: Global,
+    board: &mut B,
+    asked: &str,
+    answered: &str,
+    steps: &mut Steps,
+) -> Result<bool, Fail> {
+    let output = replies(alloc, answered)?;
+    let input = requests(alloc, asked)?;
+    answers(rt, alloc, board, input, &output, SessionEnd::Closed, steps)
+}
+
+// Whether a connection with that input over the survey with that description ends so, and what was written is the output.
+pub(crate) fn goes<R: Threads + Sync + Clock + Log>(
+    rt: &R,
+    alloc: Global,
+    conf: &str,
+    input: Vec<u8>,
+    output: &[u8],
+    wanted: SessionEnd,
+) -> Result<bool, Fail> {
+    let mut board = opened(rt, alloc, conf)?;
+    let mut steps = Steps::new();
+    answers(rt, alloc, &mut board, input, output, wanted, &mut steps)
 }
