@@ -7,7 +7,7 @@ use std::alloc::Global;
 use std::sync::Arc;
 use std::thread::Threads;
 use survey_core::State;
-use survey_link::OpenGate;
+use survey_link::Gate;
 use tile_pixels::Tile;
 
 /// A call of a board.
@@ -15,7 +15,7 @@ use tile_pixels::Tile;
 pub enum Call {
     /// One edit.
     Edit(Asked),
-    /// So many edits, which begin with that one.
+    /// So many edits, at most four, which begin with that one.
     Batch(Asked, u32),
     /// A publication of all edits.
     Publish,
@@ -27,10 +27,19 @@ pub enum Call {
     Release,
 }
 
-/// An edit: 0 to put, 1 to add, 2 to replace, 3 to remove, and the leaf.
+/// The kind of an edit that puts a leaf.
+pub const PUT: u32 = 0;
+/// The kind of one that adds it.
+pub const ADD: u32 = 1;
+/// The kind of one that replaces it.
+pub const REPLACE: u32 = 2;
+/// The kind of one that removes it.
+pub const REMOVE: u32 = 3;
+
+/// An edit that is asked for.
 #[derive(Clone, Copy)]
 pub struct Asked {
-    /// What is done with the leaf.
+    /// What is done with the leaf: `PUT`, `ADD`, `REPLACE` or `REMOVE`.
     pub kind: u32,
     /// Its number.
     pub leaf: u32,
@@ -45,30 +54,35 @@ impl Asked {
         }
     }
 
+    // It, and the three behind it.
+    fn run(self) -> [Asked; 4] {
+        [self, self.behind(1), self.behind(2), self.behind(3)]
+    }
+
     // The edit with the tile.
     fn edit(self, tile: &Arc<Tile>) -> Option<Edit> {
         let leaf = u64::from(self.leaf);
-        if self.kind == 3 {
+        if self.kind == REMOVE {
             return Some(Edit::Remove { leaf });
         }
         let tile = tile.clone().ok()?;
         match self.kind {
-            0 => Some(Edit::Put { leaf, tile }),
-            1 => Some(Edit::Add { leaf, tile }),
+            PUT => Some(Edit::Put { leaf, tile }),
+            ADD => Some(Edit::Add { leaf, tile }),
             _ => Some(Edit::Replace { leaf, tile }),
         }
     }
 }
 
 /// What a board answers.
-#[derive(Clone, Copy)]
+#[derive(Clone, Copy, PartialEq, Eq)]
 pub enum Answer {
     /// An edit or a batch is accepted: how many edits there are then, and whether the leaf of the only edit was absent.
     Accepted(u32, Option<bool>),
     /// The edit at that place has that fault after so many edits.
     Fault(u32, u8, u32),
-    /// What a publication is answered.
-    Published(Published),
+    /// What a publication is answered, and how many tiles it merged.
+    Published(Published, u64),
     /// The call answers nothing.
     Nothing,
 }
@@ -117,7 +131,7 @@ fn edited<B: ChangedWith<R>, R>(rt: &R, board: &mut B, edit: Edit) -> Option<Ans
     }
 }
 
-// What it answers to a batch.
+// What it answers to the edits of a batch.
 fn batched<B: ChangedWith<R>, R>(rt: &R, board: &mut B, edits: Vec<Edit>) -> Option<Answer> {
     if edits.is_empty() || edits.len() > 1024 || !all_fit(board.last(), &edits) {
         return None;
@@ -131,34 +145,46 @@ fn batched<B: ChangedWith<R>, R>(rt: &R, board: &mut B, edits: Vec<Edit>) -> Opt
     }
 }
 
-// What it answers to a publication.
-fn published<B: ChangedWith<R>, R: Threads + Sync>(rt: &R, board: &mut B) -> Option<Answer> {
-    match board.publish(rt, &OpenGate::new(), &mut Steps::new()) {
-        Ok(published) => Some(Answer::Published(published)),
-        Err(_) => None,
-    }
-}
-
 // Appends the edits of a batch.
-fn push_edits(edits: &mut Vec<Edit>, first: Asked, count: u32, tile: &Arc<Tile>) -> Option<()> {
-    for at in 0..count {
-        let edit = first.behind(at).edit(tile)?;
+fn push_edits(edits: &mut Vec<Edit>, batch: &[Asked], tile: &Arc<Tile>) -> Option<()> {
+    for asked in batch {
+        let edit = asked.edit(tile)?;
         edits.push(edit).ok()?;
     }
     Some(())
 }
 
-// The edits of a batch.
-fn batch_of(alloc: Global, first: Asked, count: u32, tile: &Arc<Tile>) -> Option<Vec<Edit>> {
-    let mut edits = Vec::new(alloc);
-    push_edits(&mut edits, first, count, tile)?;
-    Some(edits)
-}
-
-/// What the board answers to a call; `None` where there is no memory.
-pub fn made<B: ChangedWith<R>, R: Threads + Sync>(
+/// What the board answers to a batch of these edits; `None` where it has no such edits, or there is no memory.
+pub fn made_batch<B: ChangedWith<R>, R>(
     rt: &R,
     alloc: Global,
+    board: &mut B,
+    tile: &Arc<Tile>,
+    batch: &[Asked],
+) -> Option<Answer> {
+    let mut edits = Vec::new(alloc);
+    push_edits(&mut edits, batch, tile)?;
+    batched(rt, board, edits)
+}
+
+// What it answers to a publication through the gate.
+fn published<B: ChangedWith<R>, G: Gate + Sync, R: Threads + Sync>(
+    rt: &R,
+    gate: &G,
+    board: &mut B,
+) -> Option<Answer> {
+    let mut steps = Steps::new();
+    match board.publish(rt, gate, &mut steps) {
+        Ok(published) => Some(Answer::Published(published, steps.count())),
+        Err(_) => None,
+    }
+}
+
+/// What the board answers to a call, whose publication passes the gate; `None` where it has no such edit, or there is no memory.
+pub fn made<B: ChangedWith<R>, G: Gate + Sync, R: Threads + Sync>(
+    rt: &R,
+    alloc: Global,
+    gate: &G,
     board: &mut B,
     tile: &Arc<Tile>,
     call: Call,
@@ -166,9 +192,9 @@ pub fn made<B: ChangedWith<R>, R: Threads + Sync>(
     match call {
         Call::Edit(asked) => return edited(rt, board, asked.edit(tile)?),
         Call::Batch(first, count) => {
-            return batched(rt, board, batch_of(alloc, first, count, tile)?);
+            return made_batch(rt, alloc, board, tile, first.run().get(..count as usize)?);
         }
-        Call::Publish => return published(rt, board),
+        Call::Publish => return published(rt, gate, board),
         Call::Pin => board.pin(),
         Call::Hold => board.hold(),
         Call::Release => board.release(),

@@ -1,15 +1,21 @@
-//! Boards that tell what they were answered, and whether one history explains it; and a story of three boards.
+//! Boards that tell what they were answered, whether one history explains it, and tales of several boards.
 //!
-//! The program `board_tests` plays the story, and its tests call what stands here: so this is proved once.
+//! The program `board_tests` plays one, and its tests the others. They stand here so that each is proved once, and so that what
+//! they drop is.
 #![tactic(auto)]
 
 mod calling;
+mod gates;
 mod replay;
+mod rows;
+mod storm;
 mod story;
+mod survey;
+mod tales;
 mod teller;
 mod tiles;
 
-pub use calling::{Answer, Asked, Call, Seen, Told};
-pub use story::{Ending, play};
-pub use teller::{Teller, explained, meet, tellers, tile_that_fits};
-pub use tiles::tile;
+pub use calling::{ADD, Answer, Asked, Call, PUT, REMOVE, REPLACE};
+pub use rows::{Asking, Row, Shown, told_alone};
+pub use survey::with_boards;
+pub use tales::Tale;

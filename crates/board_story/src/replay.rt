@@ -1,9 +1,8 @@
 //! One history, and whether it explains what boards told.
-use crate::calling::{Answer, Asked, Call, Seen, Told};
+use crate::calling::{ADD, Answer, Asked, Call, PUT, REMOVE, REPLACE, Seen, Told};
 use edit_journal::{Edit, Journal};
 use reader_pin::Published;
 use std::alloc::{AllocError, Global};
-use std::test::Fail;
 use survey_core::State;
 
 /// What the history is after so many edits, and what boards told of it.
@@ -24,6 +23,21 @@ struct Place {
     most: u32,
 }
 
+// No edit, of none of the four kinds.
+const NONE: Asked = Asked { kind: 4, leaf: 0 };
+
+// What nobody told of, and where no history leads.
+const NOWHERE: Place = Place {
+    edit: Asked { kind: 4, leaf: 0 },
+    leaves: 0,
+    is_end: false,
+    made: 0,
+    published: 0,
+    is_tip: false,
+    least: u32::MAX,
+    most: 0,
+};
+
 /// The history that all boards have seen in the end.
 #[derive(Drop)]
 pub struct Replay {
@@ -38,7 +52,7 @@ fn bit(leaf: u32) -> u32 {
 
 // The leaves after an edit.
 fn after(leaves: u32, edit: Asked) -> u32 {
-    if edit.kind == 3 {
+    if edit.kind == REMOVE {
         return leaves & !bit(edit.leaf);
     }
     leaves | bit(edit.leaf)
@@ -48,27 +62,10 @@ fn after(leaves: u32, edit: Asked) -> u32 {
 fn fault(leaves: u32, edit: Asked) -> u8 {
     let is_there = leaves & bit(edit.leaf) != 0;
     match edit.kind {
-        0 => 0,
-        1 => u8::from(is_there),
+        PUT => 0,
+        ADD => u8::from(is_there),
         _ => { if is_there { 0 } else { 2 } }
     }
-}
-
-// What was asked for by an edit.
-fn asked(edit: &Edit) -> Option<Asked> {
-    let kind = match edit {
-        Edit::Put { .. } => 0,
-        Edit::Add { .. } => 1,
-        Edit::Replace { .. } => 2,
-        Edit::Remove { .. } => 3,
-    };
-    let leaf = u32::try_from(edit.leaf()).ok()?;
-    Some(Asked { kind, leaf })
-}
-
-// Whether that many edits are not fewer than one state has, and not more than another.
-fn is_between(before: Seen, edits: u32, last: Seen) -> bool {
-    before.edits <= edits && edits <= last.edits
 }
 
 // Whether a state may follow another.
@@ -87,24 +84,18 @@ fn held_after(held: Option<Seen>, told: &Told) -> Option<Seen> {
 
 // What was asked for by the edit behind so many; none of the four kinds where there is none.
 fn asked_behind(journal: &Journal, k: u32) -> Asked {
-    let edit = match journal.edit(k) {
-        Some(edit) => asked(edit),
-        None => None,
+    let Some(edit) = journal.edit(k) else {
+        return NONE;
     };
-    edit.unwrap_or(Asked { kind: 4, leaf: 0 })
-}
-
-// What the history is after so many edits, which leave these leaves.
-fn place_at(journal: &Journal, k: u32, leaves: u32) -> Place {
-    Place {
-        edit: asked_behind(journal, k),
-        leaves,
-        is_end: journal.is_end(k),
-        made: 0,
-        published: 0,
-        is_tip: false,
-        least: u32::MAX,
-        most: 0,
+    let kind = match edit {
+        Edit::Put { .. } => PUT,
+        Edit::Add { .. } => ADD,
+        Edit::Replace { .. } => REPLACE,
+        Edit::Remove { .. } => REMOVE,
+    };
+    Asked {
+        kind,
+        leaf: u32::try_from(edit.leaf()).unwrap_or(u32::MAX),
     }
 }
 
@@ -112,9 +103,14 @@ fn place_at(journal: &Journal, k: u32, leaves: u32) -> Place {
 fn push_places(places: &mut Vec<Place>, journal: &Journal) -> Result<(), AllocError> {
     let mut leaves = 0;
     for k in 0..=journal.len() {
-        let place = place_at(journal, k, leaves);
-        places.push(place)?;
-        leaves = after(leaves, place.edit);
+        let edit = asked_behind(journal, k);
+        places.push(Place {
+            edit,
+            leaves,
+            is_end: journal.is_end(k),
+            ..NOWHERE
+        })?;
+        leaves = after(leaves, edit);
     }
     Ok(())
 }
@@ -130,15 +126,11 @@ impl Replay {
         })
     }
 
-    fn place(&self, k: u32) -> Option<&Place> {
-        self.places.get(k as usize)
-    }
-
-    // Whether a batch ends after so many edits.
-    fn is_end(&self, k: u32) -> bool {
-        match self.place(k) {
-            Some(place) => place.is_end,
-            None => false,
+    // What the history is after so many edits, if it has as many.
+    fn place(&self, k: u32) -> Place {
+        match self.places.get(k as usize) {
+            Some(place) => *place,
+            None => NOWHERE,
         }
     }
 
@@ -169,19 +161,17 @@ impl Replay {
         let Some(start) = number.checked_sub(count) else {
             return false;
         };
-        let mut is_one = self.is_end(start) && self.is_end(number);
+        let mut is_one = self.place(start).is_end && self.place(number).is_end;
         for at in 0..count {
             let k = start.saturating_add(at);
-            is_one &= self.make(k, first.behind(at)) && (at == 0 || !self.is_end(k));
+            is_one &= self.make(k, first.behind(at)) && (at == 0 || !self.place(k).is_end);
         }
         is_one
     }
 
     // Whether the first edit of a batch with a fault, after so many edits, is the one at that place.
     fn has_fault(&self, first: Asked, at: u32, number: u8, edits: u32) -> bool {
-        let Some(place) = self.place(edits) else {
-            return false;
-        };
+        let place = self.place(edits);
         let mut leaves = place.leaves;
         for before in 0..at {
             let edit = first.behind(before);
@@ -193,11 +183,14 @@ impl Replay {
         place.is_end && number != 0 && fault(leaves, first.behind(at)) == number
     }
 
-    // Whether the leaf of the edit before there was absent.
-    fn was_absent(&self, edit: Asked, number: u32) -> bool {
-        match self.place(number.saturating_sub(1)) {
-            Some(place) => place.leaves & bit(edit.leaf) == 0,
-            None => false,
+    // Whether an edit that is accepted was told whether its leaf was absent.
+    fn tells_created(&self, edit: Asked, answer: Answer) -> bool {
+        match answer {
+            Answer::Accepted(number, created) => {
+                let before = self.place(number.saturating_sub(1));
+                created == Some(before.leaves & bit(edit.leaf) == 0)
+            }
+            _ => true,
         }
     }
 
@@ -212,36 +205,8 @@ impl Replay {
         }
     }
 
-    // Whether the history explains that a batch of so many edits was accepted, where that was the last state seen before.
-    fn has_accepted(
-        &mut self,
-        first: Asked,
-        count: u32,
-        number: u32,
-        before: Seen,
-        last: Seen,
-    ) -> bool {
-        number == last.edits
-            && number >= before.edits.saturating_add(count)
-            && self.has_batch(first, count, number)
-    }
-
-    // Whether it explains what was answered to an edit.
-    fn explains_edit(&mut self, edit: Asked, answer: Answer, before: Seen, last: Seen) -> bool {
-        match answer {
-            Answer::Accepted(number, Some(created)) => {
-                self.has_accepted(edit, 1, number, before, last)
-                    && self.was_absent(edit, number) == created
-            }
-            Answer::Fault(at, fault, edits) => {
-                at == 0 && is_between(before, edits, last) && self.has_fault(edit, 0, fault, edits)
-            }
-            _ => false,
-        }
-    }
-
-    // Whether it explains what was answered to a batch.
-    fn explains_batch(
+    // Whether the history explains what was answered to so many edits, where that was the last state seen before.
+    fn explains_edits(
         &mut self,
         first: Asked,
         count: u32,
@@ -250,10 +215,15 @@ impl Replay {
         last: Seen,
     ) -> bool {
         match answer {
-            Answer::Accepted(number, None) => self.has_accepted(first, count, number, before, last),
+            Answer::Accepted(number, _) => {
+                number == last.edits
+                    && number >= before.edits.saturating_add(count)
+                    && self.has_batch(first, count, number)
+            }
             Answer::Fault(at, fault, edits) => {
                 at < count
-                    && is_between(before, edits, last)
+                    && before.edits <= edits
+                    && edits <= last.edits
                     && self.has_fault(first, at, fault, edits)
             }
             _ => false,
@@ -263,10 +233,10 @@ impl Replay {
     // Whether it explains what was answered to a publication.
     fn explains_publication(&mut self, answer: Answer, before: Seen, last: Seen) -> bool {
         match answer {
-            Answer::Published(Published::New(k)) => {
+            Answer::Published(Published::New(k), _) => {
                 k == last.tip && k >= before.edits && k > before.tip && self.publish(k)
             }
-            Answer::Published(Published::Already(k)) => k == last.tip && k == last.edits,
+            Answer::Published(Published::Already(k), _) => k == last.tip && k == last.edits,
             _ => false,
         }
     }
@@ -275,8 +245,14 @@ impl Replay {
     fn explains(&mut self, before: Seen, told: &Told) -> bool {
         let (answer, last) = (told.answer, told.last);
         match told.call {
-            Call::Edit(edit) => self.explains_edit(edit, answer, before, last),
-            Call::Batch(first, count) => self.explains_batch(first, count, answer, before, last),
+            Call::Edit(edit) => {
+                self.tells_created(edit, answer)
+                    && self.explains_edits(edit, 1, answer, before, last)
+            }
+            Call::Batch(first, count) => {
+                !matches!(answer, Answer::Accepted(_, Some(_)))
+                    && self.explains_edits(first, count, answer, before, last)
+            }
             Call::Publish => self.explains_publication(answer, before, last),
             Call::Pin => matches!(answer, Answer::Nothing),
             Call::Hold | Call::Release => matches!(answer, Answer::Nothing) && last == before,
@@ -288,14 +264,14 @@ impl Replay {
     /// # Errors
     ///
     /// Where it doesn't.
-    pub fn explain_all(&mut self, all: &[Told]) -> Result<(), Fail> {
+    pub fn explain_all(&mut self, all: &[Told]) -> Result<(), &'static str> {
         let mut before = Seen { edits: 0, tip: 0 };
         let mut held = None;
         for told in all {
             held = held_after(held, told);
             self.see(told.last);
             if !rises(before, told.last) || held != told.held || !self.explains(before, told) {
-                return Err("the history doesn't explain an answer".into());
+                return Err("the history doesn't explain an answer");
             }
             before = told.last;
         }
@@ -307,30 +283,30 @@ impl Replay {
     /// # Errors
     ///
     /// Where it isn't so.
-    pub fn end(&self) -> Result<(), Fail> {
+    pub fn end(&self) -> Result<(), &'static str> {
         let mut most = 0;
         let mut k = 0;
         for place in &self.places {
             self.end_at(k, place)?;
             if place.least < most {
-                return Err("fewer edits were published after more".into());
+                return Err("fewer edits were published after more");
             }
             most = most.max(place.most);
             k = k.saturating_add(1);
         }
         if most != self.last.tip {
-            return Err("the last publication was seen by no board".into());
+            return Err("the last publication was seen by no board");
         }
         Ok(())
     }
 
     // The edit behind so many was made once, and they were published once, if at all.
-    fn end_at(&self, k: u32, place: &Place) -> Result<(), Fail> {
+    fn end_at(&self, k: u32, place: &Place) -> Result<(), &'static str> {
         if place.made != u32::from(k < self.last.edits) {
-            return Err("an edit was lost, or made twice".into());
+            return Err("an edit was lost, or made twice");
         }
         if place.published != u32::from(place.is_tip && k > 0) {
-            return Err("a publication was lost, or made twice".into());
+            return Err("a publication was lost, or made twice");
         }
         Ok(())
     }

@@ -1,51 +1,55 @@
 //! Boards that tell what they were answered, and whether one history explains it.
 use crate::calling::{Answer, Call, Seen, Told, made};
 use crate::replay::Replay;
-use crate::tiles::tile;
 use reader_pin::{Board, Shared, Survey, SurveySeat};
 use shared_history::Naming;
 use std::alloc::{AllocError, Global};
 use std::sync::{Arc, Wait};
-use std::test::Fail;
 use std::thread::Threads;
 use survey_core::State;
+use survey_link::Gate;
 use tile_pixels::Tile;
 
-/// A board with what it told, and how many of its calls were refused.
+/// A board with what it told.
 #[derive(Drop)]
 pub struct Teller<'a, J: Naming> {
-    board: Shared<'a, J>,
+    /// The board.
+    pub board: Shared<'a, J>,
     /// What it told.
     pub told: Vec<Told>,
-    /// How many of its calls were refused.
-    pub refused: u32,
 }
 
 impl<'a, J: Naming> Teller<'a, J> {
-    /// What the board answers to a call; `None` where there is no memory.
-    pub fn ask<R: Threads + Wait + Sync>(
+    /// Asks the board, whose publication passes the gate, and notes what it answers; `None` where there is no memory.
+    pub fn tell<G: Gate + Sync, R: Threads + Wait + Sync>(
         &mut self,
         rt: &R,
         alloc: Global,
+        gate: &G,
         tile: &Arc<Tile>,
         call: Call,
-    ) -> Option<Answer> {
-        made(rt, alloc, &mut self.board, tile, call)
+    ) -> Option<()> {
+        let answer = made(rt, alloc, gate, &mut self.board, tile, call)?;
+        self.note(call, answer)
     }
 
-    /// Notes what the board was answered, and what it sees then.
-    ///
-    /// # Errors
-    ///
-    /// Where there is no memory.
-    pub fn note(&mut self, call: Call, answer: Answer) -> Result<(), AllocError> {
+    /// Notes what the board was answered, and what it sees then; `None` where there is no memory.
+    pub fn note(&mut self, call: Call, answer: Answer) -> Option<()> {
         let told = Told {
             call,
             answer,
             last: self.seen(),
             held: self.board.held().map(Seen::of),
         };
-        Ok(self.told.push(told)?)
+        self.told.push(told).ok()
+    }
+
+    /// What it was answered at that place.
+    pub fn answer(&self, at: usize) -> Option<Answer> {
+        match self.told.get(at) {
+            Some(told) => Some(told.answer),
+            None => None,
+        }
     }
 
     // What the board sees.
@@ -69,44 +73,32 @@ pub fn tellers<'a, J: Naming>(
         tellers.push(Teller {
             board: Shared::new(alloc, survey, seat),
             told: Vec::new(alloc),
-            refused: 0,
         })?;
     }
     Ok(tellers)
-}
-
-/// A tile of their survey.
-///
-/// # Errors
-///
-/// Where there is no board, its survey has other tiles, or there is no memory.
-pub fn tile_that_fits<'a, J: Naming>(
-    alloc: Global,
-    tellers: &[Teller<'a, J>],
-) -> Result<Arc<Tile>, Fail> {
-    let first = tellers.first().ok_or("no board")?;
-    tile(alloc, first.board.last().conf().shape().depth)
 }
 
 /// The first board meets each other one, twice: all have seen the same then.
 ///
 /// # Errors
 ///
-/// Where there is no board.
-pub fn meet<'a, J: Naming>(tellers: &mut [Teller<'a, J>]) -> Result<(), Fail> {
+/// Where there is no board, or two that met have seen different states.
+pub fn meet<'a, J: Naming>(tellers: &mut [Teller<'a, J>]) -> Result<(), &'static str> {
     let (first, others) = tellers.split_first_mut().ok_or("no board")?;
     for _ in 0..2 {
-        meet_each(&mut first.board, others)?;
+        meet_each(first, others)?;
     }
     Ok(())
 }
 
 fn meet_each<'a, J: Naming>(
-    board: &mut Shared<'a, J>,
+    first: &mut Teller<'a, J>,
     others: &mut [Teller<'a, J>],
-) -> Result<(), AllocError> {
+) -> Result<(), &'static str> {
     for other in others {
-        board.meet(&mut other.board)?;
+        if first.board.meet(&mut other.board).is_err() || first.seen() != other.seen() {
+            return Err("boards that met have seen different states");
+        }
     }
     Ok(())
 }
@@ -116,17 +108,20 @@ fn meet_each<'a, J: Naming>(
 /// # Errors
 ///
 /// Where it doesn't, or the boards have seen different states.
-pub fn explained<'a, J: Naming>(alloc: Global, tellers: &[Teller<'a, J>]) -> Result<Seen, Fail> {
+pub fn explained<'a, J: Naming>(
+    alloc: Global,
+    tellers: &[Teller<'a, J>],
+) -> Result<Seen, &'static str> {
     let first = tellers.first().ok_or("no board")?.board.last();
-    let mut replay = replay_of(alloc, first)?;
+    let mut replay = replay_of(alloc, first).ok_or("no memory")?;
     explain_each(&mut replay, tellers, Seen::of(first))
 }
 
 // The history that leads to a state, begun again where memory is refused.
-fn replay_of(alloc: Global, state: &State) -> Result<Replay, AllocError> {
+fn replay_of(alloc: Global, state: &State) -> Option<Replay> {
     match Replay::of(alloc, state) {
-        Ok(replay) => Ok(replay),
-        Err(_) => Replay::of(alloc, state),
+        Ok(replay) => Some(replay),
+        Err(_) => Replay::of(alloc, state).ok(),
     }
 }
 
@@ -135,10 +130,10 @@ fn explain_each<'a, J: Naming>(
     replay: &mut Replay,
     tellers: &[Teller<'a, J>],
     last: Seen,
-) -> Result<Seen, Fail> {
+) -> Result<Seen, &'static str> {
     for teller in tellers {
         if teller.seen() != last {
-            return Err("boards that met have seen different states".into());
+            return Err("boards that met have seen different states");
         }
         replay.explain_all(&teller.told)?;
     }

@@ -5,12 +5,13 @@ use std::sync::Arc;
 use std::test::Fail;
 use tile_pixels::Tile;
 
-/// A tile of two columns and two lines of 16 bits.
+/// A tile of the small survey: two columns and two lines of 16 bits.
 ///
 /// # Errors
 ///
-/// Where the depth is another, or there is no memory.
-pub fn tile(alloc: Global, depth: Depth) -> Result<Arc<Tile>, Fail> {
+/// Where there is no memory.
+pub fn tile(alloc: Global) -> Result<Arc<Tile>, Fail> {
+    let depth = Depth::new(16, -32768).ok_or("no depth")?;
     if depth.bytes() != 2 {
         return Err("other tiles".into());
     }

@@ -4,7 +4,7 @@ use log::Log;
 use parent_rule::Steps;
 use shelf_io::{LoadRefusal, Verdict, export, load, verify};
 use small_files::{SURVEY, tile_file};
-use std::alloc::{AllocError, Global};
+use std::alloc::Global;
 use std::process::Abort;
 use std::test::Fail;
 use std::thread::Threads;
