@@ -2,6 +2,7 @@
 use crate::version::say_version;
 use decimal_scale::plain_decimal;
 use log::{Log, error};
+use std::fmt::Display;
 
 // The name of a command, the words after it, and what these may be.
 static COMMANDS: [(&str, &str, &str); 9] = [
@@ -54,28 +55,41 @@ static NUMBERS: [(&str, usize, u64, u64); 11] = [
 /// Says what is wrong with the words of a command, and which words it takes; of a name that is no command's, which commands
 /// there are, and which program this is.
 pub(crate) fn say_commands<R: Log>(rt: &R, words: &[String]) {
-    let Some((name, given)) = words.split_first() else {
-        error!(rt; "no command is named, or a word is not UTF-8");
-        return say_all(rt);
-    };
-    let name = name.as_str();
-    match COMMANDS.iter().find(|command| command.0 == name) {
-        Some((name, wanted, bounds)) => {
-            say_wrong(rt, name, wanted, given);
-            error!(rt; "the words are: hipsd {name} {wanted} ({bounds})");
-        }
+    match words.split_first() {
+        Some((name, given)) => say_command(rt, name.as_str(), given),
         None => {
-            error!(rt; "there is no command {name:?}");
+            say(rt, &"no command is named, or a word is not UTF-8");
             say_all(rt);
         }
     }
 }
 
+// Says it of the words after this name.
+fn say_command<R: Log>(rt: &R, name: &str, given: &[String]) {
+    for (command, wanted, bounds) in COMMANDS.iter() {
+        if *command == name {
+            say_wrong(rt, name, wanted, given);
+            say(
+                rt,
+                &format_args!("the words are: hipsd {name} {wanted} ({bounds})"),
+            );
+            return;
+        }
+    }
+    say(rt, &format_args!("there is no command {name:?}"));
+    say_all(rt);
+}
+
+// Says a line.
+fn say<R: Log, T: Display>(rt: &R, line: &T) {
+    error!(rt; "{line}");
+}
+
 // Says which commands there are, and which program this is.
 fn say_all<R: Log>(rt: &R) {
-    error!(rt; "the commands are:");
+    say(rt, &"the commands are:");
     for (name, words, _) in COMMANDS.iter() {
-        error!(rt; "  hipsd {name} {words}");
+        say(rt, &format_args!("  hipsd {name} {words}"));
     }
     say_version(rt);
 }
@@ -83,8 +97,12 @@ fn say_all<R: Log>(rt: &R) {
 // Says what is wrong with the words after the name of a command: how many they are, or each number that isn't in its bounds.
 fn say_wrong<R: Log>(rt: &R, name: &str, wanted: &str, given: &[String]) {
     let count = wanted.split_whitespace().count();
-    if given.len() != count {
-        error!(rt; "{name} takes {count} words after its name, and here are {}", given.len());
+    let found = given.len();
+    if found != count {
+        say(
+            rt,
+            &format_args!("{name} takes {count} words after its name, and here are {found}"),
+        );
         return;
     }
     for (command, at, least, greatest) in NUMBERS.iter() {
@@ -99,13 +117,21 @@ fn say_wrong<R: Log>(rt: &R, name: &str, wanted: &str, given: &[String]) {
 
 // Says where a word is no number from `least` to `greatest`.
 fn say_bound<R: Log>(rt: &R, wanted: &str, given: &[String], at: usize, least: u64, greatest: u64) {
-    let word = given.get(at).map_or("", |word| word.as_str());
     let shown = wanted.split_whitespace().nth(at).unwrap_or("");
-    match plain_decimal(word.as_bytes()) {
+    match number_at(given, at) {
         Some(number) if least <= number && number <= greatest => {}
-        Some(number) => error!(rt; "{shown} = {number}: {least} to {greatest}"),
+        Some(number) => say(
+            rt,
+            &format_args!("{shown} = {number}: {least} to {greatest}"),
+        ),
         None => {
-            error!(rt; "{shown} = {}: a number from {least} to {greatest}, in plain decimals", word.as_bytes().escape_ascii());
+            let word = word_at(given, at).as_bytes().escape_ascii();
+            say(
+                rt,
+                &format_args!(
+                    "{shown} = {word}: a number from {least} to {greatest}, in plain decimals"
+                ),
+            );
         }
     }
 }
@@ -114,7 +140,7 @@ fn say_bound<R: Log>(rt: &R, wanted: &str, given: &[String], at: usize, least: u
 fn say_depth<R: Log>(rt: &R, given: &[String]) {
     match (number_at(given, 0), number_at(given, 2)) {
         (Some(top), Some(order)) if top < order => {
-            error!(rt; "k = {order}: 0 to K, which is {top}");
+            say(rt, &format_args!("k = {order}: 0 to K, which is {top}"));
         }
         _ => {}
     }
@@ -122,5 +148,13 @@ fn say_depth<R: Log>(rt: &R, given: &[String]) {
 
 // The number that a word spells.
 fn number_at(given: &[String], at: usize) -> Option<u64> {
-    plain_decimal(given.get(at)?.as_bytes())
+    plain_decimal(word_at(given, at).as_bytes())
+}
+
+// A word, and the empty text where there is none.
+fn word_at(given: &[String], at: usize) -> &str {
+    match given.get(at) {
+        Some(word) => word.as_str(),
+        None => "",
+    }
 }

@@ -6,11 +6,12 @@ ghost use Rattle.healpix_nested.specs.Cells.{cell_count};
 ghost use Rattle.leaf_probe.specs.declared.asked.Probe.{Probe as AskedProbe};
 ghost use Rattle.hipsd_run.specs.declared.command.Command.{Command as AskedCommand};
 ghost use Rattle.hipsd_run.specs.declared.command.Command.TheVariants.{Probe as ProbeCommand, Session, Export, Verify, Make, Serve, Past, Catalog, Mirror};
-ghost use Rattle.hipsd_run.specs.Command.{texts, Asks, IsCommandFor, reads_source, opens_shelf, writes_files, opens_doors};
+ghost use Rattle.hipsd_run.specs.Command.{texts, Asks, IsInRange, IsCommandFor, doors_of, reads_source, opens_shelf, writes_files, opens_doors};
 ghost use Rattle.leaf_probe.specs.Probe.{IsProbe, probe_answer, probe_steps};
 ghost use Rattle.leaf_probe.specs.Merging.{steps_after};
 ghost use Rattle.leaf_probe.specs.Reading.{ReadsToTheEnd};
 ghost use Rattle.hipsd_run.specs.Run.{usage_text, EndsBy};
+ghost use Rattle.hipsd_run.specs.Runs.{Runs, telling, ends_of};
 ghost use Rattle.survey_commands.specs.Survey.{RunsExport, RunsVerify};
 ghost use Rattle.hips_http.specs.Moment.{connection_of};
 ghost use Rattle.survey_commands.specs.Session.{RunsSession};
@@ -186,22 +187,50 @@ where
             say_commands(rt, words);
             usage(sink)
         }
-        Some(command) => match command {
-            Command::Probe(asked) => run_probe(rt.alloc(), &asked, source, sink, steps),
-            Command::Session => run_session(rt, source, sink, shelf, gate, steps),
-            Command::Export => run_export(rt, sink, shelf, gate, steps),
-            Command::Verify => run_verify(rt, sink, shelf, gate, steps),
-            Command::Make { number, edits } => run_make(rt, number, edits, sink, gate, steps),
-            Command::Serve {
-                connections,
-                places,
-            } => run_serve(rt, connections, places, sink, shelf, gate, steps, doors),
-            Command::Past { cache } => run_past(rt, cache, source, sink, shelf, gate, steps),
-            Command::Catalog { top, per_tile } => {
-                run_catalog(rt, top, per_tile, source, sink, shelf)
-            }
-            Command::Mirror => run_mirror(rt, source, sink, shelf, gate, steps),
-        },
+        Some(command) => run_command(rt, command, source, sink, shelf, doors, gate, steps),
+    }
+}
+
+// Runs the command, and answers its status.
+fn run_command<R, S, K, H, D, G>(
+    rt: &R,
+    command: Command,
+    source: &mut S,
+    sink: &mut K,
+    shelf: &mut H,
+    doors: &mut Vec<D>,
+    gate: &G,
+    steps: &mut Steps,
+) -> u8
+where
+    R: AllocGlobal + Threads + Wait + Sync + Clock + Log,
+    S: Source,
+    K: Sink,
+    H: Shelf,
+    D: Door + Send,
+    D::In: Send,
+    D::Out: Send,
+    G: Gate + Sync,
+    requires in_range { IsInRange command }
+    requires fits { doors_of command ≤ length doors.old.items }
+    ensures { Runs command (telling S.Source K.Sink H.Shelf D.connections D.faults)
+        (ends_of source.old sink.old shelf.old doors.old steps.old) (ends_of source.new sink.new shelf.new doors.new steps.new) result }
+{
+    match command {
+        Command::Probe(asked) => run_probe(rt.alloc(), &asked, source, sink, steps),
+        Command::Session => run_session(rt, source, sink, shelf, gate, steps),
+        Command::Export => run_export(rt, sink, shelf, gate, steps),
+        Command::Verify => run_verify(rt, sink, shelf, gate, steps),
+        Command::Make { number, edits } => run_make(rt, number, edits, sink, gate, steps),
+        Command::Serve {
+            connections,
+            places,
+        } => run_serve(rt, connections, places, sink, shelf, gate, steps, doors),
+        Command::Past { cache } => run_past(rt, cache, source, sink, shelf, gate, steps),
+        Command::Catalog { top, per_tile } => {
+            run_catalog(rt, top, per_tile, source, sink, shelf)
+        }
+        Command::Mirror => run_mirror(rt, source, sink, shelf, gate, steps),
     }
 }
 

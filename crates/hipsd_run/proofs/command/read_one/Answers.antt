@@ -1,4 +1,3 @@
-use Rattle.std.proofs.Common.{◌≡◌}
 use Rattle.hipsd_run.proofs.CommandLemmas.{no_past_command}
 use Rattle.hipsd_run.proofs.command.read_one.Goals as goal
 

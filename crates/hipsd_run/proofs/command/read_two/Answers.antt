@@ -1,4 +1,3 @@
-use Rattle.std.proofs.Common.{◌≡◌}
 use Rattle.hipsd_run.proofs.CommandLemmas.{no_make_command, no_catalog_command}
 use Rattle.hipsd_run.proofs.command.read_two.Goals as goal
 
