@@ -55,24 +55,29 @@ static NUMBERS: [(&str, usize, u64, u64); 11] = [
 /// Says what is wrong with the words of a command, and which words it takes; of a name that is no command's, which commands
 /// there are, and which program this is.
 pub(crate) fn say_commands<R: Log>(rt: &R, words: &[String]) {
-    let Some((name, given)) = words.split_first() else {
-        say(rt, &"no command is named, or a word is not UTF-8");
-        return say_all(rt);
-    };
-    let name = name.as_str();
-    match COMMANDS.iter().find(|command| command.0 == name) {
-        Some((name, wanted, bounds)) => {
+    match words.split_first() {
+        Some((name, given)) => say_command(rt, name.as_str(), given),
+        None => {
+            say(rt, &"no command is named, or a word is not UTF-8");
+            say_all(rt);
+        }
+    }
+}
+
+// Says it of the words after this name.
+fn say_command<R: Log>(rt: &R, name: &str, given: &[String]) {
+    for (command, wanted, bounds) in COMMANDS.iter() {
+        if *command == name {
             say_wrong(rt, name, wanted, given);
             say(
                 rt,
                 &format_args!("the words are: hipsd {name} {wanted} ({bounds})"),
             );
-        }
-        None => {
-            say(rt, &format_args!("there is no command {name:?}"));
-            say_all(rt);
+            return;
         }
     }
+    say(rt, &format_args!("there is no command {name:?}"));
+    say_all(rt);
 }
 
 // Says a line.

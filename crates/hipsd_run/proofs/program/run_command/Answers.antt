@@ -117,10 +117,10 @@ returns-in-Serve g c =
     (record {
       does = record {
         run = of_doors
-          (λ olds news. RunsServe (g.H.Shelf.files c.args.shelf.now) c.in-Serve.connections (map g.D.Door.connections (take c.in-Serve.places olds))
-          (map g.D.Door.connections (take c.in-Serve.places news)) c.run_serve.result (g.K.Sink.held c.args.sink.now) (g.K.Sink.held c.run_serve.new.sink)
-          (g.K.Sink.handed_on c.args.sink.now) (g.K.Sink.handed_on c.run_serve.new.sink))
-          _ _ _ _ old new done.run;
+            (λ olds news. RunsServe (g.H.Shelf.files c.args.shelf.now) c.in-Serve.connections (map g.D.Door.connections (take c.in-Serve.places olds))
+            (map g.D.Door.connections (take c.in-Serve.places news)) c.run_serve.result (g.K.Sink.held c.args.sink.now) (g.K.Sink.held c.run_serve.new.sink)
+            (g.K.Sink.handed_on c.args.sink.now) (g.K.Sink.handed_on c.run_serve.new.sink))
+            _ _ _ _ old new done.run;
         beyond = ap (drop c.in-Serve.places) new ∙ done.beyond ∙ ap (drop c.in-Serve.places) old;
       };
       spares = record { source = λ _. refl; shelf = is_used; files = λ _. done.kept; doors = is_used };
