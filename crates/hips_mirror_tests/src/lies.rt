@@ -292,50 +292,34 @@ fn cuts_at<R: Threads + Sync + Clock + Log>(
     refuses(rt, alloc, first, (7, 0))
 }
 
-// The first place at which the copy isn't cut, of all in heads and each 509th; the length where there is none.
-fn first_uncut<R: Threads + Sync + Clock + Log>(
+// Whether the copy from a peer with so many leaves is cut at each 509th place, and at all in heads where these are looked at.
+fn cuts<R: Threads + Sync + Clock + Log>(
     rt: &R,
     alloc: Global,
-    bytes: &[u8],
-) -> Result<usize, Fail> {
+    leaves: u64,
+    heads: bool,
+) -> Result<bool, Fail> {
+    let bytes = replies(rt, alloc, leaves)?;
     let mut in_head = false;
     for at in 0..bytes.len() {
         if bytes.get(at..).unwrap_or(&[]).starts_with(b"HTTP/1.1 ") {
-            in_head = true;
+            in_head = heads;
         }
-        if (in_head || at % 509 == 0) && !cuts_at(rt, alloc, bytes, at)? {
-            return Ok(at);
+        if (in_head || at % 509 == 0) && !cuts_at(rt, alloc, &bytes, at)? {
+            return Ok(false);
         }
         if bytes.get(..at).unwrap_or(&[]).ends_with(b"\r\n\r\n") {
             in_head = false;
-        }
-    }
-    Ok(bytes.len())
-}
-
-#[test]
-fn a_copy_that_is_cut_changes_nothing(rt: HostRuntime) -> Result<(), Fail> {
-    let bytes = replies(&rt, rt.alloc(), 0)?;
-    let quiet = Logged::new(rt, LevelFilter::Off, Discard);
-    assert!(rt; first_uncut(&quiet, rt.alloc(), &bytes)? == bytes.len());
-    Ok(())
-}
-
-// Whether the copy from a peer with four leaves is cut at each of some places in its bodies and heads.
-fn cuts_bodies<R: Threads + Sync + Clock + Log>(rt: &R, alloc: Global) -> Result<bool, Fail> {
-    let bytes = replies(rt, alloc, 4)?;
-    for at in 0..bytes.len() {
-        if at % 509 == 0 && !cuts_at(rt, alloc, &bytes, at)? {
-            return Ok(false);
         }
     }
     Ok(true)
 }
 
 #[test]
-fn a_copy_that_is_cut_in_a_body_changes_nothing(rt: HostRuntime) -> Result<(), Fail> {
+fn a_copy_that_is_cut_changes_nothing(rt: HostRuntime) -> Result<(), Fail> {
     let quiet = Logged::new(rt, LevelFilter::Off, Discard);
-    assert!(rt; cuts_bodies(&quiet, rt.alloc())?);
+    assert!(rt; cuts(&quiet, rt.alloc(), 0, true)?, "no leaves");
+    assert!(rt; cuts(&quiet, rt.alloc(), 4, false)?, "four leaves");
     Ok(())
 }
 

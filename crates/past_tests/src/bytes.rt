@@ -15,13 +15,19 @@ hips_release_date = 2024-05-01T00:00Z;hips_status = public master clonable;hips_
 hips_order_min = 3;hips_tile_width = 2;hips_tile_format = fits;survey_bitpix = 16;survey_bscale = 1.0E0;survey_bzero = 0.0E0;\
 survey_blank = -32768;survey_leaves = ";
 
+// Appends the header of a tile's file.
+fn push_header(alloc: Global, bytes: &mut Vec<u8>, order: &str, npix: &str) -> Result<(), Fail> {
+    let cards = format!(in alloc; "{TILE_CARDS}ORDER   = {order:>20}\nNPIX    = {npix:>20}\nEND")?;
+    bytes.extend_from_slice(&header(alloc, cards.as_str())?)?;
+    Ok(())
+}
+
 // Appends the file of a tile by its order, its number and its stored numbers; then zero bytes until it has so many bytes.
 fn push_tile(alloc: Global, bytes: &mut Vec<u8>, words: &str, size: usize) -> Result<(), Fail> {
     let end = bytes.len().saturating_add(size);
     let (order, rest) = words.split_once(' ').ok_or("no order")?;
     let (npix, numbers) = rest.split_once(' ').ok_or("no number")?;
-    let cards = format!(in alloc; "{TILE_CARDS}ORDER   = {order:>20}\nNPIX    = {npix:>20}\nEND")?;
-    bytes.extend_from_slice(&header(alloc, cards.as_str())?)?;
+    push_header(alloc, bytes, order, npix)?;
     for number in numbers.split(' ') {
         bytes.extend_from_slice(&number.parse::<i16>()?.to_be_bytes())?;
     }
@@ -46,16 +52,22 @@ fn push_times(bytes: &mut Vec<u8>, words: &str) -> Result<(), Fail> {
     Ok(())
 }
 
+// Appends what stands between two `%`.
+fn push_part(alloc: Global, bytes: &mut Vec<u8>, part: &str) -> Result<(), Fail> {
+    let (kind, words) = part.split_once(' ').unwrap_or((part, ""));
+    match kind {
+        "leaf" => push_tile(alloc, bytes, words, 2_888),
+        "whole" => push_tile(alloc, bytes, words, 5_760),
+        "times" => push_times(bytes, words),
+        "properties" => push_text(bytes, PROPERTIES),
+        _ => push_text(bytes, part),
+    }
+}
+
 // Appends what a text stands for.
 pub(crate) fn push_bytes(alloc: Global, bytes: &mut Vec<u8>, text: &str) -> Result<(), Fail> {
     for part in text.split('%') {
-        match part.split_once(' ') {
-            Some(("leaf", words)) => push_tile(alloc, bytes, words, 2_888)?,
-            Some(("whole", words)) => push_tile(alloc, bytes, words, 5_760)?,
-            Some(("times", words)) => push_times(bytes, words)?,
-            _ if part == "properties" => push_text(bytes, PROPERTIES)?,
-            _ => push_text(bytes, part)?,
-        }
+        push_part(alloc, bytes, part)?;
     }
     Ok(())
 }

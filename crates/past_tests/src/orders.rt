@@ -6,7 +6,7 @@ ghost use Rattle.past_reads.specs.Past.{GoesOnFrom};
 
 use crate::surveys::{generation, journal, survey};
 use edit_journal::Journal;
-use generation::{Generation, Parts};
+use generation::Generation;
 use log::Log;
 use parent_rule::Steps;
 use past_reads::Past;
@@ -18,7 +18,6 @@ use std::thread::Threads;
 use std::time::Clock;
 use survey_conf::Conf;
 use survey_link::OpenGate;
-use tile_path::Path;
 
 // Batches of two edits each. Leaves come, change, go and come again, near to one another and far apart.
 static BATCHES: &str = "put 0 2888;%leaf 4 0 1 2 3 5%put 1 2888;%leaf 4 1 7 7 7 7%
@@ -42,48 +41,23 @@ static ORDERS: &str = "0 1 2 3 4 5 6 7 8 9 10 11 12
 // How many are held.
 static ROOMS: [usize; 3] = [1, 2, 8];
 
-// The bytes of the file at a path, in one; none where there is none.
-fn file(alloc: Global, generation: &Generation, path: &Path) -> Result<Vec<u8>, Fail> {
-    let mut front = Vec::new(alloc);
-    front.resize(2_880, 0)?;
-    match generation.file_parts(path, &mut front) {
-        Some(parts) => joined(front, &parts),
-        None => Ok(Vec::new(alloc)),
-    }
-}
-
-// The three parts of a file, of which the first lies at the front of these bytes.
-fn joined(mut bytes: Vec<u8>, parts: &Parts<'_>) -> Result<Vec<u8>, Fail> {
+// The bytes of the file with that number.
+fn file(alloc: Global, generation: &Generation, i: u64) -> Result<Vec<u8>, Fail> {
+    let path = generation.path(i).ok_or("no path")?;
+    let mut bytes = Vec::new(alloc);
+    bytes.resize(2_880, 0)?;
+    let parts = generation.file_parts(&path, &mut bytes).ok_or("no file")?;
     bytes.truncate(parts.front);
     bytes.extend_from_slice(parts.kept)?;
     bytes.extend_from_slice(parts.zeros)?;
     Ok(bytes)
 }
 
-// Whether both have the same file with that number, at the same path.
-fn is_same_place(
-    alloc: Global,
-    one: &Generation,
-    other: &Generation,
-    i: u64,
-) -> Result<bool, Fail> {
-    match one.path(i) {
-        Some(path) => {
-            let bytes = file(alloc, one, &path)?;
-            Ok(
-                !bytes.is_empty()
-                    && bytes == file(alloc, other, &path)?
-                    && other.path(i) == Some(path),
-            )
-        }
-        None => Ok(false),
-    }
-}
-
-// Whether both have the same files.
+// Whether both have the same files at the same paths.
 fn are_same(alloc: Global, one: &Generation, other: &Generation) -> Result<bool, Fail> {
     for i in 0..one.file_count() {
-        if !is_same_place(alloc, one, other, i)? {
+        let bytes = file(alloc, one, i)?;
+        if bytes.is_empty() || bytes != file(alloc, other, i)? || one.path(i) != other.path(i) {
             return Ok(false);
         }
     }
@@ -144,27 +118,43 @@ fn reads_all<R: Threads + Sync + Clock + Log>(
 fn reads_in_room<R: Threads + Sync + Clock + Log>(
     rt: &R,
     alloc: Global,
+    conf: &Arc<Conf>,
+    journal: &Journal,
     room: usize,
     order: &str,
-) -> Result<bool, Fail> {
+) -> Result<bool, Fail>
+    requires { journal.now.shape ≡ (arc_value conf.now).shape }
+{
     if room < 1 || room > 8 {
         return Err("no room".into());
     }
-    let conf = survey(alloc)?;
-    let journal = journal(alloc, &conf, BATCHES, 12)?;
-    let mut past = Past::new(alloc, conf.clone()?, &journal, room)?;
-    reads_all(rt, alloc, &conf, &mut past, &journal, order)
+    let mut past = Past::new(alloc, conf.clone()?, journal, room)?;
+    reads_all(rt, alloc, conf, &mut past, journal, order)
 }
 
-#[test]
-fn any_order_and_room_give_what_the_edits_make(rt: HostRuntime) -> Result<(), Fail> {
+// The same of each order and room.
+fn all_read<R: Threads + Sync + Clock + Log + Abort>(
+    rt: &R,
+    alloc: Global,
+    conf: &Arc<Conf>,
+    journal: &Journal,
+) -> Result<(), Fail>
+    requires { journal.now.shape ≡ (arc_value conf.now).shape }
+{
     for order in ORDERS.lines() {
         for room in ROOMS {
             assert!(rt;
-                reads_in_room(&rt, rt.alloc(), room, order)?,
+                reads_in_room(rt, alloc, conf, journal, room, order)?,
                 "{room}: {order}"
             );
         }
     }
     Ok(())
+}
+
+#[test]
+fn any_order_and_room_give_what_the_edits_make(rt: HostRuntime) -> Result<(), Fail> {
+    let conf = survey(rt.alloc())?;
+    let journal = journal(rt.alloc(), &conf, BATCHES, 12)?;
+    all_read(&rt, rt.alloc(), &conf, &journal)
 }

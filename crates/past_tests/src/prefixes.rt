@@ -8,7 +8,7 @@ use edit_journal::Journal;
 use generation::Generation;
 use log::Log;
 use parent_rule::Steps;
-use past_reads::{Past, PastRefusal};
+use past_reads::Past;
 use std::alloc::{AllocError, Global};
 use std::process::Abort;
 use std::sync::Arc;
@@ -43,7 +43,6 @@ fn read<R: Threads + Sync + Clock + Log>(
     let mut steps = Steps::new();
     let answer = match past.at(rt, journal, k, &OpenGate::new(), &mut steps) {
         Ok(found) => format!(in alloc; "{} {}", found.file_count(), found.leaves().len())?,
-        Err(PastRefusal::OutOfMemory) => format!(in alloc; "?")?,
         Err(refusal) => format!(in alloc; "{refusal}")?,
     };
     format!(in alloc; "{answer}|{}|{}", steps.count(), held(alloc, past)?)
@@ -66,15 +65,17 @@ static READS: &str = "0|2 0|0| 0
 1|5 1|1| 1 3
 4|7 2|1| 4 1";
 
+// Each prefix of a table is read as it says.
 fn all_are_read<R: Threads + Sync + Clock + Log + Abort>(
     rt: &R,
     alloc: Global,
     past: &mut Past,
     journal: &Journal,
+    table: &str,
 ) -> Result<(), Fail>
     requires { GoesOnFrom past.old journal.now }
 {
-    for row in READS.lines() {
+    for row in table.lines() {
         let (k, expected) = row.split_once('|').ok_or("no answer")?;
         let found = read(rt, alloc, past, journal, k.parse::<u32>()?)?;
         assert!(rt; found.as_str() == expected, "{row}: {found}");
@@ -82,13 +83,26 @@ fn all_are_read<R: Threads + Sync + Clock + Log + Abort>(
     Ok(())
 }
 
+// The same, of past states that nobody has read.
+fn all_are_read_from<R: Threads + Sync + Clock + Log + Abort>(
+    rt: &R,
+    alloc: Global,
+    mut past: Past,
+    journal: &Journal,
+    table: &str,
+) -> Result<(), Fail>
+    requires { GoesOnFrom past journal.now }
+{
+    all_are_read(rt, alloc, &mut past, journal, table)
+}
+
 #[test]
 fn past_states_are_read_in_any_order(rt: HostRuntime) -> Result<(), Fail> {
     let alloc = rt.alloc();
     let conf = survey(alloc)?;
     let journal = journal(alloc, &conf, BATCHES, 3)?;
-    let mut past = Past::new(alloc, conf, &journal, 2)?;
-    all_are_read(&rt, alloc, &mut past, &journal)
+    let past = Past::new(alloc, conf, &journal, 2)?;
+    all_are_read_from(&rt, alloc, past, &journal, READS)
 }
 
 // A batch of the opening leaves, under the cells 0, 1 and 767 of order 3.
@@ -100,55 +114,29 @@ static LATER: &str = "put 17 2888;%leaf 4 17 1 2 3 5%
 replace 0 2888;%leaf 4 0 2 2 2 2%remove 1;
 add 3070 2888;%leaf 4 3070 1 2 3 5%";
 
-// A prefix that is read, after those above it, where one is held; the steps where the opening generation is made anew, and where
-// it is kept. The opening leaves have three tiles above them.
-static STEPS: &str = "0 3 0
-4 3 3
-3 5 2
-1 4 1
-3 1 1
-3 0 0
-0 3 0
-1 1 1";
+// The same over the opening leaves, where one is held and the opening generation is made anew. The opening leaves have three tiles
+// above them.
+static ANEW: &str = "0|10 4|3| 0
+4|12 5|3| 4
+3|11 4|5| 3
+1|12 5|4| 1
+3|11 4|1| 3
+3|11 4|0| 3
+0|10 4|3| 0
+1|12 5|1| 1";
 
-// The number with that place in a row.
-fn number(row: &str, place: usize) -> Result<u64, Fail> {
-    Ok(row.split(' ').nth(place).unwrap_or("").parse::<u64>()?)
-}
+// And where it is kept, which spares steps.
+static KEPT: &str = "0|10 4|0| 0
+4|12 5|3| 4
+3|11 4|2| 3
+1|12 5|1| 1
+3|11 4|1| 3
+3|11 4|0| 3
+0|10 4|0| 0
+1|12 5|1| 1";
 
-// The steps of reading a prefix.
-fn steps_of<R: Threads + Sync + Clock + Log>(
-    rt: &R,
-    past: &mut Past,
-    journal: &Journal,
-    k: u64,
-) -> Result<u64, Fail>
-    requires { GoesOnFrom past.old journal.now }
-    ensures { GoesOnFrom past.new journal.now }
-{
-    let mut steps = Steps::new();
-    let _found = past.at(rt, journal, u32::try_from(k)?, &OpenGate::new(), &mut steps)?;
-    Ok(steps.count())
-}
-
-// Each read of the table takes the steps that stand at that place.
-fn all_take<R: Threads + Sync + Clock + Log + Abort>(
-    rt: &R,
-    past: &mut Past,
-    journal: &Journal,
-    place: usize,
-) -> Result<(), Fail>
-    requires { GoesOnFrom past.old journal.now }
-{
-    for row in STEPS.lines() {
-        let steps = steps_of(rt, past, journal, number(row, 0)?)?;
-        assert!(rt; steps == number(row, place)?, "{row}: {steps}");
-    }
-    Ok(())
-}
-
-// The steps of both kinds are those of the table.
-fn both_take<R: Threads + Sync + Clock + Log + Abort>(
+// The prefixes are read over an opening generation that is made anew, and over one that is kept.
+fn both_are_read<R: Threads + Sync + Clock + Log + Abort>(
     rt: &R,
     alloc: Global,
     opening: Arc<Generation>,
@@ -158,10 +146,10 @@ fn both_take<R: Threads + Sync + Clock + Log + Abort>(
     requires shape { journal.now.shape ≡ (arc_value opening).conf.shape }
     requires leaves { journal.now.opening ≡ (arc_value opening).leaves }
 {
-    let mut past = Past::new(alloc, opening.conf().clone()?, journal, 1)?;
-    all_take(rt, &mut past, journal, 1)?;
-    let mut past = Past::over(alloc, opening, journal, 1)?;
-    all_take(rt, &mut past, journal, 2)
+    let past = Past::new(alloc, opening.conf().clone()?, journal, 1)?;
+    all_are_read_from(rt, alloc, past, journal, ANEW)?;
+    let past = Past::over(alloc, opening, journal, 1)?;
+    all_are_read_from(rt, alloc, past, journal, KEPT)
 }
 
 #[test]
@@ -170,5 +158,5 @@ fn an_opening_generation_that_is_kept_spares_steps(rt: HostRuntime) -> Result<()
     let conf = survey(alloc)?;
     let opening = generation(&rt, alloc, &conf, OPENING, 1)?;
     let journal = journal_over(alloc, &opening, LATER, 3)?;
-    both_take(&rt, alloc, Arc::new(alloc, opening)?, &journal)
+    both_are_read(&rt, alloc, Arc::new(alloc, opening)?, &journal)
 }

@@ -45,10 +45,8 @@ batch 9;remove 0||Cut
 read 0 %times 120 x%;|absent;|Done
 read 0 %times 120 x%||Cut
 read 0 %times 121 x%;||0
-read 0 %times 121 x%||0";
-
-// The same of as many records as are taken, and of more.
-static MOST: &str = "%times 65536 read 0 x;%|%times 65536 absent;%|Done
+read 0 %times 121 x%||0
+%times 65536 read 0 x;%|%times 65536 absent;%|Done
 %times 65536 read 0 x;%look|%times 65536 absent;%|Spent";
 
 // How a row says that a session ends.
@@ -71,42 +69,29 @@ fn opening<R: Threads + Sync>(rt: &R, alloc: Global) -> Result<Arc<Generation>, 
     let conf = survey(alloc)?;
     let leaves = Store::new(alloc);
     // For the prover: a journal takes these leaves.
-    let _journal = Journal::start(alloc, conf.shape(), leaves.share()?)?;
+    drop(Journal::start(alloc, conf.shape(), leaves.share()?)?);
     let made = Generation::start(rt, alloc, conf, leaves, &OpenGate::new(), &mut Steps::new())?;
     Ok(Arc::new(alloc, made)?)
 }
 
-// Runs a session that holds two states, with the bytes in pieces of some size, where the reads with these numbers fail, and answers
-// how it ends.
-fn runs<R: Threads + Sync + Clock + Log>(
-    rt: &R,
-    alloc: Global,
-    opening: &Arc<Generation>,
-    input: &[u8],
-    piece: usize,
-    reads: &[u64],
-    sink: &mut MemSink,
-) -> Result<PastEnd, Fail>
-    requires piece { 0 < piece }
-    requires first { (arc_value opening.now).prefix ≡ 0 }
-    requires charge { charge_of (arc_value opening.now).leaves [] ≤ most_charge }
-{
-    let reads = Vec::from_slice(alloc, reads)?;
-    let mut source = MemSource::new(Vec::from_slice(alloc, input)?, piece, reads);
-    let opening = opening.clone()?;
-    let gate = OpenGate::new();
-    let mut steps = Steps::new();
-    Ok(past_session(rt, alloc, opening, 2, &mut source, sink, &gate, &mut steps))
+// Whether these bytes begin the output, and are all of it where no write failed.
+fn is_begun(bytes: &[u8], output: &[u8], end: PastEnd) -> bool {
+    output.starts_with(bytes) && (bytes.len() == output.len() || end == PastEnd::WriteFault)
 }
 
-// Whether the session of these bytes ends so with this output.
+// The number of a call that there isn't.
+const NO_CALL: u64 = u64::MAX;
+
+// Whether a session that holds two states, with the input in pieces of some size, ends so with this output, where the read and the
+// write or flush with these numbers fail.
 fn ends<R: Threads + Sync + Clock + Log>(
     rt: &R,
     alloc: Global,
     opening: &Arc<Generation>,
     input: &[u8],
     piece: usize,
-    reads: &[u64],
+    read: u64,
+    write: u64,
     wanted: PastEnd,
     output: &[u8],
 ) -> Result<bool, Fail>
@@ -114,9 +99,23 @@ fn ends<R: Threads + Sync + Clock + Log>(
     requires first { (arc_value opening.now).prefix ≡ 0 }
     requires charge { charge_of (arc_value opening.now).leaves [] ≤ most_charge }
 {
-    let mut sink = MemSink::new(alloc, 1_048_576, Vec::new(alloc))?;
-    let end = runs(rt, alloc, opening, input, piece, reads, &mut sink)?;
-    Ok(end == wanted && sink.bytes() == output)
+    let input = Vec::from_slice(alloc, input)?;
+    let mut source = MemSource::new(input, piece, Vec::from_slice(alloc, &[read])?);
+    let mut sink = MemSink::new(alloc, 1_048_576, Vec::from_slice(alloc, &[write])?)?;
+    let opening = opening.clone()?;
+    let gate = OpenGate::new();
+    let mut steps = Steps::new();
+    let end = past_session(
+        rt,
+        alloc,
+        opening,
+        2,
+        &mut source,
+        &mut sink,
+        &gate,
+        &mut steps,
+    );
+    Ok(end == wanted && is_begun(sink.bytes(), output, end))
 }
 
 // Whether the session of a row does what it says, with the input in pieces of some size.
@@ -132,7 +131,9 @@ fn answers<R: Threads + Sync + Clock + Log>(
     let output = bytes_of(alloc, row.split('|').nth(1).unwrap_or(""))?;
     let end = end_of(row.split('|').nth(2).unwrap_or(""))?;
     let opening = opening(rt, alloc)?;
-    ends(rt, alloc, &opening, &input, piece, &[], end, &output)
+    ends(
+        rt, alloc, &opening, &input, piece, NO_CALL, NO_CALL, end, &output,
+    )
 }
 
 #[test]
@@ -140,14 +141,6 @@ fn records_are_answered(rt: HostRuntime) -> Result<(), Fail> {
     for row in SESSIONS.lines() {
         assert!(rt; answers(&rt, rt.alloc(), row, 65_536)?, "{row}");
         assert!(rt; answers(&rt, rt.alloc(), row, 7)?, "in pieces: {row}");
-    }
-    Ok(())
-}
-
-#[test]
-fn a_session_takes_so_many_records(rt: HostRuntime) -> Result<(), Fail> {
-    for row in MOST.lines() {
-        assert!(rt; answers(&rt, rt.alloc(), row, 65_536)?, "{row}");
     }
     Ok(())
 }
@@ -183,18 +176,14 @@ fn is_cut<R: Threads + Sync + Clock + Log>(
         PastEnd::Cut
     };
     let first = input.get(..at).unwrap_or(input);
-    if !ends(rt, alloc, opening, first, 65_536, &[], end, output)? {
+    if !ends(
+        rt, alloc, opening, first, 65_536, NO_CALL, NO_CALL, end, output,
+    )? {
         return Ok(false);
     }
+    let end = PastEnd::ReadFault;
     ends(
-        rt,
-        alloc,
-        opening,
-        input,
-        1,
-        &[at as u64],
-        PastEnd::ReadFault,
-        output,
+        rt, alloc, opening, input, 1, at as u64, NO_CALL, end, output,
     )
 }
 
@@ -202,74 +191,73 @@ fn is_cut<R: Threads + Sync + Clock + Log>(
 fn all_are_cut<R: Threads + Sync + Clock + Log + Abort>(
     rt: &R,
     alloc: Global,
-    asked: &str,
+    opening: &Arc<Generation>,
     input: &[u8],
     begun: usize,
     output: &[u8],
-) -> Result<(), Fail> {
-    let opening = opening(rt, alloc)?;
+) -> Result<(), Fail>
+    requires first { (arc_value opening.now).prefix ≡ 0 }
+    requires charge { charge_of (arc_value opening.now).leaves [] ≤ most_charge }
+{
     for at in begun..input.len() {
         assert!(rt;
-            is_cut(rt, alloc, &opening, input, at, begun, output)?,
-            "{asked}, cut at {at}"
+            is_cut(rt, alloc, opening, input, at, begun, output)?,
+            "cut at {at}"
         );
     }
     Ok(())
 }
 
-#[test]
-fn a_cut_input_is_answered_up_to_its_last_whole_record(rt: HostRuntime) -> Result<(), Fail> {
-    let alloc = rt.alloc();
+// Each write or flush of the session fails. Each of its four answers is written by one call, with the file in it, and handed on by
+// another; a ninth call there isn't.
+fn all_fail<R: Threads + Sync + Clock + Log + Abort>(
+    rt: &R,
+    alloc: Global,
+    opening: &Arc<Generation>,
+    input: &[u8],
+    output: &[u8],
+) -> Result<(), Fail>
+    requires first { (arc_value opening.now).prefix ≡ 0 }
+    requires charge { charge_of (arc_value opening.now).leaves [] ≤ most_charge }
+{
+    for write in 0..9 {
+        let end = if write == 8 {
+            PastEnd::Done
+        } else {
+            PastEnd::WriteFault
+        };
+        assert!(rt;
+            ends(
+                rt, alloc, opening, input, 65_536, NO_CALL, write, end, output
+            )?,
+            "write {write}"
+        );
+    }
+    Ok(())
+}
+
+// The session of the records breaks off at each place of its input, and at each call of its sink.
+fn all_break_off<R: Threads + Sync + Clock + Log + Abort>(
+    rt: &R,
+    alloc: Global,
+    opening: &Arc<Generation>,
+) -> Result<(), Fail>
+    requires first { (arc_value opening.now).prefix ≡ 0 }
+    requires charge { charge_of (arc_value opening.now).leaves [] ≤ most_charge }
+{
     let mut input = Vec::new(alloc);
     let mut output = Vec::new(alloc);
     for (asked, answered) in ASKED.lines().zip(ANSWERED.lines()) {
         let begun = input.len();
         push_bytes(alloc, &mut input, asked)?;
-        all_are_cut(&rt, alloc, asked, &input, begun, &output)?;
+        all_are_cut(rt, alloc, opening, &input, begun, &output)?;
         push_bytes(alloc, &mut output, answered)?;
     }
-    Ok(())
+    all_fail(rt, alloc, opening, &input, &output)
 }
 
-// The bytes of a table's lines, one after another.
-fn all_of(alloc: Global, table: &str) -> Result<Vec<u8>, Fail> {
-    let mut bytes = Vec::new(alloc);
-    for line in table.lines() {
-        push_bytes(alloc, &mut bytes, line)?;
-    }
-    Ok(bytes)
-}
-
-// Whether the session of those records ends so where the write or flush with that number fails, with a first part of its output,
-// or all of it.
-fn fails<R: Threads + Sync + Clock + Log>(
-    rt: &R,
-    alloc: Global,
-    call: u64,
-    wanted: PastEnd,
-) -> Result<bool, Fail> {
-    let output = all_of(alloc, ANSWERED)?;
-    let input = all_of(alloc, ASKED)?;
-    let mut sink = MemSink::new(alloc, 65_536, Vec::from_slice(alloc, &[call])?)?;
-    let opening = opening(rt, alloc)?;
-    let end = runs(rt, alloc, &opening, &input, 65_536, &[], &mut sink)?;
-    Ok(end == wanted && is_begun(sink.bytes(), &output, end))
-}
-
-// Whether these bytes begin the output, and are all of it where no write failed.
-fn is_begun(bytes: &[u8], output: &[u8], end: PastEnd) -> bool {
-    output.starts_with(bytes) && (bytes.len() == output.len() || end == PastEnd::WriteFault)
-}
-
-// Each answer is written by one call, with the file in it, and handed on by another.
 #[test]
-fn a_failing_write_ends_a_session(rt: HostRuntime) -> Result<(), Fail> {
-    for call in 0..8 {
-        assert!(rt;
-            fails(&rt, rt.alloc(), call, PastEnd::WriteFault)?,
-            "{call}"
-        );
-    }
-    assert!(rt; fails(&rt, rt.alloc(), 8, PastEnd::Done)?);
-    Ok(())
+fn a_session_that_breaks_off_is_answered_up_to_there(rt: HostRuntime) -> Result<(), Fail> {
+    let opening = opening(&rt, rt.alloc())?;
+    all_break_off(&rt, rt.alloc(), &opening)
 }

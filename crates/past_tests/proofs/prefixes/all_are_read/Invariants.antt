@@ -1,4 +1,3 @@
-use Rattle.std.proofs.Common.{◌≡◌, ◌≤◌, IfOk, ℕ, ◌+◌, ◌-◌, ◌*◌, ◌<◌, length}
 use Rattle.past_reads.specs.Past.{GoesOnFrom}
 use Rattle.past_tests.proofs.prefixes.all_are_read.Given as goal
 
