@@ -124,7 +124,7 @@ Does Mirror tells old new status = RunsMirror
 -- ---- what holds of each command
 
 -- what it doesn't use stays
-pub record Spares {S K H D : Type 0} (command : Command) (tells : Telling S K H D) (old new : Ends S K H D) : Type 0 where
+pub record KeepsUnused {S K H D : Type 0} (command : Command) (tells : Telling S K H D) (old new : Ends S K H D) : Type 0 where
   pub source : reads_source command ≡ false → new.source ≡ old.source
   pub shelf : opens_shelf command ≡ false → new.shelf ≡ old.shelf
   pub files : writes_files command ≡ false → files_in tells new ≡ files_in tells old
@@ -143,5 +143,5 @@ pub record TellsFaults {S K H D : Type 0} (tells : Telling S K H D) (old new : E
 
 pub record Runs {S K H D : Type 0} (command : Command) (tells : Telling S K H D) (old new : Ends S K H D) (status : ℕ) : Type 0 where
   pub does : Does command tells old new status
-  pub spares : Spares command tells old new
+  pub unused : KeepsUnused command tells old new
   pub faults : TellsFaults tells old new status

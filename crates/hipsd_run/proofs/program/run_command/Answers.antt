@@ -23,7 +23,7 @@ returns-in-Probe g c =
         reads = done.reads;
         end = done.end;
       };
-      spares = record { source = is_used; shelf = λ _. refl; files = λ _. refl; doors = λ _. refl };
+      unused = record { source = is_used; shelf = λ _. refl; files = λ _. refl; doors = λ _. refl };
       faults = record {
         not_usage = done.not_usage;
         read_fault = done.read_fault;
@@ -41,7 +41,7 @@ returns-in-Session g c =
     rw c.in-Session.is
     (record {
       does = record { run = done.run; unread = done.unread };
-      spares = record { source = is_used; shelf = is_used; files = λ _. done.kept; doors = λ _. refl };
+      unused = record { source = is_used; shelf = is_used; files = λ _. done.kept; doors = λ _. refl };
       faults = record {
         not_usage = done.not_usage;
         read_fault = done.read_fault;
@@ -59,7 +59,7 @@ returns-in-Export g c =
     rw c.in-Export.is
     (record {
       does = done.run;
-      spares = record { source = λ _. refl; shelf = is_used; files = is_used; doors = λ _. refl };
+      unused = record { source = λ _. refl; shelf = is_used; files = is_used; doors = λ _. refl };
       faults = record {
         not_usage = done.not_usage;
         read_fault = λ e. absurd (done.not_read e);
@@ -77,7 +77,7 @@ returns-in-Verify g c =
     rw c.in-Verify.is
     (record {
       does = done.run;
-      spares = record { source = λ _. refl; shelf = is_used; files = λ _. done.kept; doors = λ _. refl };
+      unused = record { source = λ _. refl; shelf = is_used; files = λ _. done.kept; doors = λ _. refl };
       faults = record {
         not_usage = done.not_usage;
         read_fault = λ e. absurd (done.not_read e);
@@ -95,7 +95,7 @@ returns-in-Make g c =
     rw c.in-Make.is
     (record {
       does = done.run;
-      spares = record { source = λ _. refl; shelf = λ _. refl; files = λ _. refl; doors = λ _. refl };
+      unused = record { source = λ _. refl; shelf = λ _. refl; files = λ _. refl; doors = λ _. refl };
       faults = record {
         not_usage = done.not_usage;
         read_fault = λ e. absurd (done.not_read e);
@@ -123,7 +123,7 @@ returns-in-Serve g c =
             _ _ _ _ old new done.run;
         beyond = ap (drop c.in-Serve.places) new ∙ done.beyond ∙ ap (drop c.in-Serve.places) old;
       };
-      spares = record { source = λ _. refl; shelf = is_used; files = λ _. done.kept; doors = is_used };
+      unused = record { source = λ _. refl; shelf = is_used; files = λ _. done.kept; doors = is_used };
       faults = record {
         not_usage = done.not_usage;
         read_fault = λ e. absurd (done.not_read e);
@@ -141,7 +141,7 @@ returns-in-Past g c =
     rw c.in-Past.is
     (record {
       does = record { run = done.run; over = done.over; handed_on = done.handed_on; unread = done.unread };
-      spares = record { source = is_used; shelf = is_used; files = λ _. done.kept; doors = λ _. refl };
+      unused = record { source = is_used; shelf = is_used; files = λ _. done.kept; doors = λ _. refl };
       faults = record {
         not_usage = done.not_usage;
         read_fault = done.read_fault;
@@ -159,7 +159,7 @@ returns-in-Catalog g c =
     rw c.in-Catalog.is
     (record {
       does = record { run = done.run; end = done.end };
-      spares = record { source = is_used; shelf = is_used; files = is_used; doors = λ _. refl };
+      unused = record { source = is_used; shelf = is_used; files = is_used; doors = λ _. refl };
       faults = record {
         not_usage = done.not_usage;
         read_fault = done.read_fault;
@@ -177,7 +177,7 @@ returns-in-Mirror g c =
     rw c.in-Mirror.is
     (record {
       does = done.run;
-      spares = record { source = is_used; shelf = is_used; files = is_used; doors = λ _. refl };
+      unused = record { source = is_used; shelf = is_used; files = is_used; doors = λ _. refl };
       faults = record {
         not_usage = done.not_usage;
         read_fault = done.read_fault;
