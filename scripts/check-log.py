@@ -1,0 +1,638 @@
+#!/usr/bin/python3
+"""Runs the built program as its users do, and compares each line that it says on standard error with what it has to be. Then each
+call of the log in the source is looked for: a run has to have said a line of it, but for those in UNSAID.
+
+    scripts/check-log.py [PROGRAM]
+
+PROGRAM is crates/hipsd/out/hipsd if none is named. In the lines of this script `#` stands for a number that the run decides, a
+port or a time, and `~` for words of the system. `scripts/fast-clock.c` gives the program a clock by which a
+second passes at each reading, so that progress is said.
+"""
+
+import os
+import re
+import shutil
+import socket
+import struct
+import subprocess
+import sys
+import tempfile
+import threading
+from contextlib import suppress
+from itertools import zip_longest
+from pathlib import Path
+
+from survey_files import Survey, image, tile_path
+
+TOP = Path(__file__).resolve().parent.parent
+SURVEY = Survey("log", "Survey log", top=4, low=3, width=2)
+CONF = {"survey.conf": SURVEY.description()}
+TILE = image(2, 2, [1, 2, 3, 4], ("ORDER", 4), ("NPIX", 0))
+VERSION, TOOLCHAIN = (
+    re.search(rf'pub const {name}: &str = "(.*)";', (TOP / "crates/hipsd_run/src/version.rt").read_text())[1]
+    for name in ("VERSION", "TOOLCHAIN")
+)
+
+# What the program never says, or only where it has no memory.
+UNSAID = {
+    # It keeps the generation of the opening leaves.
+    "made {k} from the opening leaves: {tiles} tiles built in {millis} ms",
+    "there was no memory to serve the survey",
+}
+
+
+def lines(level, target, *texts):
+    return [f"[{level:5} {target}] {text}" for text in texts]
+
+
+def error(target, *texts):
+    return lines("ERROR", target, *texts)
+
+
+def warn(target, *texts):
+    return lines("WARN", target, *texts)
+
+
+def info(target, *texts):
+    return lines("INFO", target, *texts)
+
+
+def debug(target, *texts):
+    return lines("DEBUG", target, *texts)
+
+
+THIS = info("hipsd_run::version", f"hipsd {VERSION}, toolchain {TOOLCHAIN}")
+
+
+class Check:
+    """The program, a folder for its surveys, and what its runs have said."""
+
+    def __init__(self, program, folder):
+        self.program, self.folder = program, folder
+        self.said, self.runs, self.wrong, self.surveys = set(), 0, 0, 0
+        self.clock = folder / "fast-clock.so"
+        subprocess.run(["cc", "-shared", "-fPIC", "-O2", "-o", self.clock, TOP / "scripts/fast-clock.c"], check=True)
+
+    def survey(self, files):
+        """A new folder with these files, by their paths."""
+        self.surveys += 1
+        folder = self.folder / str(self.surveys)
+        folder.mkdir()
+        for path, data in files.items():
+            (folder / path).parent.mkdir(parents=True, exist_ok=True)
+            (folder / path).write_bytes(data)
+        return folder
+
+    def start(self, words, folder, level="info", fast=False, **ends):
+        """The program, started with these words over the folder, at this level, by the fast clock or the machine's own."""
+        environment = {"HIPSD_LOG": level} | ({"LD_PRELOAD": self.clock} if fast else {})
+        return subprocess.Popen([self.program, *words], cwd=folder, env=environment, stderr=subprocess.PIPE, **ends)
+
+    def run(self, words, wanted, files=CONF, given=b"", folder=None, stdin=subprocess.PIPE, stdout=subprocess.DEVNULL, **how):
+        """Runs the words over this folder, or a new one with these files, and compares what is said. Answers the folder."""
+        folder = folder or self.survey(files)
+        process = self.start(words, folder, stdin=stdin, stdout=stdout, **how)
+        _, said = process.communicate(given if stdin == subprocess.PIPE else None, timeout=120)
+        self.compare(words, said, wanted)
+        return folder
+
+    def compare(self, words, said, wanted):
+        """Compares what a run with these words said with the lines that it has to say."""
+        said = said.decode(errors="backslashreplace").splitlines()
+        self.said.update(said)
+        self.runs += 1
+        for at, (line, right) in enumerate(zip_longest(said, wanted)):
+            pattern = re.escape(right or "").replace(r"\#", "[0-9]+").replace(r"\~", ".+")
+            if line is None or right is None or not re.fullmatch(pattern, line):
+                self.wrong += 1
+                print(f"check-log: {words} says as line {at + 1}\n  {line}\nin place of\n  {right}", file=sys.stderr)
+                return
+
+
+# ---- words that are no command's
+
+COMMANDS = {
+    "serve": "ADDRESS CONNECTIONS PLACES",
+    "session": "",
+    "export": "",
+    "verify": "",
+    "make": "NUMBER EDITS",
+    "past": "CACHE",
+    "catalog": "K N",
+    "mirror": "ADDRESS",
+    "probe": "K N k p",
+}
+BOUNDS = {
+    "serve": "an IP address or a host's name with a port, 1 to 65536 connections at each place, 1 to 64 places",
+    "session": "no other word",
+    "export": "no other word",
+    "verify": "no other word",
+    "make": "a number below 2^64, 1 to 4096 edits",
+    "past": "1 to 8 generations are held",
+    "catalog": "K 0 to 11, 1 to 4096 rows a tile above order K",
+    "mirror": "an IP address or a host's name with a port",
+    "probe": "K 3 to 11, N 1 to 9, k 0 to K, p below 2^64",
+}
+# Words, and what is wrong with them.
+WRONG_NUMBERS = """
+serve a 0 0|CONNECTIONS = 0: 1 to 65536|PLACES = 0: 1 to 64
+serve a 65537 65|CONNECTIONS = 65537: 1 to 65536|PLACES = 65: 1 to 64
+serve a x 1|CONNECTIONS = x: a number from 1 to 65536, in plain decimals
+make 18446744073709551616 1|NUMBER = 18446744073709551616: a number from 0 to 18446744073709551615, in plain decimals
+make 0 0|EDITS = 0: 1 to 4096
+make 01 4097|NUMBER = 01: a number from 0 to 18446744073709551615, in plain decimals|EDITS = 4097: 1 to 4096
+past 0|CACHE = 0: 1 to 8
+past 9|CACHE = 9: 1 to 8
+catalog 12 0|K = 12: 0 to 11|N = 0: 1 to 4096
+catalog 0 4097|N = 4097: 1 to 4096
+probe 2 0 0 0|K = 2: 3 to 11|N = 0: 1 to 9
+probe 12 10 12 -1|K = 12: 3 to 11|N = 10: 1 to 9|k = 12: 0 to 11|p = -1: a number from 0 to 18446744073709551615, in plain decimals
+probe 4 1 5 0|k = 5: 0 to K, which is 4
+"""
+
+
+def help_lines(*texts):
+    return error("hipsd_run::help", *texts)
+
+
+def right_words(command):
+    return f"the words are: hipsd {command} {COMMANDS[command]} ({BOUNDS[command]})"
+
+
+def wrong_words(check):
+    every = help_lines("the commands are:", *(f"  hipsd {name} {words}" for name, words in COMMANDS.items())) + THIS
+    nothing = help_lines("no command is named, or a word is not UTF-8") + every
+    check.run([], nothing)
+    check.run([b"probe", b"\xff"], nothing)
+    check.run(["--version"], help_lines('there is no command "--version"') + every)
+    for command, words in COMMANDS.items():
+        count = len(words.split())
+        given = ["1"] * (count + 1)
+        told = f"{command} takes {count} words after its name, and here are {count + 1}"
+        check.run([command, *given], help_lines(told, right_words(command)))
+    for row in WRONG_NUMBERS.strip().splitlines():
+        words, *told = row.split("|")
+        check.run(words.split(), help_lines(*told, right_words(words.split()[0])))
+
+
+# ---- levels
+
+def levels(check):
+    known = "off, error, warn, info, debug or trace; it is info now"
+    exported = info("shelf_io::words", "2 of 2 files written, the others were right; 0 removed")
+    check.run(["export"], exported)
+    check.run(["export"], warn("hipsd", f'HIPSD_LOG = "loud": {known}') + exported, level="loud")
+    check.run(["export"], warn("hipsd", f"HIPSD_LOG is not UTF-8: {known}") + exported, level=b"\xff")
+    for level in ("off", "error", "warn"):
+        check.run(["export"], [], level=level)
+    for level in ("debug", "trace"):
+        check.run(["export"], exported, level=level)
+
+
+# ---- a survey's folder
+
+# A line of the description that is replaced, by the beginning of its text, or added; and what is wrong then. L is its number.
+DESCRIPTIONS = r"""
+creator_did = ivo://example/P/log|||creator_did is missing
+hips_order = 4|hips_order = 12||line L, hips_order = 12: an order is 3 to 11
+hips_order_min = 3|hips_order_min = 4||line L, hips_order_min = 4: the lowest order is 0 to 3
+hips_tile_width = 2|hips_tile_width = 3||line L, hips_tile_width = 3: a width is 2, 4, 8, 16, 32, 64, 128, 256 or 512
+survey_bitpix = 16|survey_bitpix = 24||line L, survey_bitpix = 24: it is 8, 16, 32 or 64
+survey_blank = -32768|survey_blank = 32768||line L, survey_blank = 32768: it is a whole number that survey_bitpix can hold
+||survey_bscale = 0|line L, survey_bscale = 0: it is a real number that isn't 0, of at most 18 digits
+||survey_bzero = x|line L, survey_bzero = x: it is a real number of at most 18 digits
+||survey_version = 3|line L, survey_version = 3: a version is 1 or 2
+||survey_rule = most|line L, survey_rule = most: a rule is mean or median
+||survey_rule = mean|line L, survey_rule = mean: only survey_version = 2 has this key
+||dataproduct_type = cube|line L, dataproduct_type = cube: it is image
+||hips_version = 1.3|line L, hips_version = 1.3: it is 1.4
+||hips_frame = galactic|line L, hips_frame = galactic: it is equatorial
+||hips_tile_format = png|line L, hips_tile_format = png: it is fits
+||hips_order = 4|line L, hips_order = 4: the key stands in an earlier line
+||survey_colour = red|line L, survey_colour = red: this version has no such key, and survey_ is for its own
+||survey_rules = mean|line L, survey_rules = mean: this version has no such key; survey_rule is one
+||hips order|line L, hips order: there is no =
+||Hips = 1|line L, Hips = 1: a key is at most 64 of a to z, 0 to 9 and _, a letter first
+||key =|line L, key =: a value is 1 to 1024 bytes, none of them a control character
+"""
+# The bytes of a leaf's file, its fault, and what it looks like.
+LEAVES = [
+    (b"", "1 header 1", "an empty file"),
+    (b"\x1f\x8b\x08", "1 header 1", "gzip"),
+    (b"\x89PNG\r\n", "1 header 1", "a PNG image"),
+    (b"\xff\xd8\xff\xe0", "1 header 1", "a JPEG image"),
+    (bytes(8), "1 header 1", "zeros"),
+    (b"<html>", "1 header 1", "none of FITS, gzip, PNG and JPEG"),
+    (image(3, 2, [0] * 6), "5 width 1 3", "FITS"),
+]
+
+
+def descriptions(check):
+    check.run(["verify"], error("shelf_io::words", "there is no file survey.conf, which describes the survey"), files={})
+    for row in DESCRIPTIONS.strip().splitlines():
+        old, new, more, told = row.split("|")
+        text = SURVEY.description().decode()
+        number = text.splitlines().index(old) + 1 if old else len(text.splitlines()) + 1
+        text = text.replace(old, new, 1) if old else f"{text}{more}\n"
+        said = error("shelf_io::words", "survey.conf: " + told.replace("L,", f"{number},", 1))
+        check.run(["verify"], said, files={"survey.conf": text.encode()})
+    extra = {"survey.conf": SURVEY.description() + b"hips_frames = equatorial\nobs_tilte = x\n"}
+    known = warn("shelf_io::words", "survey.conf: the key hips_frames has no meaning here; hips_frame is a known one")
+    check.run(["export"], known + info("shelf_io::words", "2 of 2 files written, the others were right; 0 removed"), files=extra)
+
+
+def folders(check):
+    leaf = tile_path(4, 0)
+    for data, fault, look in LEAVES:
+        said = f"{leaf} is no tile of this survey ({fault}); it has {len(data)} bytes and looks like {look}"
+        check.run(["verify"], error("shelf_io::words", said), files=CONF | {leaf: data})
+    odd = {"Norder4/Dir0/Npix07.fits": b"", "Norder4/Dir10000/Npix7.fits": b"", tile_path(5, 7): b"", tile_path(6, 9): b""}
+    near = "files that look like tiles and are none: 2, as Norder4/Dir0/Npix07.fits; tile 7 would be Norder4/Dir0/Npix7.fits, and "
+    near += "Dir is the greatest multiple of 10000 up to the number"
+    above = f"tiles of an order above 4, that of the leaves: 2, as {tile_path(5, 7)}; they aren't read, and export removes them"
+    said = warn("shelf_io::near_leaf", near, above)
+    right = SURVEY.files({0: [1, 2, 3, 4]})
+    given = CONF | odd | {leaf: TILE, "properties": next(right), "Moc.fits": next(right)}
+    folder = check.run(["export"], said + info("shelf_io::words", "2 of 5 files written, the others were right; 2 removed"), files=given)
+    check.run(["verify"], said[:1], folder=folder)
+
+
+# A command, a file in its way, and which call fails. As root calls that aren't allowed succeed, so none of them stands here.
+IN_THE_WAY = """
+export|Moc.fits/file|can't read Moc.fits: Is a directory (os error 21)
+export|Moc.fits.unfinished/file|can't remove Moc.fits.unfinished: Is a directory (os error 21)
+export|Norder3/Dir0|can't make the folder Norder3/Dir0: File exists (os error 17)
+export|Norder3|can't put Norder3/Dir0/Npix0.fits: entity not found
+catalog 1 1|Norder0/Dir0/Npix0.tsv/file|can't move the whole file to Norder0/Dir0/Npix0.tsv: Is a directory (os error 21)
+"""
+
+
+def folder_faults(check):
+    folder = check.survey({})
+    (folder / "survey.conf").symlink_to("survey.conf")
+    loop = "can't read survey.conf: Too many levels of symbolic links (os error 40)"
+    check.run(["verify"], error("hipsd::faults", loop), folder=folder)
+    for row in IN_THE_WAY.strip().splitlines():
+        words, path, fault = row.split("|")
+        files = CONF | {tile_path(4, 0): TILE, path: b""}
+        check.run(words.split(), error("hipsd::faults", fault), files=files, given=b"5\t0\ta\t\n")
+    peer = Peer(replies({}))
+    peer.start()
+    check.run(["mirror", peer.address], error("hipsd::faults", "can't read Moc.fits: Is a directory (os error 21)"), files={"Moc.fits/file": b""})
+    peer.join()
+
+
+def progress(check):
+    leaves = {tile_path(4, npix): image(2, 2, [npix] * 4, ("ORDER", 4), ("NPIX", npix)) for npix in range(3)}
+    # Three leaves, one tile above them, the mosaic, the coverage file and the properties.
+    read = info("shelf_io::progress", *(f"leaves read: {at} of 3" for at in range(1, 4)))
+    written = info("shelf_io::progress", *(f"files compared and written: {at} of 7" for at in range(1, 8)))
+    said = read + written + info("shelf_io::words", "4 of 7 files written, the others were right; 0 removed")
+    folder = check.run(["export"], said, files=CONF | leaves, fast=True)
+    check.run(["verify"], read + info("shelf_io::progress", *(f"files compared: {at} of 7" for at in range(1, 8))), folder=folder, fast=True)
+    rows = b"1\t0\ta\t\n2\t1\tb\t\n"
+    said = info("catalog_command::progress", "lines read: 1", "lines read: 2", "tiles written: 1", "tiles written: 2")
+    check.run(["catalog", "1", "1"], said + info("catalog_command::words", "2 rows in 2 tiles"), given=rows, fast=True)
+
+
+# ---- the lines of a catalogue
+
+# The lines, the number of the wrong one, and what is wrong with it.
+ROWS = [
+    (b"5\t0\ta", 1, 1, "a row has four fields with one TAB between each two"),
+    (b"5\t0\ta\t\n05\t0\tb\t\n", 2, 2, "the rank is a number below 2^64 without a sign or leading zeros"),
+    (b"5\t48\ta\t\n", 1, 3, "the second field is the number of a cell of the deepest order"),
+    (b"5\t0\ta b\t\n", 1, 4, "an id is 1 to 64 characters of ASCII without blanks"),
+    (b"5\t0\ta\t\x7f\n", 1, 5, "the last field is at most 256 bytes without control characters"),
+    (b"5\t0\ta\t" + b"x" * 512 + b"\n", 1, 6, "a line has at most 512 bytes with its line feed"),
+    (b"5\t0\ta\t\n6\t1\ta\t\n", 2, 7, "a row has this id already; a line `-` TAB ID takes it out"),
+    (b"-\ta\n", 1, 9, "no row has the id that is to be taken out"),
+    (b"5\t0\ta\t\n-\ta\n" * 1_000_000 + b"5\t0\ta\t\n", 2_000_001, 10, "an input has at most 2000000 lines"),
+]
+
+
+def catalogues(check):
+    for given, line, kind, fault in ROWS:
+        given = given if given.endswith(b"\n") else given + b"\n"
+        check.run(["catalog", "1", "1"], error("catalog_command::words", f"line {line} (kind {kind}): {fault}"), given=given, level="error")
+    full = b"".join(b"5\t0\t%d\t\n" % row for row in range(1_000_001))
+    said = "line 1000001 (kind 8): a catalogue has at most 1000000 rows"
+    check.run(["catalog", "1", "1"], error("catalog_command::words", said), given=full, level="error")
+    cut = "the last line has no line feed: the input may be cut off"
+    check.run(["catalog", "1", "1"], error("catalog_command::words", cut), given=b"5\t0\ta\t")
+    check.run(["catalog", "1", "1"], info("catalog_command::words", "1 rows in 1 tiles"), given=b"5\t0\ta\t\n")
+
+
+# ---- records of the past
+
+def records(check):
+    tile = b"put 0 %d\n" % len(TILE) + TILE
+    batch = b"batch %d\n" % len(tile) + tile
+    reads = b"read 1 properties\nread 2 properties\nread 0 properties\nread 2 x\n"
+    made = [f"made {made}: {tiles} tiles built in # ms" for made, tiles in (("1 from 0", 1), ("2 from 1", 1), ("0 from 0", 0))]
+    check.run(["past", "2"], info("past_reads::saying", *made), given=batch + batch + reads)
+    form = 'record 1, counted from 0, has no line of a record: "batch LENGTH" or "read K PATH", up to 128 bytes with its line feed, '
+    form += "numbers in plain decimals, K below 2^32, LENGTH up to that of the longest batch of this survey"
+    check.run(["past", "1"], error("survey_commands::past", form), given=b"read 1 x\nlook\n")
+    check.run(["past", "1"], error("survey_commands::past", "the input ends within a record"), given=b"read 1 x\nread")
+    spent = "the input goes on after 65536 records, of which one run takes no more"
+    check.run(["past", "1"], error("survey_commands::past", spent), given=b"read 1 x\n" * 65_537)
+
+
+# ---- connections
+
+def ask(method, path, more=b"", body=b"", version=b"1.1"):
+    length = b"Content-Length: %d\r\n" % len(body) if body or method == b"PUT" else b""
+    return b"%s %s HTTP/%s\r\nHost: a\r\n%s%s\r\n%s" % (method, path, version, more, length, body)
+
+
+LEAF_ASKED = "/Norder4/Dir0/Npix0.fits"
+LEAF = LEAF_ASKED.encode()
+REMOVED = b"remove 0\n"
+# Requests, and what is said of each, but for the microseconds.
+REQUESTS = [
+    (ask(b"GET", b"/properties"), "GET /properties 200 380 @ -"),
+    (ask(b"HEAD", b"/properties"), "HEAD /properties 200 0 @ -"),
+    (ask(b"GET", LEAF), "GET /Norder4/Dir0/Npix0.fits 404 10 @ not_found"),
+    (ask(b"HEAD", LEAF), "HEAD /Norder4/Dir0/Npix0.fits 404 0 @ not_found"),
+    (ask(b"GET", b"/a%20b%22%5C%0a%ff%7e"), r"GET /a\x20b\"\\\n\xff~ 404 10 @ not_found"),
+    (ask(b"GET", b"*"), "GET - 404 10 @ not_found"),
+    (ask(b"PUT", LEAF, body=b"none"), "PUT /Norder4/Dir0/Npix0.fits 422 24 @ tile_refused_1_header_1"),
+    (ask(b"PUT", LEAF, b"If-Match: *\r\n", TILE), "PUT /Norder4/Dir0/Npix0.fits 412 20 @ precondition_failed"),
+    (ask(b"PUT", LEAF, body=TILE), "PUT /Norder4/Dir0/Npix0.fits 201 0 @ -"),
+    (ask(b"PUT", LEAF, body=TILE), "PUT /Norder4/Dir0/Npix0.fits 204 0 @ -"),
+    (ask(b"POST", b"/batch", body=REMOVED * 2), "POST /batch 412 28 @ batch_1_precondition_failed"),
+    (ask(b"POST", b"/batch", body=b"sing"), "POST /batch 422 21 @ batch_refused_0_line"),
+    (ask(b"DELETE", LEAF), "DELETE /Norder4/Dir0/Npix0.fits 204 0 @ -"),
+    (ask(b"DELETE", LEAF), "DELETE /Norder4/Dir0/Npix0.fits 404 7 @ absent"),
+    (ask(b"PUT", LEAF, body=TILE), "PUT /Norder4/Dir0/Npix0.fits 201 0 @ -"),
+    (ask(b"POST", b"/publish"), "POST /publish 200 12 @ -"),
+    (ask(b"POST", b"/publish"), "POST /publish 200 10 @ -"),
+    (ask(b"POST", b"/pin"), "POST /pin 200 9 @ -"),
+    (ask(b"POST", b"/unpin"), "POST /unpin 200 9 @ -"),
+    (ask(b"PATCH", b"/pin"), "OTHER /pin 405 19 @ method_not_allowed"),
+    (ask(b"POST", LEAF), "POST /Norder4/Dir0/Npix0.fits 405 19 @ method_not_allowed"),
+]
+PUBLISHED = info("hips_http::saying", "published 4 edits, 4 of 4 in all: 1 tiles built in # ms")
+# Heads that are refused by their framing, with the code and its reason.
+REFUSED = [
+    (b"GET / HTTP/2.0\r\nHost: a\r\n\r\n", 505, "http_version_not_supported"),
+    (b"GET / HTTP/1.1\r\n\r\n", 400, "bad_request"),
+    (ask(b"GET", b"/", b"Transfer-Encoding: chunked\r\n"), 501, "not_implemented"),
+    (b"PUT / HTTP/1.1\r\nHost: a\r\n\r\n", 411, "length_required"),
+    (b"PUT / HTTP/1.1\r\nHost: a\r\nContent-Length: 10000000\r\n\r\n", 413, "content_too_large"),
+    (b"GET / HTTP/1.1\r\nHost: " + b"a" * 8192 + b"\r\n\r\n", 431, "request_header_fields_too_large"),
+]
+
+
+def sessions(check):
+    said = []
+    for _, line in REQUESTS:
+        said += PUBLISHED if "publish 200 12" in line else []
+        said += debug("request", line.replace("@", "#"))
+    whole = b"".join(request for request, _ in REQUESTS)
+    check.run(["session"], said, given=whole, level="debug")
+    check.run(["session"], PUBLISHED, given=whole)
+    for head, code, reason in REFUSED:
+        check.run(["session"], debug("request", f"- - {code} 0 # {reason}"), given=head, level="debug")
+    with open("/dev/full", "wb") as full:
+        unwritten = debug("request", "GET /x 404 10 # not_found")
+        unwritten += error("hipsd::faults", "can't write to the standard output: No space left on device (os error 28)")
+        check.run(["session"], unwritten, given=ask(b"GET", b"/x"), level="debug", stdout=full)
+    folder = os.open("/", os.O_RDONLY)
+    unread = error("hipsd::faults", "can't read the standard input: Is a directory (os error 21)")
+    check.run(["session"], unread, level="debug", stdin=folder)
+    os.close(folder)
+
+
+# ---- a server
+
+def free_port():
+    with socket.socket() as taken:
+        taken.bind(("127.0.0.1", 0))
+        return taken.getsockname()[1]
+
+
+def served(port, requests, reset=False):
+    """Sends these requests by a connection of its own, and reads until the server has ended it; or resets it at once."""
+    with socket.create_connection(("127.0.0.1", port), timeout=30) as client:
+        if reset:
+            client.setsockopt(socket.SOL_SOCKET, socket.SO_LINGER, RESETS)
+            client.sendall(requests)
+            return
+        sender = threading.Thread(target=send, args=(client, requests))
+        sender.start()
+        # The server ends it with requests unread where it has answered as many as it takes.
+        with suppress(ConnectionError):
+            while client.recv(65_536):
+                pass
+        sender.join()
+
+
+def send(client, requests):
+    with suppress(ConnectionError):
+        client.sendall(requests)
+        client.shutdown(socket.SHUT_WR)
+
+
+def read_until(process, text):
+    """What the process says up to a line with this text."""
+    said = b""
+    for line in process.stderr:
+        said += line
+        if text in line:
+            break
+    return said
+
+
+# How a connection is closed with a reset in place of an end.
+RESETS = struct.pack("ii", 1, 0)
+LOADED = info("survey_commands::serve", "loaded 0 leaves in # ms: 2 files are served")
+GONE = "Edits that weren't copied from here are gone now"
+# The connections of a server: what each sends, what is said of its requests, and how it ends.
+CONNECTIONS = [
+    (ask(b"GET", b"/x") + ask(b"PUT", LEAF, body=TILE), ["GET /x 404 10 # not_found", "PUT /Norder4/Dir0/Npix0.fits 201 0 # -"], "Closed"),
+    (ask(b"GET", b"/y", b"Connection: close\r\n"), ["GET /y 404 10 # not_found"], "Asked"),
+    (REFUSED[0][0], ["- - 505 0 # http_version_not_supported"], "Refused(505)"),
+    (b"GET /", [], "Cut"),
+    (b"GET /", [], "ReadFault"),
+    (ask(b"HEAD", b"/z") * 65_537, ["HEAD /z 404 0 # not_found"] * 65_536, "Spent"),
+    (ask(b"POST", b"/publish"), ["POST /publish 200 12 # -"], "Closed"),
+]
+
+
+def servers(check):
+    count = len(CONNECTIONS)
+    process = check.start(["serve", "127.0.0.1:0", str(count), "1"], check.survey(CONF), level="debug")
+    said = read_until(process, b"listening at ")
+    if b"listening at " not in said:
+        sys.exit(f"check-log: the server doesn't listen:\n{said.decode()}")
+    port = int(said.rpartition(b":")[2])
+    wanted = THIS + LOADED + info("survey_commands::serve", f"1 places, up to {count} connections at each")
+    wanted += info("tcp_link::listening", "listening at 127.0.0.1:#")
+    reader = threading.Thread(target=lambda: rest.append(process.stderr.read()))
+    rest = []
+    reader.start()
+    for number, (requests, answers, end) in enumerate(CONNECTIONS, 1):
+        served(port, requests, reset=end == "ReadFault")
+        name = f"connection{{place=1 number={number}}}:"
+        wanted += debug("client", f"{name} 127.0.0.1:#")
+        published = f"{name} published 1 edits, 1 of 1 in all: 1 tiles built in # ms"
+        wanted += info("hips_http::saying", published) if b"publish" in requests else []
+        wanted += debug("request", *(f"{name} {answer}" for answer in answers)) + debug("ended", f"{name} {end}")
+    reader.join(60)
+    wanted += info("hips_place::place", f"a place ended after {count} connections: it took its connections, or none is left")
+    wanted += info("survey_commands::serve", f"all places have ended: Done. {GONE}")
+    check.compare(["serve"], said + rest[0], wanted)
+
+
+def addresses(check):
+    ended = info("hips_place::place", "a place ended after 0 connections: its door failed")
+    ended += info("survey_commands::serve", f"all places have ended: Failed. {GONE}")
+    begun = LOADED + info("survey_commands::serve", "1 places, up to 1 connections at each")
+    form = "ADDRESS is an IP address or a host's name, with a port, as 127.0.0.1:8080"
+    nowhere = error("hipsd", f"""can't listen at "8080": invalid socket address. {form}""")
+    wrong = error("tcp_link::listening", "can't listen at 8080: invalid socket address")
+    check.run(["serve", "8080", "1", "1"], THIS + nowhere + begun + wrong + ended)
+    nowhere = error("hipsd", f"""can't listen at "nowhere.invalid:1": ~. {form}""")
+    unknown = "can't listen at nowhere.invalid:1: it is no IP address with a port, and no name is looked up now"
+    check.run(["serve", "nowhere.invalid:1", "1", "1"], THIS + nowhere + begun + error("tcp_link::listening", unknown) + ended)
+    with socket.create_server(("127.0.0.1", 0)) as taken:
+        place = "127.0.0.1:%d" % taken.getsockname()[1]
+        refusal = "Address already in use (os error 98)"
+        yet = warn("hipsd", f"can't listen at {place} yet: {refusal}. It is tried again once the survey is loaded")
+        still = error("tcp_link::listening", f"can't listen at {place}: {refusal}")
+        check.run(["serve", place, "1", "1"], THIS + yet + begun + still + ended)
+    absent = error("shelf_io::words", "there is no file survey.conf, which describes the survey")
+    check.run(["serve", "127.0.0.1:0", "1", "1"], THIS + absent, files={})
+
+
+# ---- copies
+
+class Peer(threading.Thread):
+    """A peer that answers each request of one connection by the next of these replies; none of them breaks the connection off."""
+
+    def __init__(self, replies):
+        super().__init__()
+        self.server = socket.create_server(("127.0.0.1", 0))
+        self.address = "127.0.0.1:%d" % self.server.getsockname()[1]
+        self.replies = replies
+
+    def run(self):
+        client, _ = self.server.accept()
+        with self.server, client:
+            for reply in self.replies:
+                head = b""
+                while not head.endswith(b"\r\n\r\n"):
+                    part = client.recv(1)
+                    if not part:
+                        return
+                    head += part
+                if reply is None:
+                    client.setsockopt(socket.SOL_SOCKET, socket.SO_LINGER, RESETS)
+                    return
+                client.sendall(reply)
+
+
+def replied(body, code=b"200 OK", prefix=b"Survey-Prefix: 7\r\n"):
+    return b"HTTP/1.1 %s\r\nContent-Length: %d\r\n%s\r\n%s" % (code, len(body), prefix, body)
+
+
+IN_FORM = "the reply isn't in form: it is 200 of HTTP/1.1, with one Content-Length"
+OF_STATE = IN_FORM + ", and the Survey-Prefix of the state that is held"
+DEEP = Survey("log", "Survey log", top=11, low=3, width=2)
+
+
+def replies(leaves, last="unpin", **other):
+    """The replies of a peer with these leaves, up to the last one, but for those that are given by their names."""
+    right = {"pin": replied(b"pinned 7\n"), "properties": replied(SURVEY.properties(leaves)), "cover": replied(SURVEY.coverage(leaves))}
+    right |= {f"leaf{npix}": replied(SURVEY.tile(leaves, 4, npix)) for npix in leaves}
+    right |= {"mosaic": replied(SURVEY.mosaic(leaves)), "unpin": replied(b"released\n", prefix=b"")}
+    names = list(right)
+    return [(right | other)[name] for name in names[: names.index(last) + 1]]
+
+
+def copies(check):
+    leaves = {0: [1, 2, 3, 4]}
+
+    def copied(wanted, fast=False, **given):
+        peer = Peer(replies(leaves, **given))
+        peer.start()
+        check.run(["mirror", peer.address], [line.replace("PEER", peer.address) for line in wanted], files={}, fast=fast)
+        peer.join()
+
+    def refused(text, **given):
+        copied(error("hips_mirror::saying", text), **given)
+
+    whole = info("shelf_io::words", "5 of 5 files written, the others were right; 0 removed")
+    whole += info("survey_commands::mirror", "5 files are those of the copy")
+    parts = info("hips_mirror::progress", "leaves copied: 1 of 1, 0 MB")
+    parts += info("shelf_io::progress", *(f"files compared and written: {at} of 5" for at in range(1, 6)))
+    copied(whole)
+    copied(parts + whole, fast=True)
+    refused(f"POST /pin (request 0): {OF_STATE}; its body is `pinned K`", pin=replied(b"pinned 8\n"))
+    refused(f"GET /properties (request 1): {OF_STATE}", properties=replied(SURVEY.properties(leaves), code=b"404 Not Found"))
+    refused(f"GET {LEAF_ASKED} (request 3): {OF_STATE}", leaf0=replied(TILE, prefix=b""))
+    refused(f"POST /unpin (request 5): {IN_FORM}", unpin=replied(b"released\n", code=b"204 No Content"))
+    refused("GET /Moc.fits (request 2): the peer's bytes end within the reply", cover=replied(SURVEY.coverage(leaves))[:-1], last="cover")
+    uncounted = "the last line isn't `survey_leaves = N`, with N in plain decimals"
+    refused(f"GET /properties (request 1): {uncounted}", properties=replied(SURVEY.description()))
+    order = SURVEY.properties(leaves).replace(b"hips_order = 4", b"hips_order = 12")
+    refused("GET /properties (request 1): line 8, hips_order = 12: an order is 3 to 11", properties=replied(order))
+    refused("GET /Moc.fits (request 2): the body isn't the coverage file of leaves of the survey's order", cover=replied(b"SIMPLE"))
+    deep = {"properties": replied(DEEP.properties(range(65_536))), "cover": replied(DEEP.coverage(range(65_536)))}
+    refused("GET /Moc.fits (request 2): 65536 leaves are more than 65000, or are charged with more than 2^29 bytes", **deep)
+    refused(f"GET {LEAF_ASKED} (request 3): the body is no tile of the survey: 9 truncated 8", leaf0=replied(TILE[:2880]))
+    differs = "the body isn't the file that the leaves make"
+    refused(f"GET /properties (request 1): {differs}", properties=replied(SURVEY.properties([0, 1])))
+    refused(f"GET /Norder3/Allsky.fits (request 4): {differs}", mosaic=replied(SURVEY.mosaic({0: [1, 2, 3, 9]})))
+    broken = "can't read what PEER sends: the connection broke off, or it was silent for too long"
+    copied(error("hipsd::faults", broken), properties=None)
+    nobody = f"127.0.0.1:{free_port()}"
+    said = error("tcp_link::connection", f"can't connect to {nobody}: Connection refused (os error 111)")
+    check.run(["mirror", nobody], said + error("hipsd::faults", f"can't send requests to {nobody}"), files={})
+
+
+# ---- what no run said
+
+CALL = re.compile(r"\b(error|warn|info|debug|trace)!\(\s*(?:\w+|&\w+|self\.\w+);\s*(?:target:\s*(\w+|\"\w+\"),\s*)?\"((?:[^\"\\]|\\.)*)\"")
+
+
+def unsaid(check):
+    """Looks for a line of each call of the log in the source."""
+    calls = 0
+    for file in sorted((TOP / "crates").glob("*/src/**/*.rt")):
+        crate = file.relative_to(TOP / "crates").parts[0]
+        if crate.endswith("_tests"):
+            continue
+        text = file.read_text()
+        for level, target, form in CALL.findall(text):
+            calls += 1
+            written = form.replace(r"\"", '"')
+            parts = [re.escape(part) for part in re.split(r"\{[^}]*\}", written)]
+            line = re.compile(rf"\[{level.upper():5} \S+\] (connection\S+ \S+ )?" + ".*".join(parts))
+            if written not in UNSAID and not any(line.fullmatch(it) for it in check.said):
+                check.wrong += 1
+                print(f"check-log: no run says {level} {written!r} of {file.relative_to(TOP)}", file=sys.stderr)
+        if len(re.findall(r"\b(?:error|warn|info|debug|trace)!\(", text)) != len(CALL.findall(text)):
+            check.wrong += 1
+            print(f"check-log: a call of the log in {file.relative_to(TOP)} has another form", file=sys.stderr)
+    return calls
+
+
+def main(program=TOP / "crates/hipsd/out/hipsd"):
+    if not shutil.which("cc"):
+        print("check-log: LEFT OUT, nothing was tried: not installed here: gcc")
+        sys.exit(os.environ.get("CI") == "true")
+    with tempfile.TemporaryDirectory() as folder:
+        check = Check(Path(program).resolve(strict=True), Path(folder))
+        for part in (wrong_words, levels, descriptions, folders, folder_faults, progress, catalogues, records, sessions, servers, addresses, copies):
+            part(check)
+        calls = unsaid(check)
+    if check.wrong:
+        sys.exit(1)
+    print(f"check-log: {check.runs} runs say what they must, by {calls - len(UNSAID)} of {calls} calls of the log")
+
+
+if __name__ == "__main__":
+    main(*sys.argv[1:])
