@@ -5,8 +5,8 @@ call of the log in the source is looked for: a run has to have said a line of it
     scripts/check-log.py [PROGRAM]
 
 PROGRAM is crates/hipsd/out/hipsd if none is named. In the lines of this script `#` stands for a number that the run decides, a
-port or a time, and `~` for words of the system. `scripts/fast-clock.c` gives the program a clock by which a
-second passes at each reading, so that progress is said.
+port or a time, and `~` for words of the system. `scripts/fast-clock.c` gives the program a clock that goes
+on at each reading, so that progress is said.
 """
 
 import os
@@ -32,6 +32,9 @@ VERSION, TOOLCHAIN = (
     re.search(rf'pub const {name}: &str = "(.*)";', (TOP / "crates/hipsd_run/src/version.rt").read_text())[1]
     for name in ("VERSION", "TOOLCHAIN")
 )
+
+# A clock that goes on by a second at each reading, so that what is said at most once a second is said of each part of a work.
+SECOND = 1000
 
 # What the program never says, or only where it has no memory.
 UNSAID = {
@@ -83,9 +86,11 @@ class Check:
             (folder / path).write_bytes(data)
         return folder
 
-    def start(self, words, folder, level="info", fast=False, **ends):
-        """The program, started with these words over the folder, at this level, by the fast clock or the machine's own."""
-        environment = {"HIPSD_LOG": level} | ({"LD_PRELOAD": self.clock} if fast else {})
+    def start(self, words, folder, level="info", pace=None, **ends):
+        """The program, started with these words over the folder, at this level where there is one; by a clock that goes on by so many
+        milliseconds at each reading, or by the machine's own."""
+        environment = {} if level is None else {"HIPSD_LOG": level}
+        environment |= {"LD_PRELOAD": self.clock, "PACE": str(pace)} if pace else {}
         return subprocess.Popen([self.program, *words], cwd=folder, env=environment, stderr=subprocess.PIPE, **ends)
 
     def run(self, words, wanted, files=CONF, given=b"", folder=None, stdin=subprocess.PIPE, stdout=subprocess.DEVNULL, **how):
@@ -187,6 +192,10 @@ def levels(check):
         check.run(["export"], [], level=level)
     for level in ("debug", "trace"):
         check.run(["export"], exported, level=level)
+    # No request is said at info, which it is where no level is named.
+    for level, said in ((None, []), ("loud", warn("hipsd", f'HIPSD_LOG = "loud": {known}')), ("info", [])):
+        check.run(["session"], said, given=ask(b"GET", b"/x"), level=level)
+    check.run(["mirror", f"127.0.0.1:{free_port()}"], [], files={}, level="off")
 
 
 # ---- a survey's folder
@@ -253,11 +262,15 @@ def folders(check):
     said = warn("shelf_io::near_leaf", near, above)
     right = SURVEY.files({0: [1, 2, 3, 4]})
     given = CONF | odd | {leaf: TILE, "properties": next(right), "Moc.fits": next(right)}
-    folder = check.run(["export"], said + info("shelf_io::words", "2 of 5 files written, the others were right; 2 removed"), files=given)
+    folder = check.survey(given)
+    # A link that leads nowhere is no file.
+    (folder / "Norder3").mkdir()
+    (folder / "Norder3/Allsky.link").symlink_to("nowhere")
+    check.run(["export"], said + info("shelf_io::words", "2 of 5 files written, the others were right; 2 removed"), folder=folder)
     check.run(["verify"], said[:1], folder=folder)
 
 
-# A command, a file in its way, and which call fails. As root calls that aren't allowed succeed, so none of them stands here.
+# A command, a file in its way, and which call fails.
 IN_THE_WAY = """
 export|Moc.fits/file|can't read Moc.fits: Is a directory (os error 21)
 export|Moc.fits.unfinished/file|can't remove Moc.fits.unfinished: Is a directory (os error 21)
@@ -280,6 +293,14 @@ def folder_faults(check):
     peer.start()
     check.run(["mirror", peer.address], error("hipsd::faults", "can't read Moc.fits: Is a directory (os error 21)"), files={"Moc.fits/file": b""})
     peer.join()
+    # What isn't allowed is allowed to root.
+    user = {} if os.geteuid() else {"user": 65534, "group": 65534, "extra_groups": []}
+    for fault, closed, mode in (("create Moc.fits.unfinished", ".", 0o555), ("list Norder3", "Norder3", 0)):
+        folder = check.survey(CONF)
+        (folder / "Norder3").mkdir()
+        (folder / closed).chmod(mode)
+        check.run(["export"], error("hipsd::faults", f"can't {fault}: Permission denied (os error 13)"), folder=folder, **user)
+        (folder / closed).chmod(0o755)
 
 
 def progress(check):
@@ -288,11 +309,17 @@ def progress(check):
     read = info("shelf_io::progress", *(f"leaves read: {at} of 3" for at in range(1, 4)))
     written = info("shelf_io::progress", *(f"files compared and written: {at} of 7" for at in range(1, 8)))
     said = read + written + info("shelf_io::words", "4 of 7 files written, the others were right; 0 removed")
-    folder = check.run(["export"], said, files=CONF | leaves, fast=True)
-    check.run(["verify"], read + info("shelf_io::progress", *(f"files compared: {at} of 7" for at in range(1, 8))), folder=folder, fast=True)
+    folder = check.run(["export"], said, files=CONF | leaves, pace=SECOND)
+    check.run(["verify"], read + info("shelf_io::progress", *(f"files compared: {at} of 7" for at in range(1, 8))), folder=folder, pace=SECOND)
     rows = b"1\t0\ta\t\n2\t1\tb\t\n"
     said = info("catalog_command::progress", "lines read: 1", "lines read: 2", "tiles written: 1", "tiles written: 2")
-    check.run(["catalog", "1", "1"], said + info("catalog_command::words", "2 rows in 2 tiles"), given=rows, fast=True)
+    check.run(["catalog", "1", "1"], said + info("catalog_command::words", "2 rows in 2 tiles"), given=rows, pace=SECOND)
+    # By a clock of 0.4 seconds each third part is said, of those that are counted from the last one that was.
+    said = info("shelf_io::progress", "leaves read: 3 of 3", "files compared: 3 of 7", "files compared: 6 of 7")
+    check.run(["verify"], said, folder=folder, pace=400)
+    rows = b"".join(b"%d\t%d\ta%d\t\n" % (row, row, row) for row in range(7))
+    said = info("catalog_command::progress", *(f"lines read: {at}" for at in (3, 6)), *(f"tiles written: {at}" for at in (3, 6)))
+    check.run(["catalog", "1", "1"], said + info("catalog_command::words", "7 rows in 7 tiles"), given=rows, pace=400)
 
 
 # ---- the lines of a catalogue
@@ -331,6 +358,8 @@ def records(check):
     reads = b"read 1 properties\nread 2 properties\nread 0 properties\nread 2 x\n"
     made = [f"made {made}: {tiles} tiles built in # ms" for made, tiles in (("1 from 0", 1), ("2 from 1", 1), ("0 from 0", 0))]
     check.run(["past", "2"], info("past_reads::saying", *made), given=batch + batch + reads)
+    made = [line.replace("#", "1000") for line in made]
+    check.run(["past", "2"], info("past_reads::saying", *made), given=batch + batch + reads, pace=SECOND)
     form = 'record 1, counted from 0, has no line of a record: "batch LENGTH" or "read K PATH", up to 128 bytes with its line feed, '
     form += "numbers in plain decimals, K below 2^32, LENGTH up to that of the longest batch of this survey"
     check.run(["past", "1"], error("survey_commands::past", form), given=b"read 1 x\nlook\n")
@@ -393,6 +422,7 @@ def sessions(check):
     whole = b"".join(request for request, _ in REQUESTS)
     check.run(["session"], said, given=whole, level="debug")
     check.run(["session"], PUBLISHED, given=whole)
+    check.run(["session"], [line.replace("#", "1000") for line in PUBLISHED], given=whole, pace=SECOND)
     for head, code, reason in REFUSED:
         check.run(["session"], debug("request", f"- - {code} 0 # {reason}"), given=head, level="debug")
     with open("/dev/full", "wb") as full:
@@ -486,6 +516,30 @@ def servers(check):
     check.compare(["serve"], said + rest[0], wanted)
 
 
+def places(check):
+    """Four connections at once, each at a place of its own."""
+    count = 4
+    process = check.start(["serve", "127.0.0.1:0", "1", str(count)], check.survey(CONF), level="debug")
+    said = read_until(process, b"listening at ")
+    place = "127.0.0.1", int(said.rpartition(b":")[2])
+    clients = [socket.create_connection(place, timeout=30) for _ in range(count)]
+    for client in clients:
+        client.sendall(ask(b"GET", b"/x"))
+        client.recv(4096)
+    for client in clients:
+        client.close()
+    said += process.stderr.read()
+    names = [f"connection{{place={at} number=1}}:" for at in range(1, count + 1)]
+    wanted = THIS + LOADED + info("survey_commands::serve", f"{count} places, up to 1 connections at each")
+    wanted += info("tcp_link::listening", "listening at 127.0.0.1:#")
+    wanted += debug("client", *(f"{name} 127.0.0.1:#" for name in names))
+    wanted += debug("request", *(f"{name} GET /x 404 10 # not_found" for name in names)) + debug("ended", *(f"{name} Closed" for name in names))
+    wanted += info("hips_place::place", *["a place ended after 1 connections: it took its connections, or none is left"] * count)
+    wanted += info("survey_commands::serve", f"all places have ended: Done. {GONE}")
+    # What places say at once comes in any order.
+    check.compare(["serve"], b"\n".join(sorted(said.splitlines())), sorted(wanted))
+
+
 def addresses(check):
     ended = info("hips_place::place", "a place ended after 0 connections: its door failed")
     ended += info("survey_commands::serve", f"all places have ended: Failed. {GONE}")
@@ -503,6 +557,20 @@ def addresses(check):
         yet = warn("hipsd", f"can't listen at {place} yet: {refusal}. It is tried again once the survey is loaded")
         still = error("tcp_link::listening", f"can't listen at {place}: {refusal}")
         check.run(["serve", place, "1", "1"], THIS + yet + begun + still + ended)
+        # Over three leaves, at two places: that an address can't be had is said once.
+        leaves = {tile_path(4, npix): image(2, 2, [npix] * 4, ("ORDER", 4), ("NPIX", npix)) for npix in range(3)}
+        loading = info("shelf_io::progress", *(f"leaves read: {at} of 3" for at in range(1, 4)))
+        loaded = info("survey_commands::serve", "loaded 3 leaves in 5000 ms: 7 files are served", "2 places, up to 1 connections at each")
+        said = THIS + yet + loading + loaded + still + ended[:1] + ended
+        check.run(["serve", place, "1", "2"], said, files=CONF | leaves, pace=SECOND)
+    # A name is looked up once, when the address is tried.
+    port = free_port()
+    named = sorted({place[:2] for *_, place in socket.getaddrinfo("localhost", port, type=socket.SOCK_STREAM)})
+    taken = [socket.create_server(place, family=socket.AF_INET6 if ":" in place[0] else socket.AF_INET) for place in named]
+    yet = warn("hipsd", f"can't listen at ~:{port} yet: {refusal}. It is tried again once the survey is loaded")
+    check.run(["serve", f"localhost:{port}", "1", "1"], THIS + yet + begun + error("tcp_link::listening", f"can't listen at ~:{port}: {refusal}") + ended)
+    for server in taken:
+        server.close()
     absent = error("shelf_io::words", "there is no file survey.conf, which describes the survey")
     check.run(["serve", "127.0.0.1:0", "1", "1"], THIS + absent, files={})
 
@@ -510,7 +578,8 @@ def addresses(check):
 # ---- copies
 
 class Peer(threading.Thread):
-    """A peer that answers each request of one connection by the next of these replies; none of them breaks the connection off."""
+    """A peer that answers each request of one connection by the next of these replies, in words for the whole address or for its name
+    alone. None in place of a reply breaks the connection off."""
 
     def __init__(self, replies):
         super().__init__()
@@ -552,13 +621,31 @@ def replies(leaves, last="unpin", **other):
     return [(right | other)[name] for name in names[: names.index(last) + 1]]
 
 
+def large(check):
+    """A copy of two leaves with 512 by 512 pixels, from a peer that goes then; and one whose second leaf is none."""
+    survey = Survey("log", "Survey log", top=4, low=3, width=512)
+    tiles = [image(512, 512, [npix] * 262_144, ("ORDER", 4), ("NPIX", npix)) for npix in (0, 1)]
+    first = [replied(b"pinned 7\n"), replied(survey.properties([0, 1])), replied(survey.coverage([0, 1])), replied(tiles[0])]
+    parts = info("hips_mirror::progress", "leaves copied: 1 of 2, 0 MB", "leaves copied: 2 of 2, 1 MB")
+    fault = "GET /Norder4/Dir0/Npix1.fits (request 4): the body is no tile of the survey: 1 header 1"
+    for last, said in (
+        (tiles[1], parts + error("hips_mirror::saying", "GET /Norder3/Allsky.fits (request 5): the peer's bytes end within the reply")),
+        (b"none", parts[:1] + error("hips_mirror::saying", fault)),
+    ):
+        peer = Peer([*first, replied(last)])
+        peer.start()
+        check.run(["mirror", peer.address], said, files={}, pace=SECOND)
+        peer.join()
+
+
 def copies(check):
     leaves = {0: [1, 2, 3, 4]}
 
-    def copied(wanted, fast=False, **given):
+    def copied(wanted, pace=None, host="127.0.0.1", **given):
         peer = Peer(replies(leaves, **given))
         peer.start()
-        check.run(["mirror", peer.address], [line.replace("PEER", peer.address) for line in wanted], files={}, fast=fast)
+        address = peer.address.replace("127.0.0.1", host)
+        check.run(["mirror", address], [line.replace("PEER", address) for line in wanted], files={}, pace=pace)
         peer.join()
 
     def refused(text, **given):
@@ -569,7 +656,9 @@ def copies(check):
     parts = info("hips_mirror::progress", "leaves copied: 1 of 1, 0 MB")
     parts += info("shelf_io::progress", *(f"files compared and written: {at} of 5" for at in range(1, 6)))
     copied(whole)
-    copied(parts + whole, fast=True)
+    copied(whole, host="localhost")
+    copied(parts + whole, pace=SECOND)
+    large(check)
     refused(f"POST /pin (request 0): {OF_STATE}; its body is `pinned K`", pin=replied(b"pinned 8\n"))
     refused(f"GET /properties (request 1): {OF_STATE}", properties=replied(SURVEY.properties(leaves), code=b"404 Not Found"))
     refused(f"GET {LEAF_ASKED} (request 3): {OF_STATE}", leaf0=replied(TILE, prefix=b""))
@@ -588,6 +677,8 @@ def copies(check):
     refused(f"GET /Norder3/Allsky.fits (request 4): {differs}", mosaic=replied(SURVEY.mosaic({0: [1, 2, 3, 9]})))
     broken = "can't read what PEER sends: the connection broke off, or it was silent for too long"
     copied(error("hipsd::faults", broken), properties=None)
+    # A peer that is silent.
+    copied(error("hipsd::faults", broken), properties=b"")
     nobody = f"127.0.0.1:{free_port()}"
     said = error("tcp_link::connection", f"can't connect to {nobody}: Connection refused (os error 111)")
     check.run(["mirror", nobody], said + error("hipsd::faults", f"can't send requests to {nobody}"), files={})
@@ -625,8 +716,9 @@ def main(program=TOP / "crates/hipsd/out/hipsd"):
         print("check-log: LEFT OUT, nothing was tried: not installed here: gcc")
         sys.exit(os.environ.get("CI") == "true")
     with tempfile.TemporaryDirectory() as folder:
+        Path(folder).chmod(0o755)
         check = Check(Path(program).resolve(strict=True), Path(folder))
-        for part in (wrong_words, levels, descriptions, folders, folder_faults, progress, catalogues, records, sessions, servers, addresses, copies):
+        for part in (wrong_words, levels, descriptions, folders, folder_faults, progress, catalogues, records, sessions, servers, places, addresses, copies):
             part(check)
         calls = unsaid(check)
     if check.wrong:

@@ -6,6 +6,7 @@
 The server has 64 places and a survey of one leaf, Norder5/Dir0/Npix7.fits of 8 by 8 pixels. See check-drip.sh.
 """
 
+import http.client
 import os
 import select
 import shutil
@@ -21,6 +22,9 @@ PLACES = 64
 # What a request or a reply of few bytes may take, and what may pass until it is seen that the time is over.
 DEADLINE = 30
 SLACK = 5
+# How long a connection is read after its last reply, and how soon the client is told that it was the last.
+REST = 10
+SOON = 0.7
 # How often a client sends or takes a byte.
 PAUSE = 2
 
@@ -154,6 +158,56 @@ def slow_tests():
         one.wait()
 
 
+def keep_asking():
+    """One connection that asks now and then, for longer than a request may take: each is answered, and by that connection."""
+    client = http.client.HTTPConnection("127.0.0.1", PORT, timeout=DEADLINE)
+    client.connect()
+    client.auto_open = False
+    until = time.monotonic() + DEADLINE + 2 * SLACK
+    asked = 0
+    try:
+        while time.monotonic() < until:
+            client.request("GET", "/properties")
+            reply = client.getresponse()
+            reply.read()
+            asked += 1
+            if reply.status != 200:
+                wrong.append(f"a connection that is kept is answered {reply.status}")
+            time.sleep(PAUSE)
+    except (OSError, http.client.HTTPException) as error:
+        wrong.append(f"a connection that is kept ends after {asked} requests: {error!r}")
+    print(f"drip-client: a connection that is kept was answered {asked} times")
+    client.close()
+
+
+def send_on():
+    """A client that goes on sending after its last reply. It is told at once that this was the last, and ended soon."""
+    client = connect()
+    begun = time.monotonic()
+    client.sendall(b"GET /properties HTTP/1.1\r\nHost: a\r\nConnection: close\r\n\r\n")
+    while client.recv(4096):
+        pass
+    told = time.monotonic() - begun
+    try:
+        while time.monotonic() - begun < 2 * DEADLINE:
+            client.sendall(b"a")
+            time.sleep(0.5)
+    except OSError:
+        pass
+    ended = time.monotonic() - begun
+    print(f"drip-client: a connection after its last reply is told so after {told:.1f} seconds, and ended after {ended:.1f}")
+    if told > SOON or ended > REST + SLACK:
+        wrong.append(f"a connection after its last reply is told so after {told:.1f} seconds, and ended after {ended:.1f}")
+    client.close()
+
+
+def beside(work):
+    """Starts this work in a thread of its own."""
+    thread = threading.Thread(target=work)
+    thread.start()
+    return thread
+
+
 def main():
     for _ in range(1200):
         try:
@@ -163,7 +217,10 @@ def main():
             time.sleep(0.05)
     drippers()
     serve_at_once()
+    send_on()
+    keeper = beside(keep_asking)
     slow_tests()
+    keeper.join()
     serve_at_once()
     for what in wrong[:5]:
         print(f"drip-client: {what}", file=sys.stderr)
