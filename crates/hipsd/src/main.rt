@@ -12,12 +12,14 @@ ghost use Rattle.hipsd_run.specs.declared.command.Command.TheVariants.{Probe as 
 ghost use Rattle.hipsd_run.specs.Command.{texts, Asks, IsCommand};
 
 mod faults;
+mod peer_runtime;
 
 use faults::{say_fault, say_peer_fault};
 use hipsd_run::{Command, address_of, command_for, run, say_version, second_word, words};
 use log::sink::Console;
 use log::{LevelFilter, Log, Logged, error, warn};
 use parent_rule::Steps;
+use peer_runtime::PeerRuntime;
 use std::alloc::AllocError;
 use std::env::VarError;
 use std::io::{BufReader, BufWriter};
@@ -44,20 +46,13 @@ const LOG: &str = "HIPSD_LOG";
 trait Caller: Net<Listener = TcpListener, Stream = TcpStream>
     + Clock
     + Env
-    + Log
     + AllocGlobal
     + Clone
     + Drop {}
 
 impl<N> Caller for N
 where
-    N: Net<Listener = TcpListener, Stream = TcpStream>
-        + Clock
-        + Env
-        + Log
-        + AllocGlobal
-        + Clone
-        + Drop,
+    N: Net<Listener = TcpListener, Stream = TcpStream> + Clock + Env + AllocGlobal + Clone + Drop,
 {}
 
 // Runs the words, and passes the status on: `mirror` over the connection to its peer, all others over standard input and output.
@@ -177,10 +172,18 @@ fn place_of<R: Log, N: Net>(rt: &R, net: &N, address: &str) -> Option<SocketAddr
     }
 }
 
-// The words of the command line, and a connection to the peer that they may name, which nobody has called yet.
-fn read_line<N: Caller>(net: &N) -> io::Result<(Vec<String>, (DialIn<N>, DialOut<N>))> {
+// What a peer sends, and what it is sent.
+type PeerEnds<N, L> = (DialIn<PeerRuntime<N, L>>, DialOut<PeerRuntime<N, L>>);
+
+// The words of the command line, and a connection to the peer that they may name, which nobody has called yet. Why it can't be
+// called `log` is told.
+fn read_line<N: Caller, L: Clone + Drop>(
+    net: &N,
+    log: &L,
+) -> io::Result<(Vec<String>, PeerEnds<N, L>)> {
     let words = words(net.alloc(), env::args(net))?;
-    let peer = dial(net, second_word(&words))?;
+    let runtime = PeerRuntime::new(net.clone()?, log.clone()?);
+    let peer = dial(&runtime, second_word(&words))?;
     Ok((words, peer))
 }
 
@@ -218,7 +221,7 @@ fn say_level<R: AllocGlobal + Env + Log>(rt: &R) {
 fn main(rt: HostRuntime) -> ExitCode {
     let logged = Logged::new(rt, log_level(&rt), Console(rt));
     say_level(&logged);
-    exit_code(match read_line(&rt) {
+    exit_code(match read_line(&rt, &logged) {
         Ok((words, peer)) => run_words(&logged, &rt, &words, peer),
         Err(error) => Err(error),
     })
