@@ -161,11 +161,15 @@ def help_lines(*texts):
 
 
 def right_words(command):
-    return f"the words are: hipsd {command} {COMMANDS[command]} ({BOUNDS[command]})"
+    return f"the words are: hipsd {usage(command)} ({BOUNDS[command]})"
+
+
+def usage(command):
+    return f"{command} {COMMANDS[command]}".strip()
 
 
 def wrong_words(check):
-    every = help_lines("the commands are:", *(f"  hipsd {name} {words}" for name, words in COMMANDS.items())) + THIS
+    every = help_lines("the commands are:", *(f"  hipsd {usage(name)}" for name in COMMANDS)) + THIS
     nothing = help_lines("no command is named, or a word is not UTF-8") + every
     check.run([], nothing)
     check.run([b"probe", b"\xff"], nothing)

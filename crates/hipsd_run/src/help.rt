@@ -4,11 +4,11 @@ use decimal_scale::plain_decimal;
 use log::{Log, error};
 use std::fmt::Display;
 
-// The name of a command, the words after it, and what these may be.
+// The name of a command, the words after it with a blank before each, and what these may be.
 static COMMANDS: [(&str, &str, &str); 9] = [
     (
         "serve",
-        "ADDRESS CONNECTIONS PLACES",
+        " ADDRESS CONNECTIONS PLACES",
         "an IP address or a host's name with a port, 1 to 65536 connections at each place, 1 to 64 places",
     ),
     ("session", "", "no other word"),
@@ -16,23 +16,23 @@ static COMMANDS: [(&str, &str, &str); 9] = [
     ("verify", "", "no other word"),
     (
         "make",
-        "NUMBER EDITS",
+        " NUMBER EDITS",
         "a number below 2^64, 1 to 4096 edits",
     ),
-    ("past", "CACHE", "1 to 8 generations are held"),
+    ("past", " CACHE", "1 to 8 generations are held"),
     (
         "catalog",
-        "K N",
+        " K N",
         "K 0 to 11, 1 to 4096 rows a tile above order K",
     ),
     (
         "mirror",
-        "ADDRESS",
+        " ADDRESS",
         "an IP address or a host's name with a port",
     ),
     (
         "probe",
-        "K N k p",
+        " K N k p",
         "K 3 to 11, N 1 to 9, k 0 to K, p below 2^64",
     ),
 ];
@@ -71,7 +71,7 @@ fn say_command<R: Log>(rt: &R, name: &str, given: &[String]) {
             say_wrong(rt, name, wanted, given);
             say(
                 rt,
-                &format_args!("the words are: hipsd {name} {wanted} ({bounds})"),
+                &format_args!("the words are: hipsd {name}{wanted} ({bounds})"),
             );
             return;
         }
@@ -89,7 +89,7 @@ fn say<R: Log, T: Display>(rt: &R, line: &T) {
 fn say_all<R: Log>(rt: &R) {
     say(rt, &"the commands are:");
     for (name, words, _) in COMMANDS.iter() {
-        say(rt, &format_args!("  hipsd {name} {words}"));
+        say(rt, &format_args!("  hipsd {name}{words}"));
     }
     say_version(rt);
 }
