@@ -1,7 +1,8 @@
 #!/bin/bash
 # Tries what an operator and an editor use beside the program, as they do: examples/nginx.conf (with openssl, for TLS), edit.sh with
-# its journal, look-back.sh over that, import-hipsgen.py, what export and verify say of a folder, the service of systemd (by
-# systemd's own verifiers, since systemd isn't running here), the man page (mandoc), scripts/install.sh and what the program says.
+# its journal, look-back.sh over that, import-hipsgen.py, catalog-rows.py, what export and verify say of a folder, the service of
+# systemd (by systemd's own verifiers, since systemd isn't running here), the man page (mandoc), scripts/install.sh and what the
+# program says.
 # What it starts it ends, and nothing is written outside a folder of its own.
 #
 #     scripts/check-operate.sh [PROGRAM]
@@ -711,6 +712,32 @@ imports() {
     cd "$top" || exit 1
 }
 imports
+
+# ---- catalog-rows.py
+
+# rows_of TEXT WORD ..: the rows of a table with this text, in $folder/rows.
+rows_of() {
+    printf '%b' "$1" >"$folder/sources.csv"
+    shift
+    "$examples/catalog-rows.py" "$@" "$folder/sources.csv" >"$folder/rows" 2>"$folder/body"
+}
+
+# sources: in base cells 0, 1 and 8, one without a magnitude, one whose right ascension is once round; `hipsd catalog` takes them.
+sources() {
+    table='id,ra,dec,mag,name\nA 1,45,60,10.5,first\nB,135,60,,no magnitude\nC,405,-60,9,third\n'
+    rows_of "$table" --order 0 || blame "catalog-rows.py: $(cat "$folder/body")"
+    printf '%s\t%s\t%s\t%s\n' 1010500000 0 A_1 'ra=45 dec=60 mag=10.5 name=first' \
+        18446744073709551615 1 B 'ra=135 dec=60 name=no_magnitude' 1009000000 8 C 'ra=405 dec=-60 mag=9.0 name=third' |
+        cmp - "$folder/rows" || blame "catalog-rows.py writes $(cat "$folder/rows")"
+    mkdir -p "$folder/sources" && cd "$folder/sources" || exit 1
+    got=$("$program" catalog 0 1 <"$folder/rows" 2>"$folder/said")
+    [ "$got" = 'rows 3 tiles 3' ] || blame "hipsd catalog over catalog-rows.py: $got: $(cat "$folder/said")"
+    cd "$folder/survey" || exit 1
+    rows_of 'name,ra,dec,mag\nA,1,2,3\n' --order 3 && blame "catalog-rows.py takes a table without the column id"
+    grep -q 'there is no column id; there are name, ra, dec, mag' "$folder/body" || blame "catalog-rows.py: $(cat "$folder/body")"
+    rows_of 'id,ra,dec,mag\nA,1,91,3\n' --order 3 && blame "catalog-rows.py takes a declination of 91 degrees"
+}
+if "$python" -c 'import astropy, healpy' 2>/dev/null; then sources; else leaves_out 'python3-astropy and python3-healpy'; fi
 
 # ---- what is said to whoever runs it
 
