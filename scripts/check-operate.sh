@@ -842,6 +842,38 @@ addresses() {
     grep -qF "Edits that weren't copied from here are gone now" "$folder/said" || blame "the end doesn't say what is gone: $(cat "$folder/said")"
 }
 
+# name_of_two: a name with two addresses, where this may give one. `mirror` and `serve` take the one that they can have.
+name_of_two() {
+    if ! unshare -m mount --bind /etc/hosts /etc/hosts >/dev/null 2>&1; then
+        echo "check-operate: left out, since no names of its own can be made here: a name with two addresses"
+        return
+    fi
+    printf '127.0.0.1 two.test\n127.0.0.2 two.test\n' >"$folder/hosts"
+    unshare -m /bin/bash -s -- "$folder/hosts" "$program" "$(free_port)" "$folder/copies" >"$folder/body" 2>&1 <<'SHELL' || blame "a name with two addresses: $(cat "$folder/body")"
+mount --bind "$1" /etc/hosts || exit 1
+listens() {
+    for _ in $(seq 100); do
+        (exec 3<>"/dev/tcp/$1/$2") 2>/dev/null && return
+        sleep 0.1
+    done
+    return 1
+}
+for one in 127.0.0.1 127.0.0.2; do
+    other=127.0.0.$((3 - ${one##*.}))
+    HIPSD_LOG=error "$2" serve "$one:$3" 4 1 &
+    first=$!
+    listens "$one" "$3" || exit 1
+    mkdir -p "$4/$one"
+    (cd "$4/$one" && HIPSD_LOG=error "$2" mirror "two.test:$3") || { echo "no copy from $one"; exit 1; }
+    HIPSD_LOG=error "$2" serve "two.test:$3" 1 1 &
+    second=$!
+    listens "$other" "$3" || { echo "nobody listens at $other beside $one"; exit 1; }
+    kill "$first" "$second" 2>/dev/null
+    wait
+done
+SHELL
+}
+
 # levels: what names none is said, and nothing is said at `off`.
 levels() {
     HIPSD_LOG=loud says 1 'HIPSD_LOG = "loud": off, error, warn, info, debug or trace' --version
@@ -855,6 +887,7 @@ wrong_records
 its_version
 wrong_descriptions
 addresses
+name_of_two
 levels
 stop
 
