@@ -9,6 +9,7 @@ port or a time, and `~` for words of the system. `scripts/fast-clock.c` gives th
 on at each reading, so that progress is said.
 """
 
+import http.client
 import os
 import re
 import shutil
@@ -249,8 +250,9 @@ def descriptions(check):
         text = text.replace(old, new, 1) if old else f"{text}{more}\n"
         said = error("shelf_io::words", "survey.conf: " + told.replace("L,", f"{number},", 1))
         check.run(["verify"], said, files={"survey.conf": text.encode()})
-    extra = {"survey.conf": SURVEY.description() + b"hips_frames = equatorial\nobs_tilte = x\n"}
-    known = warn("shelf_io::words", "survey.conf: the key hips_frames has no meaning here; hips_frame is a known one")
+    extra = {"survey.conf": SURVEY.description() + b"hips_frames = equatorial\nobs_tilte = x\nhips_orrder_min = 0\nhips_tile_fromat = fits\nob_title = x\n"}
+    likely = ("hips_frames", "hips_frame"), ("hips_orrder_min", "hips_order_min"), ("ob_title", "obs_title")
+    known = warn("shelf_io::words", *(f"survey.conf: the key {key} has no meaning here; {it} is a known one" for key, it in likely))
     check.run(["export"], known + info("shelf_io::words", "2 of 2 files written, the others were right; 0 removed"), files=extra)
 
 
@@ -426,13 +428,19 @@ def sessions(check):
     whole = b"".join(request for request, _ in REQUESTS)
     check.run(["session"], said, given=whole, level="debug")
     check.run(["session"], PUBLISHED, given=whole)
-    check.run(["session"], [line.replace("#", "1000") for line in PUBLISHED], given=whole, pace=SECOND)
+    # By a clock of a second a publication takes one, and a request one more than what was timed within it.
+    said = []
+    for _, line in REQUESTS:
+        said += [it.replace("#", "1000") for it in PUBLISHED] if "publish 200 12" in line else []
+        seconds = 3 if "publish 200 12" in line else 2 if "publish 200 10" in line else 1
+        said += debug("request", line.replace("@", f"{seconds}000000"))
+    check.run(["session"], said, given=whole, level="debug", pace=SECOND)
     for head, code, reason in REFUSED:
         check.run(["session"], debug("request", f"- - {code} 0 # {reason}"), given=head, level="debug")
-    with open("/dev/full", "wb") as full:
-        unwritten = debug("request", "GET /x 404 10 # not_found")
-        unwritten += error("hipsd::faults", "can't write to the standard output: No space left on device (os error 28)")
-        check.run(["session"], unwritten, given=ask(b"GET", b"/x"), level="debug", stdout=full)
+    unwritten = error("hipsd::faults", "can't write to the standard output: No space left on device (os error 28)")
+    for request, line in (REQUESTS[0], REQUESTS[2], (REFUSED[0][0], "- - 505 0 @ http_version_not_supported")):
+        with open("/dev/full", "wb") as full:
+            check.run(["session"], debug("request", line.replace("@", "#")) + unwritten, given=request, level="debug", stdout=full)
     folder = os.open("/", os.O_RDONLY)
     unread = error("hipsd::faults", "can't read the standard input: Is a directory (os error 21)")
     check.run(["session"], unread, level="debug", stdin=folder)
@@ -542,6 +550,38 @@ def places(check):
     wanted += info("survey_commands::serve", f"all places have ended: Done. {GONE}")
     # What places say at once comes in any order.
     check.compare(["serve"], b"\n".join(sorted(said.splitlines())), sorted(wanted))
+
+
+def publications(check):
+    """Three connections at once. Which edits a publication counts as its own, and what a pin finds, another one's among them."""
+    process = check.start(["serve", "127.0.0.1:0", "1", "3"], check.survey(CONF))
+    said = read_until(process, b"listening at ")
+    port = int(said.rpartition(b":")[2])
+    editor, other, reader = clients = [http.client.HTTPConnection("127.0.0.1", port, timeout=30) for _ in range(3)]
+
+    def answered(client, method, path, body=None):
+        client.request(method, path, body)
+        return client.getresponse().read()
+
+    for client in clients:
+        answered(client, "GET", "/x")
+    answered(editor, "PUT", LEAF_ASKED, TILE)
+    texts = [answered(editor, "POST", "/publish"), answered(reader, "POST", "/pin")]
+    answered(editor, "PUT", LEAF_ASKED, TILE)
+    texts += [answered(other, "POST", "/publish"), answered(reader, "POST", "/publish")]
+    if texts != [b"published 1\n", b"pinned 1\n", b"published 2\n", b"already 2\n"]:
+        check.wrong += 1
+        print(f"check-log: three connections are answered {texts}", file=sys.stderr)
+    for client in clients:
+        client.close()
+    said += process.stderr.read()
+    wanted = THIS + LOADED + info("survey_commands::serve", "3 places, up to 1 connections at each")
+    wanted += info("tcp_link::listening", "listening at 127.0.0.1:#")
+    told = "published 1 edits, %d of %d in all: 1 tiles built in # ms"
+    wanted += info("hips_http::saying", told % (1, 1), told % (2, 2))
+    wanted += info("hips_place::place", *["a place ended after 1 connections: it took its connections, or none is left"] * 3)
+    wanted += info("survey_commands::serve", f"all places have ended: Done. {GONE}")
+    check.compare(["serve"], said, wanted)
 
 
 def addresses(check):
@@ -722,7 +762,7 @@ def main(program=TOP / "crates/hipsd/out/hipsd"):
     with tempfile.TemporaryDirectory() as folder:
         Path(folder).chmod(0o755)
         check = Check(Path(program).resolve(strict=True), Path(folder))
-        for part in (wrong_words, levels, descriptions, folders, folder_faults, progress, catalogues, records, sessions, servers, places, addresses, copies):
+        for part in (wrong_words, levels, descriptions, folders, folder_faults, progress, catalogues, records, sessions, servers, places, publications, addresses, copies):
             part(check)
         calls = unsaid(check)
     if check.wrong:

@@ -249,6 +249,10 @@ stop
 start 65536 20
 "$python" "$scripts/serve-client.py" "$port" "$seconds" 16 || wrong=1
 kill -0 "$server" 2>/dev/null || blame "the server ended while it was tried"
+# Edits that come while a generation is built are counted among all.
+odd=$(sed -n 's/.*published \([0-9]*\) edits, \([0-9]*\) of \([0-9]*\) in all: .*/\1 \2 \3/p' "$folder/log" |
+    awk '$1 > $2 || $2 > $3 { print "published " $0 } $2 < $3 { beside += 1 } END { if (!beside) print "no edit came beside a publication" }')
+[ -z "$odd" ] || blame "publications of many connections: $odd"
 stop
 [ "$wrong" = 0 ] && echo "check-serve: the server did as it must"
 exit "$wrong"

@@ -182,6 +182,17 @@ class Folder:
         got, _ = past.communicate(records)
         return got == output and past.returncode == status
 
+    def ends_at_once(self, held, records, status):
+        """Whether these bytes end the run with that status, though the input goes on."""
+        past = self.begin(held, stdin=subprocess.PIPE, stdout=subprocess.DEVNULL)
+        past.stdin.write(records)
+        past.stdin.flush()
+        try:
+            return past.wait(timeout=20) == status
+        except subprocess.TimeoutExpired:
+            past.kill()
+            return False
+
     def answers(self, held, records, status=0):
         """Whether records, one after another, have their answers; each is compared once it is there."""
         past = self.begin(held, stdin=subprocess.PIPE, stdout=subprocess.PIPE)
@@ -254,6 +265,7 @@ def check_lines(program):
     first, absent = b"read 0 \nread 0 " + b"x" * 120 + b"\nread 4294967295 \n", b"absent\nabsent\nfuture 0\n"
     for line, status in LINES:
         check(f"{line[:40]}", folder.ends(1, first + line, absent, status) and folder.ends(8, line, b"", status))
+    check("a wrong line is answered at once", folder.ends_at_once(1, b"read 0 \nread 1\n", 17))
     check("batch 0", folder.ends(1, b"batch 0\n", b"refused 0 line\n", 0))
     many = batch(b"remove 0\n" * 1025)
     check("1,025 entries", folder.ends(1, many, b"refused 1024 many\n", 0))

@@ -9,6 +9,7 @@ when all have ended, against files made cell by cell from the accepted edits by 
   or 404 exactly where it has none there, and each such prefix was published;
 - for one connection prefixes never fall, outside what it pinned, and under a pin they stay; a publication that it was told of is
   in every later one;
+- what isn't pinned is of a prefix at least that of each publication that was answered half a second before it was asked for;
 - an edit is refused exactly as the edits before the number that the reply names want it;
 - after a last publication every accepted edit is in the survey.
 
@@ -28,6 +29,8 @@ SURVEY = Survey("serve", "Survey serve", top=5, low=3, width=8)
 LEAVES = range(0, 96)
 # A survey takes 65,536 edits: so many for each connection, of 20 at most.
 EDITS = 3_000
+# How long after a publication each reader has it.
+SOON = 0.5
 PATHS = ["properties", "Moc.fits", "Norder3/Allsky.fits"]
 PATHS += [tile_path(order, npix) for order in (3, 4, 5) for npix in range(len(LEAVES) // 4 ** (5 - order) + 1)]
 
@@ -50,6 +53,8 @@ class Connection(threading.Thread):
         self.edits = []  # (number of edits then, [(leaf, numbers or None)])
         self.refused = []  # (kind, leaf, number of edits)
         self.published = set()
+        self.told = []  # (when a publication was answered, its prefix)
+        self.asked = []  # (when what isn't pinned was asked for, the prefix of the reply)
         self.wrong = []
         self.requests = Counter()
         self.least = 0
@@ -70,6 +75,7 @@ class Connection(threading.Thread):
     def read(self):
         method = self.random.choice(("GET", "GET", "GET", "HEAD"))
         path = self.random.choice(PATHS)
+        asked = time.monotonic()
         reply, body = self.ask(method, path)
         prefix = int(reply.headers["Survey-Prefix"])
         if reply.status not in (200, 404):
@@ -84,6 +90,7 @@ class Connection(threading.Thread):
             if prefix < self.least:
                 self.blame("a prefix fell from", self.least, "to", prefix)
             self.least = prefix
+            self.asked.append((asked, prefix))
 
     def put(self):
         leaf, seed = self.random.choice(LEAVES), self.random.randrange(10**6)
@@ -134,6 +141,7 @@ class Connection(threading.Thread):
         if word not in (b"published", b"already"):
             self.blame("publish is answered", text)
         self.published.add(int(number))
+        self.told.append((time.monotonic(), int(number)))
         self.least = max(self.least, int(number))
 
     def pin(self):
@@ -177,6 +185,19 @@ def leaves_of(edits):
     return after
 
 
+def stale(connections):
+    """Replies of a prefix below that of a publication which was answered well before they were asked for."""
+    told = sorted(it for connection in connections for it in connection.told)
+    asked = sorted(it for connection in connections for it in connection.asked)
+    newest = at = 0
+    for when, prefix in asked:
+        while at < len(told) and told[at][0] < when - SOON:
+            newest = max(newest, told[at][1])
+            at += 1
+        if prefix < newest:
+            yield f"answered from {prefix}, half a second after {newest} was published"
+
+
 def judge(connections, last):
     """What is wrong with what was answered."""
     wrong = [text for connection in connections for text in connection.wrong]
@@ -189,6 +210,7 @@ def judge(connections, last):
     after = leaves_of(edits)
     published = {0}.union(*(connection.published for connection in connections))
     known = {}
+    wrong += stale(connections)
     for connection in connections:
         for path, prefix, body, length, code in connection.reads:
             if prefix not in published:
