@@ -5,8 +5,8 @@ call of the log in the source is looked for: a run has to have said a line of it
     scripts/check-log.py [PROGRAM]
 
 PROGRAM is crates/hipsd/out/hipsd if none is named. In the lines of this script `#` stands for a number that the run decides, a
-port or a time, and `~` for words of the system. `scripts/fast-clock.c` gives the program a clock that goes
-on at each reading, so that progress is said.
+port or a time, and `~` for words or an order of the system. `scripts/fast-clock.c` gives the program a clock that goes on at each
+reading, so that progress is said.
 """
 
 import http.client
@@ -261,11 +261,14 @@ def folders(check):
     for data, fault, look in LEAVES:
         said = f"{leaf} is no tile of this survey ({fault}); it has {len(data)} bytes and looks like {look}"
         check.run(["verify"], error("shelf_io::words", said), files=CONF | {leaf: data})
-    odd = {"Norder4/Dir0/Npix07.fits": b"", "Norder4/Dir10000/Npix7.fits": b"", tile_path(5, 7): b"", tile_path(6, 9): b""}
-    near = "files that look like tiles and are none: 2, as Norder4/Dir0/Npix07.fits; tile 7 would be Norder4/Dir0/Npix7.fits, and "
+    near = "files that look like tiles and are none: {}, as {}; tile 7 would be Norder4/Dir0/Npix7.fits, and "
     near += "Dir is the greatest multiple of 10000 up to the number"
-    above = f"tiles of an order above 4, that of the leaves: 2, as {tile_path(5, 7)}; they aren't read, and export removes them"
-    said = warn("shelf_io::near_leaf", near, above)
+    above = "tiles of an order above 4, that of the leaves: {}, as {}; they aren't read, and export removes them"
+    one, deep = "Norder4/Dir0/Npix07.fits", tile_path(5, 7)
+    written = info("shelf_io::words", "2 of 2 files written, the others were right; 1 removed")
+    check.run(["export"], warn("shelf_io::near_leaf", near.format(1, one), above.format(1, deep)) + written, files=CONF | {one: b"", deep: b""})
+    odd = {one: b"", "Norder4/Dir10000/Npix7.fits": b"", deep: b"", tile_path(6, 9): b""}
+    said = warn("shelf_io::near_leaf", near.format(2, "~"), above.format(2, "~"))
     right = SURVEY.files({0: [1, 2, 3, 4]})
     given = CONF | odd | {leaf: TILE, "properties": next(right), "Moc.fits": next(right)}
     folder = check.survey(given)
@@ -622,8 +625,8 @@ def addresses(check):
 # ---- copies
 
 class Peer(threading.Thread):
-    """A peer that answers each request of one connection by the next of these replies, in words for the whole address or for its name
-    alone. None in place of a reply breaks the connection off."""
+    """A peer that answers each request of one connection by the next of these replies. None in place of one breaks the connection
+    off."""
 
     def __init__(self, replies):
         super().__init__()
