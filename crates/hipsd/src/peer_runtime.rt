@@ -7,7 +7,8 @@ use std::io;
 use std::net::{Net, SocketAddr};
 use std::time::{Clock, Duration};
 
-/// A runtime that calls and looks names up as `host` does, and says by `log` what there is to say: a runtime that logs does neither.
+/// The host's network and clock, with the program's log. The runtime that the rest of the program has logs too, but it looks no names
+/// up, and it can't connect within a time.
 #[derive(Clone, Copy, Drop)]
 pub(crate) struct PeerRuntime<R, L> {
     host: R,
@@ -15,7 +16,7 @@ pub(crate) struct PeerRuntime<R, L> {
 }
 
 impl<R, L> PeerRuntime<R, L> {
-    /// One of these two.
+    /// A runtime of these two.
     pub(crate) fn new(host: R, log: L) -> PeerRuntime<R, L> {
         PeerRuntime { host, log }
     }
