@@ -35,15 +35,15 @@ counts_text counts = codes "rows " ++ (decimal counts.rows ++ (codes " tiles " +
 abbrev pub line_of : List ℕ → List ℕ
 line_of text = text ++ 10 ∷ []
 
--- the line was written and all that the sink holds was handed on
+-- the line was written and all that the sink holds was flushed
 pub record IsWritten (line : List ℕ) (held held' handed' : Option (List ℕ)) : Type 0 where
   pub appended : Appends held held' line
-  pub handed_on : handed' ≡ held'
+  pub flushed : handed' ≡ held'
 
 -- nothing was written
 pub record IsSilent (held held' handed handed' : Option (List ℕ)) : Type 0 where
   pub kept : held' ≡ held
-  pub handed_on : handed' ≡ handed
+  pub flushed : handed' ≡ handed
 
 -- the line was written, and the status is the command's own; or the sink failed at it, or there was no memory for it
 abbrev pub Says : ℕ → List ℕ → ℕ → Option (List ℕ) → Option (List ℕ) → Option (List ℕ) → Option (List ℕ) → Type 0
@@ -78,7 +78,7 @@ IsOutcome given old new (Err ShelfFault) = IsOkAnd given (λ catalogue. OnFiles 
 IsOutcome given old new (Err OutOfMemory) = (new ≡ old) ⊎ IsOkAnd given (λ catalogue. OnFiles (IsUnfinished catalogue) old new)
 
 -- `catalog`, of this input, over the files before and after, with its status, what the sink holds before and after, and what was
--- handed on
+-- flushed
 abbrev pub RunsCatalog : ℕ → ℕ → List ℕ → Option ShelfFiles → Option ShelfFiles → ℕ → Option (List ℕ) → Option (List ℕ) → Option (List ℕ) → Option (List ℕ) → Type 0
 RunsCatalog top per_tile input old new status held held' handed handed' =
     (outcome : Result Counts Stop) × (IsOutcome (catalogue_of top per_tile input) old new outcome × SaysOutcome outcome status held held' handed handed')

@@ -44,7 +44,7 @@ where
     requires least { 1 ≤ per_tile }
     requires most { per_tile ≤ 4096 }
     ensures run { (input : List ℕ) → S.left source.old ≡ Some input → RunsCatalog top per_tile input (H.files shelf.old) (H.files shelf.new) result
-        (K.held sink.old) (K.held sink.new) (K.handed_on sink.old) (K.handed_on sink.new) }
+        (K.held sink.old) (K.held sink.new) (K.flushed sink.old) (K.flushed sink.new) }
     ensures end { result ≡ 0 → IsAtEnd (S.left source.new) }
     ensures not_usage { result ≢ 1 }
     ensures not_opened { (result ≢ 2) × (result ≢ 3) }
@@ -92,7 +92,7 @@ where
 
 // Says why there is no catalogue, where it is said, and answers the status.
 fn end_by<K: Sink>(alloc: Global, sink: &mut K, stop: Stop) -> u8
-    ensures said { SaysOutcome (Err stop) result (K.held sink.old) (K.held sink.new) (K.handed_on sink.old) (K.handed_on sink.new) }
+    ensures said { SaysOutcome (Err stop) result (K.held sink.old) (K.held sink.new) (K.flushed sink.old) (K.flushed sink.new) }
     ensures not_usage { result ≢ 1 }
     ensures not_opened { (result ≢ 2) × (result ≢ 3) }
     ensures not_door { result ≢ 8 }

@@ -190,7 +190,7 @@ module _ (one : NextIsOne) (heads : NextHeadIsOne) where
     read = [];
     left = [];
     written = concat outputs;
-    handed_on = concat outputs;
+    flushed = concat outputs;
     source_faults = 0;
     source_faults_then = 0;
     sink_faults = 0;

@@ -9,7 +9,7 @@ pub mod Truncated
 pub mod Steps
 pub mod ReadLemmas
 pub mod ReadRequests
-pub mod HandedOn
+pub mod Flushed
 pub mod Sessions
 pub mod OneKind
 pub mod Same

@@ -22,12 +22,12 @@ use Rattle.hips_http.specs.Paths.{call_of}
 use Rattle.hips_http.specs.Replies.{Answer, output_of, refusal_bytes}
 use Rattle.hips_http.specs.Answers.{Asking, Point, Asked, asked_put, asked_delete, asked_batch, Changes, Answers}
 use Rattle.hips_http.specs.Moment.{Input, Output, Moment, moment, unread_of, NeverFalls}
-use Rattle.hips_http.specs.SessionRun.{Exchange, AreRequests, AreAnswered, IsOutput, closes, room_of, most_requests, first_point, GoOn, EndsWith, BreaksOff, BreaksInRefusal, BreaksInLeave, told_bytes, Ends, HandsAllOn, KeepsStates, HandsOn, HandsOnAll, Goes}
-use Rattle.hips_http.specs.Progress.{IsAt, Serving, IsServedOne, BreaksOne, StopsOne, EndsOne, IsBegunAt, LeavesPart, Progress, Going, HasHandedOn, wants_after, ServesOne, IsServedTo, ServesAll}
+use Rattle.hips_http.specs.SessionRun.{Exchange, AreRequests, AreAnswered, IsOutput, closes, room_of, most_requests, first_point, GoOn, EndsWith, BreaksOff, BreaksInRefusal, BreaksInLeave, told_bytes, Ends, HandsAllOn, KeepsStates, Flushes, FlushesAll, Goes}
+use Rattle.hips_http.specs.Progress.{IsAt, Serving, IsServedOne, BreaksOne, StopsOne, EndsOne, IsBegunAt, LeavesPart, Progress, Going, HasFlushed, wants_after, ServesOne, IsServedTo, ServesAll}
 use Rattle.hips_http.proofs.Runs.{answered_more, answered_push, requests_push}
 use Rattle.hips_http.proofs.Truncated.{requests_front}
 use Rattle.hips_http.proofs.Steps.{appends_trans, split_of, rises_from}
-use Rattle.hips_http.proofs.HandedOn.{HandsMore, hands_all, hands_all_on, has_handed_all, hands_before}
+use Rattle.hips_http.proofs.Flushed.{HandsMore, hands_all, hands_all_on, has_handed_all, hands_before}
 use Rattle.hips_http.proofs.Whole.{appends_nothing, begins_same}
 
 -- ---- one request more
@@ -115,7 +115,7 @@ concat-push : (outputs : List (List ℕ)) (output : List ℕ) → concat (output
 concat-push [] output = append-nil output
 concat-push (x ∷ xs) output = ap (λ (b : List ℕ). x ++ b) (concat-push xs output) ∙ sym (append_assoc x (concat xs) output)
 
-goes_on : (count : ℕ) (first now new : Moment) → Going count first now → IsServedOne count now new false → new.output.handed_on ≡ new.output.held → Going (count + 1) first new
+goes_on : (count : ℕ) (first now new : Moment) → Going count first now → IsServedOne count now new false → new.output.flushed ≡ new.output.held → Going (count + 1) first new
 goes_on count first now new g s on =
     let p = g.progress in
     let out = output_of (closes count s.request) s.request.asked s.answer in
@@ -216,7 +216,7 @@ told_as first input output read rest out passed = record {
   read = read;
   left = rest;
   written = out;
-  handed_on = passed;
+  flushed = passed;
   source_faults = first.input.faults;
   source_faults_then = input.faults;
   sink_faults = first.output.faults;
@@ -225,7 +225,7 @@ told_as first input output read rest out passed = record {
 
 -- the requests were answered by `now`, and these are the ends then
 module _ (count : ℕ) (first now : Moment) (input : Input) (output : Output) (p : Progress count first now) (bytes read rest : List ℕ) (bytes_are : bytes ≡ read ++ rest) (left_is : input.left ≡ Some rest) where
-  served_by : (ended : SessionEnd) (out passed : List ℕ) → Appends first.output.held output.held out → HandsOn first.output.held first.output.handed_on output.handed_on passed
+  served_by : (ended : SessionEnd) (out passed : List ℕ) → Appends first.output.held output.held out → Flushes first.output.held first.output.flushed output.flushed passed
       → KeepsStates ended first.board.history now.board.history → (r : List ℕ) → AreRequests (room_of now.board.conf) (told_bytes ended (told_as first input output read rest out passed)) p.requests r
       → Ends ended (room_of now.board.conf) p.requests r p.outputs (told_as first input output read rest out passed) → HandsAllOn ended (told_as first input output read rest out passed)
       → IsServedTo first (moment input output now.board now.steps now.wants) ended bytes
@@ -253,7 +253,7 @@ module _ (count : ℕ) (first now : Moment) (input : Input) (output : Output) (p
       own_is = refl;
       wants_is = p.at.wants_is;
       ended = ends;
-      handed_on = all_on;
+      flushed = all_on;
     };
     steps_are = p.at.steps_are;
   }
@@ -270,30 +270,30 @@ begun_ends room r outputs begun out passed (inr l) broken =
 
 -- no request was answered in its place
 module _ (count : ℕ) (first now : Moment) (input : Input) (output : Output) (p : Progress count first now) (bytes : List ℕ) (open_all : going_on p.requests)
-    (written : Appends first.output.held now.output.held (concat p.outputs)) (before : HasHandedOn p.outputs first.output.held now.output.held first.output.handed_on now.output.handed_on) (few : count < most_requests) where
+    (written : Appends first.output.held now.output.held (concat p.outputs)) (before : HasFlushed p.outputs first.output.held now.output.held first.output.flushed now.output.flushed) (few : count < most_requests) where
   goes : GoOn p.requests
   goes = record { none_closes = open_all; few = (let c = p.count_is in omega (arith, c)) }
 
   unanswered_at : (ended : SessionEnd) (r : List ℕ) → AreRequests (room_of now.board.conf) bytes p.requests r → EndsOne ended (room_of now.board.conf) r input.left now.output.held output.held → LeavesPart r input.left
       → (ended ≡ end.ReadFault → Rises first.input.faults input.faults) → (ended ≡ end.WriteFault → Rises first.output.faults output.faults)
-      → (¬ (ended ≡ end.WriteFault) → HandsOnAll now.output.held output.held now.output.handed_on output.handed_on) → (ended ≡ end.WriteFault → HandsMore now.output.held now.output.handed_on output.handed_on)
+      → (¬ (ended ≡ end.WriteFault) → FlushesAll now.output.held output.held now.output.flushed output.flushed) → (ended ≡ end.WriteFault → HandsMore now.output.held now.output.flushed output.flushed)
       → IsServedTo first (moment input output now.board now.steps now.wants) ended bytes
   unanswered_at end.Closed r are ends part reads writes all more =
       let f = front_part (room_of now.board.conf) bytes p.requests r are input.left part in
       served_by count first now input output p bytes f.gone f.rest f.all_is f.left_is end.Closed (concat p.outputs) (concat p.outputs) (appends_end first.output.held now.output.held output.held (concat p.outputs) written ends.1)
-      (hands_all first.output.held output.held first.output.handed_on output.handed_on (concat p.outputs) (appends_end first.output.held now.output.held output.held (concat p.outputs) written ends.1) (hands_all_on p.outputs first.output.held now.output.held output.held first.output.handed_on now.output.handed_on output.handed_on before (all (λ is. cc)))) tt r
+      (hands_all first.output.held output.held first.output.flushed output.flushed (concat p.outputs) (appends_end first.output.held now.output.held output.held (concat p.outputs) written ends.1) (hands_all_on p.outputs first.output.held now.output.held output.held first.output.flushed now.output.flushed output.flushed before (all (λ is. cc)))) tt r
       (whole_input count first now input output p bytes f.gone f.rest f.all_is f.left_is r are) (goes, ends.0, refl) refl
   unanswered_at (end.Refused code) r are ends part reads writes all more =
       let f = front_part (room_of now.board.conf) bytes p.requests r are input.left part in
       served_by count first now input output p bytes f.gone f.rest f.all_is f.left_is (end.Refused code) (concat p.outputs ++ refusal_bytes code) (concat p.outputs ++ refusal_bytes code)
       (appends_trans first.output.held now.output.held output.held (concat p.outputs) (refusal_bytes code) written ends.1)
-      (hands_all first.output.held output.held first.output.handed_on output.handed_on (concat p.outputs ++ refusal_bytes code) (appends_trans first.output.held now.output.held output.held (concat p.outputs) (refusal_bytes code) written ends.1) (hands_all_on p.outputs first.output.held now.output.held output.held first.output.handed_on now.output.handed_on output.handed_on before (all (λ is. cc)))) tt r
+      (hands_all first.output.held output.held first.output.flushed output.flushed (concat p.outputs ++ refusal_bytes code) (appends_trans first.output.held now.output.held output.held (concat p.outputs) (refusal_bytes code) written ends.1) (hands_all_on p.outputs first.output.held now.output.held output.held first.output.flushed now.output.flushed output.flushed before (all (λ is. cc)))) tt r
       (whole_input count first now input output p bytes f.gone f.rest f.all_is f.left_is r are) (goes, ends.0, refl) refl
   unanswered_at end.Cut r are ends part reads writes all more =
       let f = front_part (room_of now.board.conf) bytes p.requests r are input.left part in
       served_by count first now input output p bytes f.gone f.rest f.all_is f.left_is end.Cut (concat p.outputs ++ ends.0) (concat p.outputs ++ ends.0)
       (appends_trans first.output.held now.output.held output.held (concat p.outputs) ends.0 written ends.2)
-      (hands_all first.output.held output.held first.output.handed_on output.handed_on (concat p.outputs ++ ends.0) (appends_trans first.output.held now.output.held output.held (concat p.outputs) ends.0 written ends.2) (hands_all_on p.outputs first.output.held now.output.held output.held first.output.handed_on now.output.handed_on output.handed_on before (all (λ is. cc)))) tt r
+      (hands_all first.output.held output.held first.output.flushed output.flushed (concat p.outputs ++ ends.0) (appends_trans first.output.held now.output.held output.held (concat p.outputs) ends.0 written ends.2) (hands_all_on p.outputs first.output.held now.output.held output.held first.output.flushed now.output.flushed output.flushed before (all (λ is. cc)))) tt r
       (whole_input count first now input output p bytes f.gone f.rest f.all_is f.left_is r are) (goes, (ends.0, ends.1, refl)) refl
   unanswered_at end.ReadFault r are ends part reads writes all more =
       let t = there_of _ input.left ends in
@@ -301,12 +301,12 @@ module _ (count : ℕ) (first now : Moment) (input : Input) (output : Output) (p
       let f = requests_front (room_of now.board.conf) bytes p.requests h.read t.bytes (subst (λ (b : List ℕ). AreRequests (room_of now.board.conf) bytes p.requests b) h.all_is are) in
       served_by count first now input output p bytes f.front t.bytes f.all_is t.is end.ReadFault (concat p.outputs ++ h.extra) (concat p.outputs ++ h.extra)
       (appends_trans first.output.held now.output.held output.held (concat p.outputs) h.extra written h.appended)
-      (hands_all first.output.held output.held first.output.handed_on output.handed_on (concat p.outputs ++ h.extra) (appends_trans first.output.held now.output.held output.held (concat p.outputs) h.extra written h.appended) (hands_all_on p.outputs first.output.held now.output.held output.held first.output.handed_on now.output.handed_on output.handed_on before (all (λ is. cc)))) tt h.read f.holds (goes, reads refl, (h.extra, h.ends, refl)) refl
+      (hands_all first.output.held output.held first.output.flushed output.flushed (concat p.outputs ++ h.extra) (appends_trans first.output.held now.output.held output.held (concat p.outputs) h.extra written h.appended) (hands_all_on p.outputs first.output.held now.output.held output.held first.output.flushed now.output.flushed output.flushed before (all (λ is. cc)))) tt h.read f.holds (goes, reads refl, (h.extra, h.ends, refl)) refl
   unanswered_at end.WriteFault r are ends part reads writes all more =
       let f = front_part (room_of now.board.conf) bytes p.requests r are input.left part in
       let k = ends.2 in
       let out = concat p.outputs ++ k.part in
-      let on = hands_before p.outputs first.output.held now.output.held first.output.handed_on now.output.handed_on output.handed_on written before (more refl) in
+      let on = hands_before p.outputs first.output.held now.output.held first.output.flushed now.output.flushed output.flushed written before (more refl) in
       let broken : BreaksOff p.outputs ends.0 out on.passed = record { part = k.part; left = k.left; begun_is = k.begun_is; out_is = refl; more = on.more; handed_is = on.passed_is } in
       served_by count first now input output p bytes f.gone f.rest f.all_is f.left_is end.WriteFault out on.passed
       (appends_trans first.output.held now.output.held output.held (concat p.outputs) k.part written k.appended) on.on tt r
@@ -348,7 +348,7 @@ module _ (count : ℕ) (first now new : Moment) (few : count < most_requests) (g
 
   -- in the reply to a request that was answered
   broken_served : BreaksOne count now new → IfSome (unread_of now.input) (λ all. LeavesPart all new.input.left) → Rises first.output.faults new.output.faults
-      → HandsMore now.output.held now.output.handed_on new.output.handed_on → Ended first new end.WriteFault
+      → HandsMore now.output.held now.output.flushed new.output.flushed → Ended first new end.WriteFault
   broken_served s part rises more =
       let p = g.progress in
       let pushed = push count first now new p s.request s.answer s.serving s.wants_is in
@@ -360,7 +360,7 @@ module _ (count : ℕ) (first now new : Moment) (few : count < most_requests) (g
             let f = front_at part bytes is in
             let k = s.broken in
             let out = concat p.outputs ++ k.part in
-            let on = hands_before p.outputs first.output.held now.output.held first.output.handed_on now.output.handed_on new.output.handed_on g.written_is g.handed_is more in
+            let on = hands_before p.outputs first.output.held now.output.held first.output.flushed now.output.flushed new.output.flushed g.written_is g.handed_is more in
             served_by (count + 1) first new new.input new.output next bytes f.gone f.rest f.all_is f.left_is end.WriteFault out on.passed
             (appends_trans first.output.held now.output.held new.output.held (concat p.outputs) k.part g.written_is k.appended) on.on tt after.bytes
             (whole_input (count + 1) first new new.input new.output next bytes f.gone f.rest f.all_is f.left_is after.bytes after.holds) (
@@ -377,7 +377,7 @@ module _ (count : ℕ) (first now new : Moment) (few : count < most_requests) (g
       }
 
   -- a request that asked to close was answered
-  asked_served : IsServedOne count now new true → IfSome (unread_of now.input) (λ all. LeavesPart all new.input.left) → new.output.handed_on ≡ new.output.held → Ended first new end.Asked
+  asked_served : IsServedOne count now new true → IfSome (unread_of now.input) (λ all. LeavesPart all new.input.left) → new.output.flushed ≡ new.output.held → Ended first new end.Asked
   asked_served s part on =
       let p = g.progress in
       let pushed = push count first now new p s.request s.answer s.serving s.wants_is in
@@ -391,7 +391,7 @@ module _ (count : ℕ) (first now new : Moment) (few : count < most_requests) (g
             let after = taken_at (count + 1) first new next bytes is in
             let f = front_at part bytes is in
             served_by (count + 1) first new new.input new.output next bytes f.gone f.rest f.all_is f.left_is end.Asked (concat next.outputs) (concat next.outputs) written
-            (hands_all first.output.held new.output.held first.output.handed_on new.output.handed_on (concat next.outputs) written (inl on)) tt after.bytes
+            (hands_all first.output.held new.output.held first.output.flushed new.output.flushed (concat next.outputs) written (inl on)) tt after.bytes
             (whole_input (count + 1) first new new.input new.output next bytes f.gone f.rest f.all_is f.left_is after.bytes after.holds)
             ((s.request, ends_with next.requests s.request pushed.requests_are, sym s.closed_is), refl) refl);
       }
@@ -399,7 +399,7 @@ module _ (count : ℕ) (first now new : Moment) (few : count < most_requests) (g
   -- no request was answered in its place, or its reply wasn't written
   stopped_served : (ended : SessionEnd) → StopsOne count now new ended → IfSome (unread_of now.input) (λ all. LeavesPart all new.input.left)
       → (ended ≡ end.ReadFault → Rises first.input.faults new.input.faults) → (ended ≡ end.WriteFault → Rises first.output.faults new.output.faults)
-      → (¬ (ended ≡ end.WriteFault) → HandsOnAll now.output.held new.output.held now.output.handed_on new.output.handed_on) → (ended ≡ end.WriteFault → HandsMore now.output.held now.output.handed_on new.output.handed_on)
+      → (¬ (ended ≡ end.WriteFault) → FlushesAll now.output.held new.output.held now.output.flushed new.output.flushed) → (ended ≡ end.WriteFault → HandsMore now.output.held now.output.flushed new.output.flushed)
       → Ended first new ended
   stopped_served ended s part reads writes all more = elim s.how [
     | inl broke ↦ subst (λ (e : SessionEnd). Ended first new e) (sym broke.0) (broken_served broke.1 part (writes broke.0) (more broke.0))
@@ -430,8 +430,8 @@ spent_served count first now all g =
           let s = split_of before.bytes now.input.frame.held now.input.left before.is in
           let f = front_part (room_of now.board.conf) bytes p.requests before.bytes before.holds now.input.left (record { gone = now.input.frame.held; rest = s.rest; left_is = s.left_is; all_is = s.all_is }) in
           served_by count first now now.input now.output p bytes f.gone f.rest f.all_is f.left_is end.Spent (concat p.outputs) (concat p.outputs) g.written_is
-          (hands_all first.output.held now.output.held first.output.handed_on now.output.handed_on (concat p.outputs) g.written_is
-          (has_handed_all p.outputs first.output.held now.output.held first.output.handed_on now.output.handed_on g.handed_is)) tt before.bytes
+          (hands_all first.output.held now.output.held first.output.flushed now.output.flushed (concat p.outputs) g.written_is
+          (has_handed_all p.outputs first.output.held now.output.held first.output.flushed now.output.flushed g.handed_is)) tt before.bytes
           (whole_input count first now now.input now.output p bytes f.gone f.rest f.all_is f.left_is before.bytes before.holds)
           (p.count_is ∙ all, g.none_closes, refl) refl);
     }
@@ -468,7 +468,7 @@ begins_loop top first none legal owned none_wanted empty turn room_is top_is = r
 }
 
 module _ (count top : ℕ) (first now new : Moment) (l : IsLoop count top first now) (never_falls : NeverFalls now new) where
-  pub loop_goes_on : IsServedOne count now new false → new.output.handed_on ≡ new.output.held → new.input.frame.turn ≡ AtHead → IsLoop (count + 1) top first new
+  pub loop_goes_on : IsServedOne count now new false → new.output.flushed ≡ new.output.held → new.input.frame.turn ≡ AtHead → IsLoop (count + 1) top first new
   loop_goes_on s on turn =
       let conf : new.board.conf ≡ now.board.conf = s.serving.serves.conf in
       record {
@@ -486,14 +486,14 @@ module _ (count top : ℕ) (first now new : Moment) (l : IsLoop count top first 
   -- what came of all, where it ended here
   all_of : (ended : SessionEnd) → count < most_requests → Ended first new ended → (ended ≡ end.ReadFault → Rises now.input.faults new.input.faults)
       → (ended ≡ end.WriteFault → Rises now.output.faults new.output.faults) → (ended ≡ end.OutOfMemory → ⊥)
-      → (¬ (ended ≡ end.WriteFault) → HandsOnAll first.output.held new.output.held first.output.handed_on new.output.handed_on) → ServesAll first new ended
+      → (¬ (ended ≡ end.WriteFault) → FlushesAll first.output.held new.output.held first.output.flushed new.output.flushed) → ServesAll first new ended
   all_of ended few e reads writes memory on = record {
     goes = e.goes;
     wants = omega (arith, few, l.few_wants, never_falls.wants);
     read_fault = λ is. rises_from _ _ _ l.source (reads is);
     write_fault = λ is. rises_from _ _ _ l.sink (writes is);
     memory = memory;
-    handed_on = on;
+    flushed = on;
     source_never_falls = omega (arith, l.source, never_falls.source);
     sink_never_falls = omega (arith, l.sink, never_falls.sink);
     steps_never_fall = omega (arith, l.steps_rise, never_falls.steps);
@@ -504,19 +504,19 @@ module _ (count top : ℕ) (first now new : Moment) (l : IsLoop count top first 
   -- the request asked to close
   pub asked_all : count < most_requests → ServesOne count now new (Ok true) → ServesAll first new end.Asked
   asked_all few s =
-      all_of end.Asked few (asked_served count first now new few l.going s.ok s.left s.hands.handed_on) (λ h. absurd (cc)) (λ h. absurd (cc)) (λ h. cc) (λ _. inl s.hands.handed_on)
+      all_of end.Asked few (asked_served count first now new few l.going s.ok s.left s.hands.flushed) (λ h. absurd (cc)) (λ h. absurd (cc)) (λ h. cc) (λ _. inl s.hands.flushed)
 
   -- the connection ended
   pub stopped_all : (ended : SessionEnd) → count < most_requests → ServesOne count now new (Err ended) → ServesAll first new ended
   stopped_all ended few s =
       let reads : ended ≡ end.ReadFault → Rises now.input.faults new.input.faults = λ is. s.faults.read_fault (ap (λ (e : SessionEnd). Err e) is) in
       let writes : ended ≡ end.WriteFault → Rises now.output.faults new.output.faults = λ is. s.faults.write_fault (ap (λ (e : SessionEnd). Err e) is) in
-      let more : ended ≡ end.WriteFault → HandsMore now.output.held now.output.handed_on new.output.handed_on
+      let more : ended ≡ end.WriteFault → HandsMore now.output.held now.output.flushed new.output.flushed
       = λ is. let m = s.hands.breaks (ap (λ (e : SessionEnd). Err e) is) in record { more = m.0; on = m.1 } in
       all_of ended few
-      (stopped_served count first now new few l.going ended s.stops s.left (λ is. rises_from _ _ _ l.source (reads is)) (λ is. rises_from _ _ _ l.sink (writes is)) s.hands.hands_on more)
+      (stopped_served count first now new few l.going ended s.stops s.left (λ is. rises_from _ _ _ l.source (reads is)) (λ is. rises_from _ _ _ l.sink (writes is)) s.hands.flushes more)
       reads writes s.faults.memory
-      (λ going. hands_all_on l.going.progress.outputs first.output.held now.output.held new.output.held first.output.handed_on now.output.handed_on new.output.handed_on l.going.handed_is (s.hands.hands_on going))
+      (λ going. hands_all_on l.going.progress.outputs first.output.held now.output.held new.output.held first.output.flushed now.output.flushed new.output.flushed l.going.handed_is (s.hands.flushes going))
 
 -- as many requests were answered as may be
 pub spent_all : (count top : ℕ) (first now : Moment) → IsLoop count top first now → count ≡ most_requests → ServesAll first now end.Spent
@@ -528,7 +528,7 @@ spent_all count top first now l all =
       read_fault = λ h. absurd (cc);
       write_fault = λ h. absurd (cc);
       memory = λ h. cc;
-      handed_on = λ _. has_handed_all l.going.progress.outputs first.output.held now.output.held first.output.handed_on now.output.handed_on l.going.handed_is;
+      flushed = λ _. has_handed_all l.going.progress.outputs first.output.held now.output.held first.output.flushed now.output.flushed l.going.handed_is;
       source_never_falls = l.source;
       sink_never_falls = l.sink;
       steps_never_fall = l.steps_rise;

@@ -50,7 +50,7 @@ no_memory_served old new (Some input) connection steps legal is left_is =
         own_is = refl;
         wants_is = refl;
         ended = (refl, refl, refl);
-        handed_on = refl;
+        flushed = refl;
       };
       steps_are = λ _. grind arith;
     }

@@ -14,11 +14,11 @@ pub record Input : Type 0 where
   pub left : Option (List ℕ)
   pub faults : ℕ
 
--- what was written: the bytes that the sink holds and those of them that it handed on, where it tells them, and how often it
+-- what was written: the bytes that the sink holds and those of them that it flushed, where it tells them, and how often it
 -- has failed
 pub record Output : Type 0 where
   pub held : Option (List ℕ)
-  pub handed_on : Option (List ℕ)
+  pub flushed : Option (List ℕ)
   pub faults : ℕ
 
 -- a connection: its input and its output, the board's content, how many steps were taken, and how many requests have found no
@@ -39,7 +39,7 @@ abbrev pub connection_at : Moment → Connection
 connection_at at = record {
   unread = at.input.left;
   written = at.output.held;
-  handed_on = at.output.handed_on;
+  flushed = at.output.flushed;
   source_faults = at.input.faults;
   sink_faults = at.output.faults;
 }
@@ -50,7 +50,7 @@ abbrev pub connection_of : {S K : Type 0} → source.Ghosts S → sink.Ghosts K 
 connection_of told_source told_sink src end = record {
   unread = told_source.left src;
   written = told_sink.held end;
-  handed_on = told_sink.handed_on end;
+  flushed = told_sink.flushed end;
   source_faults = told_source.faults src;
   sink_faults = told_sink.faults end;
 }
@@ -59,7 +59,7 @@ abbrev pub input_at : {S : Type 0} → source.Ghosts S → FrameState → S → 
 input_at told frame src = record { frame = frame; left = told.left src; faults = told.faults src }
 
 abbrev pub output_at : {K : Type 0} → sink.Ghosts K → K → Output
-output_at told end = record { held = told.held end; handed_on = told.handed_on end; faults = told.faults end }
+output_at told end = record { held = told.held end; flushed = told.flushed end; faults = told.faults end }
 
 abbrev pub moment : Input → Output → BoardContent → ℕ → ℕ → Moment
 moment input output board steps wants = record { input = input; output = output; board = board; steps = steps; wants = wants }

@@ -25,7 +25,7 @@ use Rattle.hips_http.specs.Paths.{IsPathOf, IsOfKind, call_of}
 use Rattle.http_frame.specs.Next.{IsFound, IsWhole, IsRefusedNext}
 use Rattle.hips_http.specs.Replies.{Answer, head_of, sent_body, output_of, refusal_bytes}
 use Rattle.hips_http.specs.Moment.{Input, Output, Moment, unread_of, connection_at, NeverFalls}
-use Rattle.hips_http.specs.SessionRun.{closes, room_of, most_requests, IsCutInput, AreRequests, AreAnswered, first_point, HandsOn, HandsOnAll, IsServed, Goes}
+use Rattle.hips_http.specs.SessionRun.{closes, room_of, most_requests, IsCutInput, AreRequests, AreAnswered, first_point, Flushes, FlushesAll, IsServed, Goes}
 use Rattle.hips_http.specs.Answers.{Asking, Point, Answers, cost_of}
 
 -- the state at the place is the one that is held
@@ -72,10 +72,10 @@ pub record Sends (old new : Output) (bytes : List ℕ) (result : Result (Unit {0
   pub whole : OnOk result (Appends old.held new.held bytes)
   pub part : OnErr result (AppendsPrefix old.held new.held bytes)
 
--- all that is held was handed on; or the sink failed, and no more was handed on
+-- all that is held was flushed; or the sink failed, and no more was flushed
 pub record HandsReply (old new : Output) (result : Result (Unit {0}) Failed) : Type 0 where
-  pub handed_on : OnOk result (new.handed_on ≡ new.held)
-  pub stays : OnErr result (new.handed_on ≡ old.handed_on)
+  pub flushed : OnOk result (new.flushed ≡ new.held)
+  pub stays : OnErr result (new.flushed ≡ old.flushed)
   pub failed : OnErr result (Rises old.faults new.faults)
   pub never_falls : old.faults ≤ new.faults
 
@@ -225,11 +225,11 @@ pub record LeavesPart (all : List ℕ) (left : Option (List ℕ)) : Type 0 where
   pub left_is : left ≡ Some rest
   pub all_is : all ≡ gone ++ rest
 
--- all that is held was handed on, or nothing was written and nothing handed on; where a writing failed, some more may have been
+-- all that is held was flushed, or nothing was written and nothing flushed; where a writing failed, some more may have been
 pub record HandsOne (old new : Output) (result : Result Bool SessionEnd) : Type 0 where
-  pub handed_on : OnOk result (new.handed_on ≡ new.held)
-  pub hands_on : IfErr result (λ end. ¬ (end ≡ WriteFault) → HandsOnAll old.held new.held old.handed_on new.handed_on)
-  pub breaks : result ≡ Err WriteFault → (more : List ℕ) × HandsOn old.held old.handed_on new.handed_on more
+  pub flushed : OnOk result (new.flushed ≡ new.held)
+  pub flushes : IfErr result (λ end. ¬ (end ≡ WriteFault) → FlushesAll old.held new.held old.flushed new.flushed)
+  pub breaks : result ≡ Err WriteFault → (more : List ℕ) × Flushes old.held old.flushed new.flushed more
 
 -- source or sink failed only where its count of faults rose, and no end is for want of memory
 pub record FaultsOne (old new : Moment) (result : Result Bool SessionEnd) : Type 0 where
@@ -273,10 +273,10 @@ pub record Halts (asked : Request) (old new : Moment) (end : SessionEnd) : Type 
   pub untouched : Untouched old new
   pub written_is : new.output.held ≡ old.output.held
 
--- all that is held was handed on; or no more was, and nothing was written unless a writing failed
+-- all that is held was flushed; or no more was, and nothing was written unless a writing failed
 pub record HandsCall (old new : Output) (result : Result (Unit {0}) SessionEnd) : Type 0 where
-  pub handed_on : OnOk result (new.handed_on ≡ new.held)
-  pub stays : OnErr result (new.handed_on ≡ old.handed_on)
+  pub flushed : OnOk result (new.flushed ≡ new.held)
+  pub stays : OnErr result (new.flushed ≡ old.flushed)
   pub unwritten : IfErr result (λ end. ¬ (end ≡ WriteFault) → new.held ≡ old.held)
   pub write_fault : result ≡ Err WriteFault → Rises old.faults new.faults
   pub memory : IfErr result (λ end. end ≢ OutOfMemory)
@@ -307,16 +307,16 @@ pub record Progress (count : ℕ) (first now : Moment) : Type 0 where
   pub answered : AreAnswered now.board.conf now.board.opening now.board.history 0 (first_point first.board.history) requests last outputs
   pub taken : IfSome first.input.left (λ all. IsSomeAnd (unread_of now.input) (λ rest. AreRequests (room_of now.board.conf) all requests rest))
 
--- none was answered, and nothing was written or handed on; or all that is held was handed on
-abbrev pub HasHandedOn : List (List ℕ) → Option (List ℕ) → Option (List ℕ) → Option (List ℕ) → Option (List ℕ) → Type 0
-HasHandedOn outputs held held' handed handed' = ((outputs ≡ []) × (held' ≡ held) × (handed' ≡ handed)) ⊎ (handed' ≡ held')
+-- none was answered, and nothing was written or flushed; or all that is held was flushed
+abbrev pub HasFlushed : List (List ℕ) → Option (List ℕ) → Option (List ℕ) → Option (List ℕ) → Option (List ℕ) → Type 0
+HasFlushed outputs held held' handed handed' = ((outputs ≡ []) × (held' ≡ held) × (handed' ≡ handed)) ⊎ (handed' ≡ held')
 
--- none of these asked to close, and all that they were answered was written and handed on
+-- none of these asked to close, and all that they were answered was written and flushed
 pub record Going (count : ℕ) (first now : Moment) : Type 0 where
   pub progress : Progress count first now
   pub none_closes : All (λ request. request.asked.close ≡ false) progress.requests
   pub written_is : Appends first.output.held now.output.held (concat progress.outputs)
-  pub handed_is : HasHandedOn progress.outputs first.output.held now.output.held first.output.handed_on now.output.handed_on
+  pub handed_is : HasFlushed progress.outputs first.output.held now.output.held first.output.flushed now.output.flushed
 
 -- ---- a whole connection
 
@@ -332,7 +332,7 @@ pub record ServesAll (first last : Moment) (end : SessionEnd) : Type 0 where
   pub read_fault : end ≡ ReadFault → Rises first.input.faults last.input.faults
   pub write_fault : end ≡ WriteFault → Rises first.output.faults last.output.faults
   pub memory : end ≢ OutOfMemory
-  pub handed_on : ¬ (end ≡ WriteFault) → HandsOnAll first.output.held last.output.held first.output.handed_on last.output.handed_on
+  pub flushed : ¬ (end ≡ WriteFault) → FlushesAll first.output.held last.output.held first.output.flushed last.output.flushed
   pub source_never_falls : first.input.faults ≤ last.input.faults
   pub sink_never_falls : first.output.faults ≤ last.output.faults
   pub steps_never_fall : first.steps ≤ last.steps

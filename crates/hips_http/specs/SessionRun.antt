@@ -72,7 +72,7 @@ pub record EndsWith (requests : List Asking) (last : Asking) : Type 0 where
 pub record IsCutInput (room : ℕ) (rest extra : List ℕ) : Type 0 where
   pub cut : (IsCut rest × (extra ≡ [])) ⊎ ((body : IsCutInBody room rest) × (extra ≡ leave_bytes body.asked))
 
--- what was written is these outputs, which were all handed on, and then some first bytes of one that was begun
+-- what was written is these outputs, which were all flushed, and then some first bytes of one that was begun
 pub record BreaksOff (outputs : List (List ℕ)) (begun out handed : List ℕ) : Type 0 where
   pub part : List ℕ
   pub left : List ℕ
@@ -106,12 +106,12 @@ pub record BreaksInLeave (room : ℕ) (rest : List ℕ) (outputs : List (List �
   pub broken : BreaksOff outputs continue_bytes out handed
 
 -- a connection as its ends tell it: the bytes that were read of it and those left, the bytes that were written and those of
--- them that were handed on, and the counts of faults of its source and of its sink, before and after
+-- them that were flushed, and the counts of faults of its source and of its sink, before and after
 pub record Exchange : Type 0 where
   pub read : List ℕ
   pub left : List ℕ
   pub written : List ℕ
-  pub handed_on : List ℕ
+  pub flushed : List ℕ
   pub source_faults : ℕ
   pub source_faults_then : ℕ
   pub sink_faults : ℕ
@@ -142,15 +142,15 @@ Ends ReadFault room requests rest outputs exchange =
     × ((extra : List ℕ) × (((rest ≡ []) × (extra ≡ [])) ⊎ IsCutInput room rest extra) × (exchange.written ≡ concat outputs ++ extra))
 Ends WriteFault room requests rest outputs exchange =
     Rises exchange.sink_faults exchange.sink_faults_then
-    × (BreaksInReply requests outputs exchange.written exchange.handed_on
+    × (BreaksInReply requests outputs exchange.written exchange.flushed
     ⊎ (GoOn requests
-    × (BreaksInRefusal room rest outputs exchange.written exchange.handed_on ⊎ BreaksInLeave room rest outputs exchange.written exchange.handed_on)))
+    × (BreaksInRefusal room rest outputs exchange.written exchange.flushed ⊎ BreaksInLeave room rest outputs exchange.written exchange.flushed)))
 Ends OutOfMemory room requests rest outputs exchange = (requests ≡ []) × (exchange.read ≡ []) × (exchange.written ≡ [])
 
--- all that was written was handed on, unless a writing failed: then all but what was begun then, as told there
+-- all that was written was flushed, unless a writing failed: then all but what was begun then, as told there
 abbrev pub HandsAllOn : SessionEnd → Exchange → Type 0
 HandsAllOn WriteFault exchange = Unit {0}
-HandsAllOn _ exchange = exchange.handed_on ≡ exchange.written
+HandsAllOn _ exchange = exchange.flushed ≡ exchange.written
 
 -- a connection begins at the last state that was seen before it, and holds none
 abbrev pub first_point : List SurveyState → Point
@@ -177,18 +177,18 @@ pub record SessionRun (conf : Description) (opening : LeafTiles) (states : List 
   pub own_is : own ≡ last.own
   pub wants_is : wants ≡ last.wants
   pub ended : Ends end (room_of conf) requests rest outputs exchange
-  pub handed_on : HandsAllOn end exchange
+  pub flushed : HandsAllOn end exchange
 
 -- ---- a call
 
--- a sink that held these bytes has handed on all that it holds; or nothing was written, and nothing handed on
-abbrev pub HandsOnAll : Option (List ℕ) → Option (List ℕ) → Option (List ℕ) → Option (List ℕ) → Type 0
-HandsOnAll held held' handed handed' = (handed' ≡ held') ⊎ ((held' ≡ held) × (handed' ≡ handed))
+-- a sink that held these bytes has flushed all that it holds; or nothing was written, and nothing flushed
+abbrev pub FlushesAll : Option (List ℕ) → Option (List ℕ) → Option (List ℕ) → Option (List ℕ) → Type 0
+FlushesAll held held' handed handed' = (handed' ≡ held') ⊎ ((held' ≡ held) × (handed' ≡ handed))
 
--- of what was written to a sink that held these bytes, those bytes were handed on, and so was all that it had held back; or
--- nothing was handed on
-abbrev pub HandsOn : Option (List ℕ) → Option (List ℕ) → Option (List ℕ) → List ℕ → Type 0
-HandsOn held handed handed' bytes = Appends held handed' bytes ⊎ ((handed' ≡ handed) × (bytes ≡ []))
+-- of what was written to a sink that held these bytes, those bytes were flushed, and so was all that it had held back; or
+-- nothing was flushed
+abbrev pub Flushes : Option (List ℕ) → Option (List ℕ) → Option (List ℕ) → List ℕ → Type 0
+Flushes held handed handed' bytes = Appends held handed' bytes ⊎ ((handed' ≡ handed) × (bytes ≡ []))
 
 -- what serving a connection did, whose source had this input: to the board, to the connection as its ends tell it, and to the
 -- count of steps
@@ -201,14 +201,14 @@ pub record IsServed (old new : BoardContent) (input : List ℕ) (taken back : Co
   pub left_is : back.unread ≡ Some rest
   pub appended : Appends taken.written back.written out
   pub passed : List ℕ
-  pub passed_is : HandsOn taken.written taken.handed_on back.handed_on passed
+  pub passed_is : Flushes taken.written taken.flushed back.flushed passed
   pub own_is : new.own ≡ old.own ++ own
   pub run : SessionRun new.conf new.opening old.history
       (record {
         read = read;
         left = rest;
         written = out;
-        handed_on = passed;
+        flushed = passed;
         source_faults = taken.source_faults;
         source_faults_then = back.source_faults;
         sink_faults = taken.sink_faults;

@@ -5,7 +5,7 @@ ghost use Rattle.http_frame.specs.Readings.{ReadsWhile};
 ghost use Rattle.survey_core.specs.History.{IsHistory};
 ghost use Rattle.reader_pin.specs.Board.{IsOwned};
 ghost use Rattle.http_frame.specs.declared.stop.Turn.TheVariants.{AtHead};
-ghost use Rattle.hips_http.specs.SessionRun.{IsServed, Goes, HandsOnAll, room_of, most_requests};
+ghost use Rattle.hips_http.specs.SessionRun.{IsServed, Goes, FlushesAll, room_of, most_requests};
 ghost use Rattle.hips_http.specs.Moment.{connection_of, input_at, output_at, moment, moment_of, SameEnds, ReadsWhere};
 ghost use Rattle.hips_http.specs.Progress.{ServesAll};
 ghost use Rattle.hips_http.specs.Readings.{NeedsNext};
@@ -26,7 +26,7 @@ use survey_link::{Gate, Sink, Source};
 
 /// Serves one connection: reads its requests and answers each from the states that the board sees, until the input ends, a
 /// request asked to close, 65,536 were answered, or the source or the sink failed. What the board held is given up first. Each
-/// reply is handed on before the next one is written.
+/// reply is flushed before the next one is written.
 ///
 /// `OutOfMemory` ends it where there is no memory for its buffers, before anything is read or written. From then on only PUT,
 /// DELETE, POST batch and POST publish may want memory, and they answer it with code 503; `wants` is the number of these
@@ -50,8 +50,8 @@ pub fn session<
     ensures wants { result.wants ≤ most_requests }
     ensures read_fault { result.end ≡ ReadFault → Rises (S.faults src.old) (S.faults src.new) }
     ensures write_fault { result.end ≡ WriteFault → Rises (K.faults sink.old) (K.faults sink.new) }
-    // Unless writing failed all that is held was handed on, also what was held back before; or nothing was written.
-    ensures handed_on { ¬ (result.end ≡ WriteFault) → HandsOnAll (K.held sink.old) (K.held sink.new) (K.handed_on sink.old) (K.handed_on sink.new) }
+    // Unless writing failed all that is held was flushed, also what was held back before; or nothing was written.
+    ensures flushed { ¬ (result.end ≡ WriteFault) → FlushesAll (K.held sink.old) (K.held sink.new) (K.flushed sink.old) (K.flushed sink.new) }
     ensures source_never_falls { S.faults src.old ≤ S.faults src.new }
     ensures sink_never_falls { K.faults sink.old ≤ K.faults sink.new }
     ensures steps_never_fall { steps.old ≤ steps.new }
@@ -89,8 +89,8 @@ pub fn session_in<
     ensures wants { result.wants ≤ most_requests }
     ensures read_fault { result.end ≡ ReadFault → Rises (S.faults src.old) (S.faults src.new) }
     ensures write_fault { result.end ≡ WriteFault → Rises (K.faults sink.old) (K.faults sink.new) }
-    // Unless writing failed all that is held was handed on, also what was held back before; or nothing was written.
-    ensures handed_on { ¬ (result.end ≡ WriteFault) → HandsOnAll (K.held sink.old) (K.held sink.new) (K.handed_on sink.old) (K.handed_on sink.new) }
+    // Unless writing failed all that is held was flushed, also what was held back before; or nothing was written.
+    ensures flushed { ¬ (result.end ≡ WriteFault) → FlushesAll (K.held sink.old) (K.held sink.new) (K.flushed sink.old) (K.flushed sink.new) }
     ensures source_never_falls { S.faults src.old ≤ S.faults src.new }
     ensures sink_never_falls { K.faults sink.old ≤ K.faults sink.new }
     ensures steps_never_fall { steps.old ≤ steps.new }

@@ -14,7 +14,7 @@ ghost use Rattle.hips_http.specs.Replies.{leave_bytes};
 ghost use Rattle.hips_http.specs.Paths.{IsPathOf};
 ghost use Rattle.hips_http.specs.Moment.{input_at, moment_of, SameEnds, ReadsWhere};
 ghost use Rattle.hips_http.specs.Progress.{ReadsCall, HasLeaf, HasFile, EndsAt, is_text, body_end, wants_after, ServesCall, ServesOne};
-ghost use Rattle.hips_http.specs.SessionRun.{HandsOnAll, room_of, most_requests};
+ghost use Rattle.hips_http.specs.SessionRun.{FlushesAll, room_of, most_requests};
 ghost use Rattle.hips_http.specs.Readings.{NeedsRest, HoldsBehind};
 
 use crate::answer::{pass_body, reply_to};
@@ -69,8 +69,8 @@ pub(crate) fn next_call<S: Source>(
 pub(crate) fn end_at<R: Clock + Log, K: Sink>(rt: &R, sink: &mut K, stop: Stop) -> SessionEnd
     ensures ends { EndsAt stop (K.held sink.old) (K.held sink.new) result }
     ensures read_fault { result ≡ ReadFault → stop ≡ Stopped.ReadFault }
-    ensures handed_on { ¬ (result ≡ WriteFault) → HandsOnAll (K.held sink.old) (K.held sink.new) (K.handed_on sink.old) (K.handed_on sink.new) }
-    ensures stays { result ≡ WriteFault → K.handed_on sink.new ≡ K.handed_on sink.old }
+    ensures flushed { ¬ (result ≡ WriteFault) → FlushesAll (K.held sink.old) (K.held sink.new) (K.flushed sink.old) (K.flushed sink.new) }
+    ensures stays { result ≡ WriteFault → K.flushed sink.new ≡ K.flushed sink.old }
     ensures memory { result ≢ OutOfMemory }
     ensures failed { result ≡ WriteFault → Rises (K.faults sink.old) (K.faults sink.new) }
     ensures never_falls { K.faults sink.old ≤ K.faults sink.new }
@@ -106,8 +106,8 @@ fn reply_code(code: u16) -> u16
 pub(crate) fn grant<K: Sink>(sink: &mut K, request: &Request) -> Result<(), Failed>
     ensures whole { OnOk result (Appends (K.held sink.old) (K.held sink.new) (leave_bytes request.now)) }
     ensures part { OnErr result (AppendsPrefix (K.held sink.old) (K.held sink.new) continue_bytes) }
-    ensures handed_on { OnOk result (HandsOnAll (K.held sink.old) (K.held sink.new) (K.handed_on sink.old) (K.handed_on sink.new)) }
-    ensures stays { OnErr result (K.handed_on sink.new ≡ K.handed_on sink.old) }
+    ensures flushed { OnOk result (FlushesAll (K.held sink.old) (K.held sink.new) (K.flushed sink.old) (K.flushed sink.new)) }
+    ensures stays { OnErr result (K.flushed sink.new ≡ K.flushed sink.old) }
     ensures waits { OnErr result (request.now.expects ≡ true) }
     ensures failed { OnErr result (Rises (K.faults sink.old) (K.faults sink.new)) }
     ensures never_falls { K.faults sink.old ≤ K.faults sink.new }

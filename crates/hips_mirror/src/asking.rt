@@ -48,7 +48,7 @@ pub(crate) fn request_file<R: Log, S: Source, K: Sink>(
     requires order { HasOrder ask.now }
     requires few { length inbox.old.held.items ≤ most_head }
     ensures sent { OnOk result (Appends (K.held sink.old) (K.held sink.new) (request_bytes ask.now)) }
-    ensures handed { OnOk result (K.handed_on sink.new ≡ K.held sink.new) }
+    ensures flushed { OnOk result (K.flushed sink.new ≡ K.held sink.new) }
     ensures read { OnOk result (Told (unread inbox.old.held.items (S.left src.old)) (unread inbox.new.held.items (S.left src.new))
         (λ bytes rest. IsReply due bytes inbox.new.body.items rest)) }
     ensures pinned { due ≡ Pinned → IfOk result (λ prefix. IsSome prefix × IfSome prefix (λ k. inbox.new.body.items ≡ pinned_line k)) }

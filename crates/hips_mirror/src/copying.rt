@@ -64,7 +64,7 @@ pub fn mirror<R: Threads + Sync + Clock + Log, S: Source, K: Sink, H: Shelf, G: 
     steps: &mut Steps,
 ) -> Result<u64, MirrorRefusal>
     ensures copied { IfOk result (Copies (S.left src.old) (K.held sink.old) (K.held sink.new) (H.files shelf.old) (H.files shelf.new) steps.old steps.new) }
-    ensures handed { OnOk result (K.handed_on sink.new ≡ K.held sink.new) }
+    ensures flushed { OnOk result (K.flushed sink.new ≡ K.held sink.new) }
     ensures refused { IfErr result (λ refusal. IfSome (S.left src.old) (λ bytes. Refuses bytes refusal)) }
     ensures untouched { IfErr result (λ refusal. refusal ≢ MirrorRefusal.ShelfFault → refusal ≢ MirrorRefusal.OutOfMemory
         → H.files shelf.new ≡ H.files shelf.old) }
@@ -118,7 +118,7 @@ fn copy<R: Threads + Sync + Clock + Log, S: Source, K: Sink, G: Gate + Sync>(
     ensures copied { IfOk result (λ made. IfSome (S.left src.old) (λ bytes. IsCopy bytes made.conf (leaf_map made.leaves))) }
     ensures fits { IfOk result (λ made. is_too_large made.conf.shape (length made.leaves) ≡ false) }
     ensures sent { IfOk result (λ made. Appends (K.held sink.old) (K.held sink.new) (mirror_requests made.conf.shape.top (keys_of made.leaves))) }
-    ensures handed { OnOk result (K.handed_on sink.new ≡ K.held sink.new) }
+    ensures flushed { OnOk result (K.flushed sink.new ≡ K.held sink.new) }
     ensures refused { IfErr result (λ refusal. IfSome (S.left src.old) (λ bytes. Refuses bytes refusal)) }
     ensures no_shelf { result ≢ Err MirrorRefusal.ShelfFault }
     ensures read_failed { IsErrOf result MirrorRefusal.ReadFault → Rises (S.faults src.old) (S.faults src.new) }
@@ -157,7 +157,7 @@ fn copy_survey<R: Threads + Sync + Clock + Log, S: Source, K: Sink, G: Gate + Sy
     ensures few { IfOk result (λ made. steps.new ≤ steps.old + (length made.leaves + tiles_above survey.conf.shape (leaf_map made.leaves))) }
     ensures steps { OnErr result ((steps.new ≡ steps.old) ⊎ (numbers : List ℕ) × FromAll (unread inbox.old.held.items (S.left src.old)) (TellsSurvey survey.pinned survey.conf survey.counted) (λ bytes. TellsNumbers bytes survey.conf.shape numbers)
         × (steps.new ≤ steps.old + (length numbers + tiles_above survey.conf.shape (bare numbers)))) }
-    ensures handed { OnOk result (K.handed_on sink.new ≡ K.held sink.new) }
+    ensures flushed { OnOk result (K.flushed sink.new ≡ K.held sink.new) }
     ensures no_shelf { result ≢ Err MirrorRefusal.ShelfFault }
     ensures read_failed { IsErrOf result MirrorRefusal.ReadFault → Rises (S.faults src.old) (S.faults src.new) }
     ensures write_failed { IsErrOf result MirrorRefusal.WriteFault → Rises (K.faults sink.old) (K.faults sink.new) }
@@ -193,7 +193,7 @@ fn copy_leaves<R: Threads + Sync + Clock + Log, S: Source, K: Sink, G: Gate + Sy
     ensures sent { OnOk result (Appends (K.held sink.old) (K.held sink.new) (sent (later_asks survey.conf.shape.top numbers.now))) }
     ensures refused { IfErr result (λ refusal. FromAll (unread inbox.old.held.items (S.left src.old)) (TellsCovered survey.pinned survey.conf survey.counted numbers.now) (λ bytes. Refuses bytes refusal)) }
     ensures few { steps.new ≤ steps.old + (length numbers.now + tiles_above survey.conf.shape (bare numbers.now)) }
-    ensures handed { OnOk result (K.handed_on sink.new ≡ K.held sink.new) }
+    ensures flushed { OnOk result (K.flushed sink.new ≡ K.held sink.new) }
     ensures no_shelf { result ≢ Err MirrorRefusal.ShelfFault }
     ensures read_failed { IsErrOf result MirrorRefusal.ReadFault → Rises (S.faults src.old) (S.faults src.new) }
     ensures write_failed { IsErrOf result MirrorRefusal.WriteFault → Rises (K.faults sink.old) (K.faults sink.new) }
@@ -227,7 +227,7 @@ fn copy_files<R: Threads + Sync + Log, S: Source, K: Sink, G: Gate + Sync>(
     ensures sent { OnOk result (Appends (K.held sink.old) (K.held sink.new) (sent (mosaic_asks (keys_of leaves)) ++ request_bytes Unpin)) }
     ensures refused { IfErr result (λ refusal. FromAll (unread inbox.old.held.items (S.left src.old)) (TellsTiles survey.pinned survey.conf survey.counted (leaf_map leaves)) (λ bytes. Refuses bytes refusal)) }
     ensures few { steps.new ≤ steps.old + tiles_above survey.conf.shape (leaf_map leaves) }
-    ensures handed { OnOk result (K.handed_on sink.new ≡ K.held sink.new) }
+    ensures flushed { OnOk result (K.flushed sink.new ≡ K.held sink.new) }
     ensures no_shelf { result ≢ Err MirrorRefusal.ShelfFault }
     ensures read_failed { IsErrOf result MirrorRefusal.ReadFault → Rises (S.faults src.old) (S.faults src.new) }
     ensures write_failed { IsErrOf result MirrorRefusal.WriteFault → Rises (K.faults sink.old) (K.faults sink.new) }
@@ -255,7 +255,7 @@ fn unpin<R: Log, S: Source, K: Sink>(
     requires size { count ≤ 65000 }
     ensures same { IfOk result (λ made. made ≡ generation) }
     ensures sent { OnOk result (Appends (K.held sink.old) (K.held sink.new) (request_bytes Unpin)) }
-    ensures handed { OnOk result (K.handed_on sink.new ≡ K.held sink.new) }
+    ensures flushed { OnOk result (K.flushed sink.new ≡ K.held sink.new) }
     ensures read { OnOk result (Told (unread inbox.old.held.items (S.left src.old)) (unread inbox.new.held.items (S.left src.new))
         (λ bytes rest. IsReply Any bytes inbox.new.body.items rest)) }
     ensures refused { IfErr result (λ refusal. IfSome (unread inbox.old.held.items (S.left src.old)) (λ bytes.

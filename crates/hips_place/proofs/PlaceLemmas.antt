@@ -56,7 +56,7 @@ once_served old new unread taken back steps steps' served is goes all own own_is
         read = s.read;
         left = s.rest;
         written = s.out;
-        handed_on = s.passed;
+        flushed = s.passed;
         source_faults = taken.source_faults;
         source_faults_then = back.source_faults;
         sink_faults = taken.sink_faults;

@@ -12,14 +12,14 @@ use Rattle.shared_history.specs.Histories.{places_of}
 use Rattle.reader_pin.specs.Board.{BoardSeat, BoardContent, KeepsSeat}
 use Rattle.hips_http.specs.declared.served.SessionEnd.{SessionEnd}
 use Rattle.hips_http.specs.declared.served.SessionEnd.TheVariants.{OutOfMemory as WantOfMemory}
-use Rattle.hips_http.specs.SessionRun.{HandsOn, SessionRun, most_requests}
+use Rattle.hips_http.specs.SessionRun.{Flushes, SessionRun, most_requests}
 use Rattle.hips_place.specs.declared.place.PlaceEnd.{PlaceEnd}
 use Rattle.hips_place.specs.declared.place.PlaceEnd.TheVariants.{Done, Failed, OutOfMemory}
 
 -- ---- a connection
 
 -- it is a session with these events of its own, from the states seen before it to those seen then: some first bytes of its input were read and the rest
--- is left, what its sink holds grew by what was written, and what it has handed on by what was handed on of that
+-- is left, what its sink holds grew by what was written, and what it has flushed by what was flushed of that
 pub record IsSession (conf : Description) (opening : LeafTiles) (states : List SurveyState) (taken back : Connection) (states' : List SurveyState) (end : SessionEnd) (own input : List ℕ) : Type 0 where
   pub read : List ℕ
   pub rest : List ℕ
@@ -29,13 +29,13 @@ pub record IsSession (conf : Description) (opening : LeafTiles) (states : List S
   pub left_is : back.unread ≡ Some rest
   pub appended : Appends taken.written back.written out
   pub passed : List ℕ
-  pub passed_is : HandsOn taken.written taken.handed_on back.handed_on passed
+  pub passed_is : Flushes taken.written taken.flushed back.flushed passed
   pub run : SessionRun conf opening states
       (record {
         read = read;
         left = rest;
         written = out;
-        handed_on = passed;
+        flushed = passed;
         source_faults = taken.source_faults;
         source_faults_then = back.source_faults;
         sink_faults = taken.sink_faults;

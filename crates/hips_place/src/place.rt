@@ -229,7 +229,7 @@ fn serve_connection<
     ensures gives_back { GivesBack (D.connections door.old) (D.connections door.new) (B.content board.old) (B.content board.new) (record {
       unread = D.In.left connection.0;
       written = D.Out.held connection.1;
-      handed_on = D.Out.handed_on connection.1;
+      flushed = D.Out.flushed connection.1;
       source_faults = D.In.faults connection.0;
       sink_faults = D.Out.faults connection.1;
     }) result }

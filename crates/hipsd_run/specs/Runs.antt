@@ -20,7 +20,7 @@ use Rattle.survey_commands.specs.Survey.{RunsExport, RunsVerify}
 use Rattle.survey_commands.specs.Session.{RunsSession}
 use Rattle.survey_commands.specs.Make.{RunsMake}
 use Rattle.survey_commands.specs.Serve.{RunsServe}
-use Rattle.survey_commands.specs.Past.{RunsPast, RunsPastOver, HandsOnPast}
+use Rattle.survey_commands.specs.Past.{RunsPast, RunsPastOver, FlushesPast}
 use Rattle.survey_commands.specs.Mirror.{RunsMirror, copying_of}
 use Rattle.catalog_command.specs.Run.{RunsCatalog}
 use Rattle.hipsd_run.specs.Command.{reads_source, opens_shelf, writes_files, opens_doors}
@@ -53,7 +53,7 @@ pub record Ends (S K H D : Type 0) : Type 0 where
 abbrev pub ends_of : {S K H D : Type 0} → S → K → H → Vec D Global → ℕ → Ends S K H D
 ends_of source sink shelf doors steps = record { source = source; sink = sink; shelf = shelf; doors = doors; steps = steps }
 
--- what is left to read, what is held and what of it was handed on, and the files
+-- what is left to read, what is held and what of it was flushed, and the files
 abbrev pub left_in : {S K H D : Type 0} → Telling S K H D → Ends S K H D → Option (List ℕ)
 left_in tells at = tells.source.left at.source
 
@@ -61,7 +61,7 @@ abbrev pub held_in : {S K H D : Type 0} → Telling S K H D → Ends S K H D →
 held_in tells at = tells.sink.held at.sink
 
 abbrev pub handed_in : {S K H D : Type 0} → Telling S K H D → Ends S K H D → Option (List ℕ)
-handed_in tells at = tells.sink.handed_on at.sink
+handed_in tells at = tells.sink.flushed at.sink
 
 abbrev pub files_in : {S K H D : Type 0} → Telling S K H D → Ends S K H D → Option ShelfFiles
 files_in tells at = tells.shelf.files at.shelf
@@ -79,7 +79,7 @@ pub record DoesProbe {S K H D : Type 0} (asked : Probe) (tells : Telling S K H D
   pub counted : (input : List ℕ) → left_in tells old ≡ Some input → status ≡ 0 → new.steps ≡ steps_after (probe_steps asked input) old.steps
   pub range : cell_count asked.order ≤ asked.npix → (status ≡ 13) × (new.source ≡ old.source)
   pub untouched : status ≢ 0 → status ≢ 6 → held_in tells new ≡ held_in tells old
-  pub handed_on : status ≡ 0 → handed_in tells new ≡ held_in tells new
+  pub flushed : status ≡ 0 → handed_in tells new ≡ held_in tells new
   pub kept : status ≢ 0 → status ≢ 6 → handed_in tells new ≡ handed_in tells old
   pub reads : ReadsToTheEnd (left_in tells old) (left_in tells new) (tells.source.readings old.source) (tells.source.readings new.source)
   pub end : status ≡ 0 → IsAtEnd (left_in tells new)
@@ -98,7 +98,7 @@ pub record DoesPast {S K H D : Type 0} (tells : Telling S K H D) (old new : Ends
   pub run : (input : List ℕ) → left_in tells old ≡ Some input
       → RunsPast (files_in tells old) input (connection_in tells old) (connection_in tells new) old.steps new.steps status
   pub over : RunsPastOver (files_in tells old) (connection_in tells old) (connection_in tells new) old.steps new.steps status
-  pub handed_on : HandsOnPast status (connection_in tells old) (connection_in tells new)
+  pub flushed : FlushesPast status (connection_in tells old) (connection_in tells new)
   pub unread : (status ≡ 2) ⊎ (status ≡ 3) → new.source ≡ old.source
 
 pub record DoesCatalog {S K H D : Type 0} (top per_tile : ℕ) (tells : Telling S K H D) (old new : Ends S K H D) (status : ℕ) : Type 0 where

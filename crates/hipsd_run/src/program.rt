@@ -18,7 +18,7 @@ ghost use Rattle.survey_commands.specs.Session.{RunsSession};
 ghost use Rattle.survey_commands.specs.Make.{RunsMake};
 ghost use Rattle.hips_place.specs.Place.{SomeRises};
 ghost use Rattle.survey_commands.specs.Serve.{RunsServe};
-ghost use Rattle.survey_commands.specs.Past.{RunsPast, RunsPastOver, HandsOnPast};
+ghost use Rattle.survey_commands.specs.Past.{RunsPast, RunsPastOver, FlushesPast};
 ghost use Rattle.survey_commands.specs.Mirror.{RunsMirror, copying_of};
 ghost use Rattle.catalog_command.specs.Run.{RunsCatalog};
 
@@ -108,19 +108,19 @@ where
     // Each reading, what is handed on, and each step.
     ensures probe_reads { (asked : AskedProbe) → Asks (texts words.now) (ProbeCommand asked)
         → ReadsToTheEnd (S.left source.old) (S.left source.new) (S.readings source.old) (S.readings source.new) }
-    ensures probe_handed_on { (asked : AskedProbe) → Asks (texts words.now) (ProbeCommand asked)
-        → result ≡ 0 → K.handed_on sink.new ≡ K.held sink.new }
+    ensures probe_flushed { (asked : AskedProbe) → Asks (texts words.now) (ProbeCommand asked)
+        → result ≡ 0 → K.flushed sink.new ≡ K.held sink.new }
     ensures probe_kept { (asked : AskedProbe) → Asks (texts words.now) (ProbeCommand asked)
-        → result ≢ 0 → result ≢ 6 → K.handed_on sink.new ≡ K.handed_on sink.old }
-    ensures usage_handed_on { result ≡ 1 → K.handed_on sink.new ≡ K.held sink.new }
+        → result ≢ 0 → result ≢ 6 → K.flushed sink.new ≡ K.flushed sink.old }
+    ensures usage_flushed { result ≡ 1 → K.flushed sink.new ≡ K.held sink.new }
     ensures probe_counted { (asked : AskedProbe) (input : List ℕ) → Asks (texts words.now) (ProbeCommand asked)
         → S.left source.old ≡ Some input → result ≡ 0 → steps.new ≡ steps_after (probe_steps asked input) steps.old }
 
     // The survey on the shelf.
     ensures export { Asks (texts words.now) Export → RunsExport (H.files shelf.old) (H.files shelf.new) result
-        (K.held sink.old) (K.held sink.new) (K.handed_on sink.old) (K.handed_on sink.new) }
+        (K.held sink.old) (K.held sink.new) (K.flushed sink.old) (K.flushed sink.new) }
     ensures verify { Asks (texts words.now) Verify → RunsVerify (H.files shelf.old) result
-        (K.held sink.old) (K.held sink.new) (K.handed_on sink.old) (K.handed_on sink.new) }
+        (K.held sink.old) (K.held sink.new) (K.flushed sink.old) (K.flushed sink.new) }
 
     // A connection over the source and the sink, where the source tells its input.
     ensures session { (input : List ℕ) → Asks (texts words.now) Session → S.left source.old ≡ Some input
@@ -139,14 +139,14 @@ where
     ensures past_over { (cache : ℕ) → Asks (texts words.now) (Past cache) → RunsPastOver (H.files shelf.old)
         (connection_of S.Source K.Sink source.old sink.old) (connection_of S.Source K.Sink source.new sink.new)
         steps.old steps.new result }
-    ensures past_handed_on { (cache : ℕ) → Asks (texts words.now) (Past cache) → HandsOnPast result
+    ensures past_flushed { (cache : ℕ) → Asks (texts words.now) (Past cache) → FlushesPast result
         (connection_of S.Source K.Sink source.old sink.old) (connection_of S.Source K.Sink source.new sink.new) }
     ensures past_unread { (cache : ℕ) → Asks (texts words.now) (Past cache) → (result ≡ 2) ⊎ (result ≡ 3) → source.new ≡ source.old }
 
     // A catalogue, where the source tells its input.
     ensures catalog { (top : ℕ) (per_tile : ℕ) (input : List ℕ) → Asks (texts words.now) (Catalog top per_tile) → S.left source.old ≡ Some input
         → RunsCatalog top per_tile input (H.files shelf.old) (H.files shelf.new) result
-        (K.held sink.old) (K.held sink.new) (K.handed_on sink.old) (K.handed_on sink.new) }
+        (K.held sink.old) (K.held sink.new) (K.flushed sink.old) (K.flushed sink.new) }
     ensures catalog_end { (top : ℕ) (per_tile : ℕ) → Asks (texts words.now) (Catalog top per_tile)
         → result ≡ 0 → IsAtEnd (S.left source.new) }
 
@@ -157,12 +157,12 @@ where
 
     // A made survey.
     ensures make { (number : ℕ) (edits : ℕ) → Asks (texts words.now) (Make number edits) → RunsMake number edits result
-        (K.held sink.old) (K.held sink.new) (K.handed_on sink.old) (K.handed_on sink.new) }
+        (K.held sink.old) (K.held sink.new) (K.flushed sink.old) (K.flushed sink.new) }
 
     // The connections of doors, at once.
     ensures serve { (connections : ℕ) (places : ℕ) → Asks (texts words.now) (Serve connections places) → places ≤ length doors.old.items
         → RunsServe (H.files shelf.old) connections (map D.connections (take places doors.old.items)) (map D.connections (take places doors.new.items))
-        result (K.held sink.old) (K.held sink.new) (K.handed_on sink.old) (K.handed_on sink.new) }
+        result (K.held sink.old) (K.held sink.new) (K.flushed sink.old) (K.flushed sink.new) }
     ensures serve_beyond { (connections : ℕ) (places : ℕ) → Asks (texts words.now) (Serve connections places)
         → drop places doors.new.items ≡ drop places doors.old.items }
     ensures serve_closed { (result ≡ 2) ⊎ ((result ≡ 3) ⊎ (result ≡ 7)) → doors.new.items ≡ doors.old.items }
@@ -239,7 +239,7 @@ fn usage<K: Sink>(sink: &mut K) -> u8
     ensures status { (result ≡ 1) ⊎ (result ≡ 6) }
     ensures written { result ≡ 1 → Appends (K.held sink.old) (K.held sink.new) usage_text }
     ensures part { AppendsPrefix (K.held sink.old) (K.held sink.new) usage_text }
-    ensures handed_on { result ≡ 1 → K.handed_on sink.new ≡ K.held sink.new }
+    ensures flushed { result ≡ 1 → K.flushed sink.new ≡ K.held sink.new }
     ensures fault { result ≡ 6 → Rises (K.faults sink.old) (K.faults sink.new) }
 {
     match write_out(sink, b"usage: hipsd COMMAND\n") {
@@ -264,8 +264,8 @@ fn run_probe<S: Source, K: Sink>(
         → AppendsPrefix (K.held sink.old) (K.held sink.new) (probe_answer asked.now input).output }
     ensures range { cell_count asked.now.order ≤ asked.now.npix → (result ≡ 13) × (source.new ≡ source.old) }
     ensures untouched { result ≢ 0 → result ≢ 6 → K.held sink.new ≡ K.held sink.old }
-    ensures handed_on { result ≡ 0 → K.handed_on sink.new ≡ K.held sink.new }
-    ensures kept { result ≢ 0 → result ≢ 6 → K.handed_on sink.new ≡ K.handed_on sink.old }
+    ensures flushed { result ≡ 0 → K.flushed sink.new ≡ K.held sink.new }
+    ensures kept { result ≢ 0 → result ≢ 6 → K.flushed sink.new ≡ K.flushed sink.old }
     ensures reads { ReadsToTheEnd (S.left source.old) (S.left source.new) (S.readings source.old) (S.readings source.new) }
     ensures counted { (input : List ℕ) → S.left source.old ≡ Some input → result ≡ 0
         → steps.new ≡ steps_after (probe_steps asked.now input) steps.old }

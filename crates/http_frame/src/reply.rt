@@ -70,13 +70,13 @@ const ROOM: usize = 1024;
 ///
 /// # Errors
 ///
-/// `Failed` only where the sink's count of faults rose; some first bytes may have been written, and none was handed on.
+/// `Failed` only where the sink's count of faults rose; some first bytes may have been written, and none was flushed.
 pub fn write_reply<K: Sink>(sink: &mut K, reply: &Reply, body: &[u8]) -> Result<(), Failed>
     requires code { is_reply_code reply.now.code ≡ true }
     requires body { FitsReply reply.now body.now }
     ensures whole { OnOk result (Appends (K.held sink.old) (K.held sink.new) (reply_bytes reply.now body.now)) }
-    ensures handed { OnOk result (K.handed_on sink.new ≡ K.held sink.new) }
-    ensures stays { OnErr result (K.handed_on sink.new ≡ K.handed_on sink.old) }
+    ensures flushed { OnOk result (K.flushed sink.new ≡ K.held sink.new) }
+    ensures stays { OnErr result (K.flushed sink.new ≡ K.flushed sink.old) }
     ensures part { OnErr result (AppendsPrefix (K.held sink.old) (K.held sink.new) (reply_bytes reply.now body.now)) }
     ensures failed { OnErr result (Rises (K.faults sink.old) (K.faults sink.new)) }
     ensures never_falls { K.faults sink.old ≤ K.faults sink.new }
@@ -96,7 +96,7 @@ pub fn write_reply<K: Sink>(sink: &mut K, reply: &Reply, body: &[u8]) -> Result<
 ///
 /// # Errors
 ///
-/// `Failed` only where the sink's count of faults rose; some first bytes may have been written, and none was handed on.
+/// `Failed` only where the sink's count of faults rose; some first bytes may have been written, and none was flushed.
 pub fn write_reply_parts<K: Sink>(
     sink: &mut K,
     reply: &Reply,
@@ -105,8 +105,8 @@ pub fn write_reply_parts<K: Sink>(
     requires code { is_reply_code reply.now.code ≡ true }
     requires body { FitsReply reply.now (parts_bytes body) }
     ensures whole { OnOk result (Appends (K.held sink.old) (K.held sink.new) (reply_bytes reply.now (parts_bytes body.entry))) }
-    ensures handed { OnOk result (K.handed_on sink.new ≡ K.held sink.new) }
-    ensures stays { OnErr result (K.handed_on sink.new ≡ K.handed_on sink.old) }
+    ensures flushed { OnOk result (K.flushed sink.new ≡ K.held sink.new) }
+    ensures stays { OnErr result (K.flushed sink.new ≡ K.flushed sink.old) }
     ensures part { OnErr result (AppendsPrefix (K.held sink.old) (K.held sink.new) (reply_bytes reply.now (parts_bytes body.entry))) }
     ensures failed { OnErr result (Rises (K.faults sink.old) (K.faults sink.new)) }
     ensures never_falls { K.faults sink.old ≤ K.faults sink.new }
@@ -122,11 +122,11 @@ pub fn write_reply_parts<K: Sink>(
 ///
 /// # Errors
 ///
-/// `Failed` only where the sink's count of faults rose; some first bytes may have been written, and none was handed on.
+/// `Failed` only where the sink's count of faults rose; some first bytes may have been written, and none was flushed.
 pub fn write_continue<K: Sink>(sink: &mut K) -> Result<(), Failed>
     ensures whole { OnOk result (Appends (K.held sink.old) (K.held sink.new) continue_bytes) }
-    ensures handed { OnOk result (K.handed_on sink.new ≡ K.held sink.new) }
-    ensures stays { OnErr result (K.handed_on sink.new ≡ K.handed_on sink.old) }
+    ensures flushed { OnOk result (K.flushed sink.new ≡ K.held sink.new) }
+    ensures stays { OnErr result (K.flushed sink.new ≡ K.flushed sink.old) }
     ensures part { OnErr result (AppendsPrefix (K.held sink.old) (K.held sink.new) continue_bytes) }
     ensures failed { OnErr result (Rises (K.faults sink.old) (K.faults sink.new)) }
     ensures never_falls { K.faults sink.old ≤ K.faults sink.new }

@@ -780,7 +780,7 @@ static WAYS: [(&str, usize); 4] = [
     ("continue", 25),
 ];
 
-// All goes out by the first call, and is handed on by the second.
+// All goes out by the first call, and is flushed by the second.
 #[test]
 fn writes_by_one_call_and_flushes(rt: HostRuntime) -> Result<(), Fail> {
     let alloc = rt.alloc();

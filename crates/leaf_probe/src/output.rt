@@ -1,11 +1,11 @@
-//! Bytes that are written and handed on.
+//! Bytes that are written and flushed.
 ghost use Rattle.std.specs.Prelude.{◌≡◌, ◌≤◌, OnOk, OnErr};
 ghost use Rattle.std.specs.Io.KnownBytes.{Appends};
 ghost use Rattle.survey_link.specs.Link.{Rises, AppendsPrefix};
 
 use survey_link::{Failed, Sink, write_whole};
 
-/// Writes all the bytes, and hands them on.
+/// Writes all the bytes, and flushes them.
 ///
 /// # Errors
 ///
@@ -13,7 +13,7 @@ use survey_link::{Failed, Sink, write_whole};
 pub fn write_out<K: Sink>(sink: &mut K, bytes: &[u8]) -> Result<(), Failed>
     ensures whole { OnOk result (Appends (K.held sink.old) (K.held sink.new) bytes.now) }
     ensures part { OnErr result (AppendsPrefix (K.held sink.old) (K.held sink.new) bytes.now) }
-    ensures handed_on { OnOk result (K.handed_on sink.new ≡ K.held sink.new) }
+    ensures flushed { OnOk result (K.flushed sink.new ≡ K.held sink.new) }
     ensures failed { OnErr result (Rises (K.faults sink.old) (K.faults sink.new)) }
     ensures never_falls { K.faults sink.old ≤ K.faults sink.new }
 {

@@ -31,7 +31,7 @@ use tile_pixels::Tile;
 ///
 /// `OutOfRange` where the asked tile is no cell of its order, before anything is read; then as `read_leaves`; then `NoLeaf`
 /// where no leaf lies at or under the tile. `Read` and `Write` only where the source's, the sink's count of faults rose.
-/// Nothing is written with any error but `Write`. What was written is handed on.
+/// Nothing is written with any error but `Write`. What was written is flushed.
 pub fn probe<S: Source, K: Sink>(
     alloc: Global,
     asked: &Probe,
@@ -48,8 +48,8 @@ pub fn probe<S: Source, K: Sink>(
     ensures part { (input : List ℕ) → S.left source.old ≡ Some input → IsErrOf result ProbeFault.Write
         → AppendsPrefix (K.held sink.old) (K.held sink.new) (probe_answer asked.now input).output }
     ensures untouched { IfErr result (λ fault. fault ≢ Write → K.held sink.new ≡ K.held sink.old) }
-    ensures handed_on { OnOk result (K.handed_on sink.new ≡ K.held sink.new) }
-    ensures kept { IfErr result (λ fault. fault ≢ Write → K.handed_on sink.new ≡ K.handed_on sink.old) }
+    ensures flushed { OnOk result (K.flushed sink.new ≡ K.held sink.new) }
+    ensures kept { IfErr result (λ fault. fault ≢ Write → K.flushed sink.new ≡ K.flushed sink.old) }
     ensures counted { (input : List ℕ) → S.left source.old ≡ Some input
         → OnOk result (steps.new ≡ steps_after (probe_steps asked.now input) steps.old) }
     ensures reads { ReadsToTheEnd (S.left source.old) (S.left source.new) (S.readings source.old) (S.readings source.new) }

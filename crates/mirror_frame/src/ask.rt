@@ -23,7 +23,7 @@ pub enum Ask {
     Unpin,
 }
 
-/// Sends a request, and hands it on.
+/// Sends a request, and flushes it.
 ///
 /// # Errors
 ///
@@ -31,7 +31,7 @@ pub enum Ask {
 pub fn send<K: Sink>(sink: &mut K, ask: &Ask) -> Result<(), Failed>
     requires { HasOrder ask.now }
     ensures sent { OnOk result (Appends (K.held sink.old) (K.held sink.new) (request_bytes ask.now)) }
-    ensures handed { OnOk result (K.handed_on sink.new ≡ K.held sink.new) }
+    ensures flushed { OnOk result (K.flushed sink.new ≡ K.held sink.new) }
     ensures failed { OnErr result (Rises (K.faults sink.old) (K.faults sink.new)) }
     ensures never_falls { K.faults sink.old ≤ K.faults sink.new }
 {

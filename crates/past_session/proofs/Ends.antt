@@ -13,7 +13,7 @@ use Rattle.past_frame.specs.declared.record.Stop.TheVariants as stop
 use Rattle.past_session.specs.Answers.{PastState, first_state, record_text, state_after, state_behind, output_of, past_records, past_out}
 use Rattle.past_session.specs.Costs.{record_cost, cost_from, cost_of}
 use Rattle.past_session.specs.Records.{PastInput, room_of, most_records, ends_by, behind_all, records_of}
-use Rattle.past_session.specs.Run.{SinkBytes, HandsOn, Answered, RunsWhole, ReadsPart, BreaksOff, StopsEarly, PastRun}
+use Rattle.past_session.specs.Run.{SinkBytes, Flushes, Answered, RunsWhole, ReadsPart, BreaksOff, StopsEarly, PastRun}
 use Rattle.past_session.specs.Session.{SessionContent}
 use Rattle.past_session.specs.Steps.{ReadsNone, AnswersPart, FailsToSend, EndsAt, EndsBehindAll}
 use Rattle.past_session.specs.declared.ending.Halt.{Halt}
@@ -68,7 +68,7 @@ whole d opening input sink sink' sink'' steps steps' steps'' done end is answere
     record {
       written = rw (same, output_is d opening input, records) answered.written;
       end_is = sym (end_is d opening input ∙ ap (λ (i : PastInput). i.end) is);
-      handed_on = rw (same, records) answered.handed_on;
+      flushed = rw (same, records) answered.flushed;
       cost = rw (records, counted) cost;
     }
 
@@ -175,7 +175,7 @@ module _ (stand : RecordsStand) (d : Description) (opening : LeafTiles) (left le
       whole = sink';
       answered = going.answered;
       part = subst (AppendsPrefix sink'.held sink''.held) (text halt.WriteFault answers) answers.fails.0;
-      handed_on = answers.fails.1;
+      flushed = answers.fails.1;
       cost = reached halt.WriteFault answers;
     }
 

@@ -10,7 +10,7 @@ use Rattle.past_frame.specs.Reading.{ReadsRecord}
 use Rattle.past_session.specs.Answers.{PastState, first_state, record_text, state_after, answers, state_behind, output_of}
 use Rattle.past_session.specs.Costs.{record_cost, cost_from, cost_of}
 use Rattle.past_session.specs.Records.{room_of}
-use Rattle.past_session.specs.Run.{SinkBytes, HandsOn, Answered}
+use Rattle.past_session.specs.Run.{SinkBytes, Flushes, Answered}
 use Rattle.past_session.specs.Session.{SessionContent}
 use Rattle.past_session.specs.Steps.{AnswersNext, Sends}
 use Rattle.past_session.proofs.Inputs.{IsBehind, behind_more, behind_next}
@@ -68,14 +68,14 @@ module _ (d : Description) (opening : LeafTiles) where
   unfolding cost_from
   no_cost = refl
 
-pub hands_on_next : (records : List PastRecord) (next : PastRecord) (sink sink' : SinkBytes) → sink'.handed_on ≡ sink'.held → HandsOn (records ++ next ∷ []) sink sink'
-hands_on_next [] next sink sink' on = on
-hands_on_next (first ∷ later) next sink sink' on = on
+pub flushes_next : (records : List PastRecord) (next : PastRecord) (sink sink' : SinkBytes) → sink'.flushed ≡ sink'.held → Flushes (records ++ next ∷ []) sink sink'
+flushes_next [] next sink sink' on = on
+flushes_next (first ∷ later) next sink sink' on = on
 
 pub answered_none : (d : Description) (opening : LeafTiles) (sink sink' : SinkBytes) → sink' ≡ sink → Answered d opening [] sink sink'
 answered_none d opening sink sink' same = record {
   written = rw (no_output d opening, same) (appends_none sink.held);
-  handed_on = same;
+  flushed = same;
 }
 
 -- ---- the session
@@ -144,7 +144,7 @@ module _ (stand : RecordsStand) (d : Description) (opening : LeafTiles) (left le
         answered = record {
           written = subst (Appends sink.held sink''.held) (sym (answers_next d opening first_state going.done r))
               (appends_both sink.held sink'.held sink''.held (output_of d opening going.done) (record_text d opening state r) going.answered.written written);
-          handed_on = hands_on_next going.done r sink sink'' next.sends.handed_on;
+          flushed = flushes_next going.done r sink sink'' next.sends.flushed;
         };
         cost = omega (arith, going.cost, next.cost, costs, cost_next d opening first_state going.done r);
       }

@@ -11,7 +11,7 @@ use Rattle.past_frame.specs.declared.record.Stop.{Stop}
 use Rattle.past_frame.specs.declared.record.Stop.TheVariants as stop
 use Rattle.past_session.specs.Answers.{past_records}
 use Rattle.past_session.specs.Records.{room_of, most_records}
-use Rattle.past_session.specs.Run.{SinkBytes, HandsOn, HandsOnAll, PastRun, RunsOver}
+use Rattle.past_session.specs.Run.{SinkBytes, Flushes, FlushesAll, PastRun, RunsOver}
 use Rattle.past_session.specs.Session.{SessionContent}
 use Rattle.past_session.specs.Steps.{ReadsNone, AnswersPart, EndsAt, EndsBehindAll}
 use Rattle.past_session.specs.declared.ending.Halt.{Halt}
@@ -119,22 +119,22 @@ module _ (stand : RecordsStand) (d : Description) (opening : LeafTiles) (left le
         run = ends_behind stand d opening (Some (going.came ++ last.0)) (Some last.0) (Some []) held count session sink sink' sink'' steps steps' steps'' (as_told last.0) (going.came ++ last.0) refl taken end last.2 same counted;
       }
 
--- ---- what was handed on
+-- ---- what was flushed
 
-hands_all : (records : List PastRecord) (sink sink' : SinkBytes) → HandsOn records sink sink' → HandsOnAll sink sink'
+hands_all : (records : List PastRecord) (sink sink' : SinkBytes) → Flushes records sink sink' → FlushesAll sink sink'
 hands_all [] sink sink' same = inr same
 hands_all (first ∷ later) sink sink' on = inl on
 
 by_run : (d : Description) (opening : LeafTiles) (input : List ℕ) (left' : Option (List ℕ)) (sink sink' : SinkBytes) (steps steps' : ℕ) (end : PastEnd)
-    → PastRun d opening input left' sink sink' steps steps' end → (end ≡ WriteFault → ⊥) → HandsOnAll sink sink'
-by_run d opening input left' sink sink' steps steps' Done run other = hands_all (past_records d input) sink sink' run.handed_on
-by_run d opening input left' sink sink' steps steps' Cut run other = hands_all (past_records d input) sink sink' run.handed_on
-by_run d opening input left' sink sink' steps steps' (BadLine at) run other = hands_all (past_records d input) sink sink' run.handed_on
-by_run d opening input left' sink sink' steps steps' Spent run other = hands_all (past_records d input) sink sink' run.handed_on
-by_run d opening input left' sink sink' steps steps' ReadFault run other = hands_all (past_records d run.came) sink sink' run.answered.handed_on
-by_run d opening input left' sink sink' steps steps' OutOfMemory run other = hands_all run.before sink sink' run.answered.handed_on
+    → PastRun d opening input left' sink sink' steps steps' end → (end ≡ WriteFault → ⊥) → FlushesAll sink sink'
+by_run d opening input left' sink sink' steps steps' Done run other = hands_all (past_records d input) sink sink' run.flushed
+by_run d opening input left' sink sink' steps steps' Cut run other = hands_all (past_records d input) sink sink' run.flushed
+by_run d opening input left' sink sink' steps steps' (BadLine at) run other = hands_all (past_records d input) sink sink' run.flushed
+by_run d opening input left' sink sink' steps steps' Spent run other = hands_all (past_records d input) sink sink' run.flushed
+by_run d opening input left' sink sink' steps steps' ReadFault run other = hands_all (past_records d run.came) sink sink' run.answered.flushed
+by_run d opening input left' sink sink' steps steps' OutOfMemory run other = hands_all run.before sink sink' run.answered.flushed
 by_run d opening input left' sink sink' steps steps' WriteFault run other = absurd (other refl)
 
 pub over_hands : (d : Description) (opening : LeafTiles) (left left' : Option (List ℕ)) (sink sink' : SinkBytes) (steps steps' : ℕ) (end : PastEnd)
-    → RunsOver d opening left left' sink sink' steps steps' end → (end ≡ WriteFault → ⊥) → HandsOnAll sink sink'
+    → RunsOver d opening left left' sink sink' steps steps' end → (end ≡ WriteFault → ⊥) → FlushesAll sink sink'
 over_hands d opening left left' sink sink' steps steps' end over other = by_run d opening over.came (Some []) sink sink' steps steps' end over.run other

@@ -10,30 +10,30 @@ use Rattle.past_session.specs.Costs.{cost_of}
 use Rattle.past_session.specs.declared.ending.PastEnd.{PastEnd}
 use Rattle.past_session.specs.declared.ending.PastEnd.TheVariants.{Done, Cut, BadLine, Spent, ReadFault, WriteFault, OutOfMemory}
 
--- the bytes that a sink holds, and those of them that it has handed on, where it tells them
+-- the bytes that a sink holds, and those of them that it has flushed, where it tells them
 pub record SinkBytes : Type 0 where
   pub held : Option (List ℕ)
-  pub handed_on : Option (List ℕ)
+  pub flushed : Option (List ℕ)
 
--- all was handed on with the answer to a record; without one nothing was touched
-abbrev pub HandsOn : List PastRecord → SinkBytes → SinkBytes → Type 0
-HandsOn [] sink sink' = sink' ≡ sink
-HandsOn (_ ∷ _) sink sink' = sink'.handed_on ≡ sink'.held
+-- all was flushed with the answer to a record; without one nothing was touched
+abbrev pub Flushes : List PastRecord → SinkBytes → SinkBytes → Type 0
+Flushes [] sink sink' = sink' ≡ sink
+Flushes (_ ∷ _) sink sink' = sink'.flushed ≡ sink'.held
 
--- all that the sink holds was handed on, or nothing was touched
-abbrev pub HandsOnAll : SinkBytes → SinkBytes → Type 0
-HandsOnAll sink sink' = (sink'.handed_on ≡ sink'.held) ⊎ (sink' ≡ sink)
+-- all that the sink holds was flushed, or nothing was touched
+abbrev pub FlushesAll : SinkBytes → SinkBytes → Type 0
+FlushesAll sink sink' = (sink'.flushed ≡ sink'.held) ⊎ (sink' ≡ sink)
 
--- the sink has gained the answers to these records, and handed them on
+-- the sink has gained the answers to these records, and flushed them
 pub record Answered (d : Description) (opening : LeafTiles) (records : List PastRecord) (sink sink' : SinkBytes) : Type 0 where
   pub written : Appends sink.held sink'.held (output_of d opening records)
-  pub handed_on : HandsOn records sink sink'
+  pub flushed : Flushes records sink sink'
 
 -- nothing failed: the output and the end are those of the input
 pub record RunsWhole (d : Description) (opening : LeafTiles) (input : List ℕ) (sink sink' : SinkBytes) (steps steps' : ℕ) (end : PastEnd) : Type 0 where
   pub written : Appends sink.held sink'.held (past_out d opening input).output
   pub end_is : end ≡ (past_out d opening input).end
-  pub handed_on : HandsOn (past_records d input) sink sink'
+  pub flushed : Flushes (past_records d input) sink sink'
   pub cost : steps' ≤ steps + cost_of d opening (past_records d input)
 
 -- reading failed: the records before the first that isn't whole in the bytes that were read were answered
@@ -52,7 +52,7 @@ pub record BreaksOff (d : Description) (opening : LeafTiles) (input : List ℕ) 
   pub whole : SinkBytes
   pub answered : Answered d opening before sink whole
   pub part : AppendsPrefix whole.held sink'.held (record_text d opening (state_behind d opening first_state before) next)
-  pub handed_on : sink'.handed_on ≡ whole.handed_on
+  pub flushed : sink'.flushed ≡ whole.flushed
   pub cost : steps' ≤ steps + cost_of d opening (before ++ next ∷ [])
 
 -- memory was wanting: some first records were answered, and nothing of the next one was written

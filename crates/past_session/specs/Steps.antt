@@ -29,14 +29,14 @@ answer_cost session asked = record_cost session.conf session.state asked
 abbrev pub session_after : SessionContent → PastRecord → SessionContent
 session_after session asked = record { conf = session.conf; opening = session.opening; state = state_after session.conf session.opening session.state asked }
 
--- the whole text was written and handed on
+-- the whole text was written and flushed
 pub record Sends (text : List ℕ) (sink sink' : SinkBytes) : Type 0 where
   pub written : Appends sink.held sink'.held text
-  pub handed_on : sink'.handed_on ≡ sink'.held
+  pub flushed : sink'.flushed ≡ sink'.held
 
 -- writing failed after some first bytes of the text; or memory was wanting before any
 abbrev pub FailsToSend : List ℕ → SinkBytes → SinkBytes → Halt → Type 0
-FailsToSend text sink sink' halt.WriteFault = AppendsPrefix sink.held sink'.held text × (sink'.handed_on ≡ sink.handed_on)
+FailsToSend text sink sink' halt.WriteFault = AppendsPrefix sink.held sink'.held text × (sink'.flushed ≡ sink.flushed)
 FailsToSend text sink sink' halt.OutOfMemory = sink' ≡ sink
 
 -- the next record was read, and answered

@@ -33,9 +33,9 @@ impl Session {
         gate: &G,
         steps: &mut Steps,
     ) -> Result<(), Halt>
-        ensures sends { OnOk result (Sends (answer_text self.old (record_of asked text.now)) (record { held = K.held sink.old; handed_on = K.handed_on sink.old }) (record { held = K.held sink.new; handed_on = K.handed_on sink.new })) }
+        ensures sends { OnOk result (Sends (answer_text self.old (record_of asked text.now)) (record { held = K.held sink.old; flushed = K.flushed sink.old }) (record { held = K.held sink.new; flushed = K.flushed sink.new })) }
         ensures after { OnOk result (self.new ≡ session_after self.old (record_of asked text.now)) }
-        ensures fails { IfErr result (FailsToSend (answer_text self.old (record_of asked text.now)) (record { held = K.held sink.old; handed_on = K.handed_on sink.old }) (record { held = K.held sink.new; handed_on = K.handed_on sink.new })) }
+        ensures fails { IfErr result (FailsToSend (answer_text self.old (record_of asked text.now)) (record { held = K.held sink.old; flushed = K.flushed sink.old }) (record { held = K.held sink.new; flushed = K.flushed sink.new })) }
         ensures steps { steps.new ≤ steps.old + answer_cost self.old (record_of asked text.now) }
         ensures failed { IsErrOf result Halt.WriteFault → Rises (K.faults sink.old) (K.faults sink.new) }
         ensures never_falls { K.faults sink.old ≤ K.faults sink.new }
@@ -54,9 +54,9 @@ impl Session {
         body: &[u8],
         steps: &mut Steps,
     ) -> Result<(), Halt>
-        ensures sends { OnOk result (Sends (answer_text self.old (batch body.now)) (record { held = K.held sink.old; handed_on = K.handed_on sink.old }) (record { held = K.held sink.new; handed_on = K.handed_on sink.new })) }
+        ensures sends { OnOk result (Sends (answer_text self.old (batch body.now)) (record { held = K.held sink.old; flushed = K.flushed sink.old }) (record { held = K.held sink.new; flushed = K.flushed sink.new })) }
         ensures after { OnOk result (self.new ≡ session_after self.old (batch body.now)) }
-        ensures fails { IfErr result (FailsToSend (answer_text self.old (batch body.now)) (record { held = K.held sink.old; handed_on = K.handed_on sink.old }) (record { held = K.held sink.new; handed_on = K.handed_on sink.new })) }
+        ensures fails { IfErr result (FailsToSend (answer_text self.old (batch body.now)) (record { held = K.held sink.old; flushed = K.flushed sink.old }) (record { held = K.held sink.new; flushed = K.flushed sink.new })) }
         ensures steps { steps.new ≤ steps.old + answer_cost self.old (batch body.now) }
         ensures failed { IsErrOf result Halt.WriteFault → Rises (K.faults sink.old) (K.faults sink.new) }
         ensures never_falls { K.faults sink.old ≤ K.faults sink.new }
@@ -77,9 +77,9 @@ impl Session {
         gate: &G,
         steps: &mut Steps,
     ) -> Result<(), Halt>
-        ensures sends { OnOk result (Sends (answer_text self.old (read k path.now)) (record { held = K.held sink.old; handed_on = K.handed_on sink.old }) (record { held = K.held sink.new; handed_on = K.handed_on sink.new })) }
+        ensures sends { OnOk result (Sends (answer_text self.old (read k path.now)) (record { held = K.held sink.old; flushed = K.flushed sink.old }) (record { held = K.held sink.new; flushed = K.flushed sink.new })) }
         ensures after { OnOk result (self.new ≡ session_after self.old (read k path.now)) }
-        ensures fails { IfErr result (FailsToSend (answer_text self.old (read k path.now)) (record { held = K.held sink.old; handed_on = K.handed_on sink.old }) (record { held = K.held sink.new; handed_on = K.handed_on sink.new })) }
+        ensures fails { IfErr result (FailsToSend (answer_text self.old (read k path.now)) (record { held = K.held sink.old; flushed = K.flushed sink.old }) (record { held = K.held sink.new; flushed = K.flushed sink.new })) }
         ensures steps { steps.new ≤ steps.old + answer_cost self.old (read k path.now) }
         ensures failed { IsErrOf result Halt.WriteFault → Rises (K.faults sink.old) (K.faults sink.new) }
         ensures never_falls { K.faults sink.old ≤ K.faults sink.new }

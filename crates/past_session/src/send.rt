@@ -5,7 +5,7 @@ ghost use Rattle.past_session.specs.Steps.{Sends};
 
 use survey_link::{Failed, Sink, write_all_parts, write_whole};
 
-/// Writes a line and a file in three parts, and hands them on.
+/// Writes a line and a file in three parts, and flushes them.
 ///
 /// # Errors
 ///
@@ -17,9 +17,9 @@ pub(crate) fn send_parts<'a, K: Sink>(
     kept: &'a [u8],
     zeros: &'a [u8],
 ) -> Result<(), Failed>
-    ensures sends { OnOk result (Sends (line.now ++ front.now ++ kept.now ++ zeros.now) (record { held = K.held sink.old; handed_on = K.handed_on sink.old }) (record { held = K.held sink.new; handed_on = K.handed_on sink.new })) }
+    ensures sends { OnOk result (Sends (line.now ++ front.now ++ kept.now ++ zeros.now) (record { held = K.held sink.old; flushed = K.flushed sink.old }) (record { held = K.held sink.new; flushed = K.flushed sink.new })) }
     ensures part { OnErr result (AppendsPrefix (K.held sink.old) (K.held sink.new) (line.now ++ front.now ++ kept.now ++ zeros.now)) }
-    ensures stays { OnErr result (K.handed_on sink.new ≡ K.handed_on sink.old) }
+    ensures stays { OnErr result (K.flushed sink.new ≡ K.flushed sink.old) }
     ensures failed { OnErr result (Rises (K.faults sink.old) (K.faults sink.new)) }
     ensures never_falls { K.faults sink.old ≤ K.faults sink.new }
 {
@@ -27,15 +27,15 @@ pub(crate) fn send_parts<'a, K: Sink>(
     sink.flush()
 }
 
-/// Writes a text, and hands it on.
+/// Writes a text, and flushes it.
 ///
 /// # Errors
 ///
 /// As for `send_parts`.
 pub(crate) fn send_text<K: Sink>(sink: &mut K, text: &[u8]) -> Result<(), Failed>
-    ensures sends { OnOk result (Sends text.now (record { held = K.held sink.old; handed_on = K.handed_on sink.old }) (record { held = K.held sink.new; handed_on = K.handed_on sink.new })) }
+    ensures sends { OnOk result (Sends text.now (record { held = K.held sink.old; flushed = K.flushed sink.old }) (record { held = K.held sink.new; flushed = K.flushed sink.new })) }
     ensures part { OnErr result (AppendsPrefix (K.held sink.old) (K.held sink.new) text.now) }
-    ensures stays { OnErr result (K.handed_on sink.new ≡ K.handed_on sink.old) }
+    ensures stays { OnErr result (K.flushed sink.new ≡ K.flushed sink.old) }
     ensures failed { OnErr result (Rises (K.faults sink.old) (K.faults sink.new)) }
     ensures never_falls { K.faults sink.old ≤ K.faults sink.new }
 {

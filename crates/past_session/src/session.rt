@@ -7,7 +7,7 @@ ghost use Rattle.edit_journal.specs.Faults.{most_charge};
 ghost use Rattle.past_frame.specs.Record.{most_line};
 ghost use Rattle.past_session.specs.Answers.{first_state};
 ghost use Rattle.past_session.specs.Records.{room_of};
-ghost use Rattle.past_session.specs.Run.{PastRun, RunsOver, HandsOnAll};
+ghost use Rattle.past_session.specs.Run.{PastRun, RunsOver, FlushesAll};
 ghost use Rattle.past_session.specs.Steps.{AnswersNext, EndsAt, EndsBehindAll};
 ghost use Rattle.past_session.specs.declared.ending.PastEnd.TheVariants.{ReadFault, WriteFault};
 
@@ -28,7 +28,7 @@ use survey_link::{Gate, Sink, Source};
 // How many records are taken.
 const MOST_RECORDS: u64 = 65_536;
 
-/// Reads records from a source, and answers each to a sink, handed on before the next one is read. A record is a line
+/// Reads records from a source, and answers each to a sink, flushed before the next one is read. A record is a line
 /// `batch LENGTH` with that many bytes of the body of a batch behind it, at most `batch_room`, or a line `read K PATH`, K below
 /// 2^32; a line has at most 128 bytes with its line feed, numbers are in plain decimals.
 ///
@@ -56,12 +56,12 @@ pub fn past_session<R: Threads + Sync + Clock + Log, S: Source, K: Sink, G: Gate
     requires most { cache ≤ 8 }
     // Where the source tells its bytes, the session is a run of the definition, which knows no cache.
     ensures run { (input : List ℕ) → S.left src.old ≡ Some input → PastRun (arc_value opening).conf (arc_value opening).leaves input (S.left src.new)
-        (record { held = K.held sink.old; handed_on = K.handed_on sink.old }) (record { held = K.held sink.new; handed_on = K.handed_on sink.new }) steps.old steps.new result }
+        (record { held = K.held sink.old; flushed = K.flushed sink.old }) (record { held = K.held sink.new; flushed = K.flushed sink.new }) steps.old steps.new result }
     // Whatever it tells, the session is one of the bytes that were read.
     ensures over { RunsOver (arc_value opening).conf (arc_value opening).leaves (S.left src.old) (S.left src.new)
-        (record { held = K.held sink.old; handed_on = K.handed_on sink.old }) (record { held = K.held sink.new; handed_on = K.handed_on sink.new }) steps.old steps.new result }
-    ensures handed_on { result ≢ WriteFault
-        → HandsOnAll (record { held = K.held sink.old; handed_on = K.handed_on sink.old }) (record { held = K.held sink.new; handed_on = K.handed_on sink.new }) }
+        (record { held = K.held sink.old; flushed = K.flushed sink.old }) (record { held = K.held sink.new; flushed = K.flushed sink.new }) steps.old steps.new result }
+    ensures flushed { result ≢ WriteFault
+        → FlushesAll (record { held = K.held sink.old; flushed = K.flushed sink.old }) (record { held = K.held sink.new; flushed = K.flushed sink.new }) }
     ensures read_fault { result ≡ ReadFault → Rises (S.faults src.old) (S.faults src.new) }
     ensures write_fault { result ≡ WriteFault → Rises (K.faults sink.old) (K.faults sink.new) }
     ensures source_never_falls { S.faults src.old ≤ S.faults src.new }
@@ -90,9 +90,9 @@ fn answer_all<R: Threads + Sync + Clock + Log, S: Source, K: Sink, G: Gate + Syn
     requires room { room ≡ room_of session.old.conf }
     requires at_most { room ≤ 2 ^ 30 }
     ensures run { (input : List ℕ) → S.left src.old ≡ Some input → PastRun session.old.conf session.old.opening input (S.left src.new)
-        (record { held = K.held sink.old; handed_on = K.handed_on sink.old }) (record { held = K.held sink.new; handed_on = K.handed_on sink.new }) steps.old steps.new result }
+        (record { held = K.held sink.old; flushed = K.flushed sink.old }) (record { held = K.held sink.new; flushed = K.flushed sink.new }) steps.old steps.new result }
     ensures over { RunsOver session.old.conf session.old.opening (S.left src.old) (S.left src.new)
-        (record { held = K.held sink.old; handed_on = K.handed_on sink.old }) (record { held = K.held sink.new; handed_on = K.handed_on sink.new }) steps.old steps.new result }
+        (record { held = K.held sink.old; flushed = K.flushed sink.old }) (record { held = K.held sink.new; flushed = K.flushed sink.new }) steps.old steps.new result }
     ensures read_fault { result ≡ ReadFault → Rises (S.faults src.old) (S.faults src.new) }
     ensures write_fault { result ≡ WriteFault → Rises (K.faults sink.old) (K.faults sink.new) }
     ensures source_never_falls { S.faults src.old ≤ S.faults src.new }
@@ -127,9 +127,9 @@ fn answer_next<R: Threads + Sync + Clock + Log, S: Source, K: Sink, G: Gate + Sy
     requires room { room ≡ room_of session.old.conf }
     requires at_most { room ≤ 2 ^ 30 }
     ensures answers { OnOk result (AnswersNext session.old session.new inbox.old.held.items inbox.new.held.items (S.left src.old) (S.left src.new)
-        (record { held = K.held sink.old; handed_on = K.handed_on sink.old }) (record { held = K.held sink.new; handed_on = K.handed_on sink.new }) steps.old steps.new) }
+        (record { held = K.held sink.old; flushed = K.flushed sink.old }) (record { held = K.held sink.new; flushed = K.flushed sink.new }) steps.old steps.new) }
     ensures ends { IfErr result (EndsAt session.old at inbox.old.held.items (S.left src.old) (S.left src.new)
-        (record { held = K.held sink.old; handed_on = K.handed_on sink.old }) (record { held = K.held sink.new; handed_on = K.handed_on sink.new }) steps.old steps.new) }
+        (record { held = K.held sink.old; flushed = K.flushed sink.old }) (record { held = K.held sink.new; flushed = K.flushed sink.new }) steps.old steps.new) }
     ensures held { length inbox.new.held.items ≤ most_line }
     ensures read_fault { IsErrOf result ReadFault → Rises (S.faults src.old) (S.faults src.new) }
     ensures write_fault { IsErrOf result WriteFault → Rises (K.faults sink.old) (K.faults sink.new) }

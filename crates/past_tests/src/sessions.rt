@@ -208,7 +208,7 @@ fn all_are_cut<R: Threads + Sync + Clock + Log + Abort>(
     Ok(())
 }
 
-// Each write or flush of the session fails. Each of its four answers is written by one call, with the file in it, and handed on by
+// Each write or flush of the session fails. Each of its four answers is written by one call, with the file in it, and flushed by
 // another; a ninth call there isn't.
 fn all_fail<R: Threads + Sync + Clock + Log + Abort>(
     rt: &R,

@@ -73,7 +73,7 @@ struct Replies {
 impl Sink for Replies {
     ghost held = { λ _. None };
 
-    ghost handed_on = { λ _. None };
+    ghost flushed = { λ _. None };
 
     ghost faults = { λ replies. replies.sink.faults };
 

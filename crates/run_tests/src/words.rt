@@ -115,7 +115,7 @@ fn is_address(
 
 // Whether the words are those behind the program's name, and the address is the second of them, or the place that was found
 // for it.
-fn hands_on(alloc: Global, words: &[String]) -> Result<bool, Fail> {
+fn flushes(alloc: Global, words: &[String]) -> Result<bool, Fail> {
     let place = "127.0.0.1:81".parse::<SocketAddr>()?;
     Ok(
         words.join(alloc, "|")?.as_str() == "mirror|peer:80"
@@ -129,7 +129,7 @@ fn hands_on(alloc: Global, words: &[String]) -> Result<bool, Fail> {
 fn words_are_handed_on(rt: HostRuntime) -> Result<(), Fail> {
     let given = list(rt.alloc(), "hipsd mirror peer:80")?;
     let words = words(rt.alloc(), Ok(given.into_iter()))?;
-    assert!(rt; hands_on(rt.alloc(), &words)?);
+    assert!(rt; flushes(rt.alloc(), &words)?);
     Ok(())
 }
 

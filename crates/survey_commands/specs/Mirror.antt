@@ -34,10 +34,10 @@ pub record Copying : Type 0 where
   pub steps : ℕ
   pub steps_then : ℕ
 
--- the shelf's files of a survey became those of the copy, so many, and all requests were written and handed on
+-- the shelf's files of a survey became those of the copy, so many, and all requests were written and flushed
 pub record IsCopied (run : Copying) (count : ℕ) : Type 0 where
   pub copies : Copies run.old.unread run.old.written run.new.written run.files run.files_then run.steps run.steps_then count
-  pub handed_on : run.new.handed_on ≡ run.new.written
+  pub flushed : run.new.flushed ≡ run.new.written
 
 -- it came no further for this refusal, the first that what the peer sends gives. The files stay, unless the shelf failed or
 -- there was no memory once all replies were read; all files stay that no survey can have

@@ -7,7 +7,7 @@ use Rattle.generation.specs.Files.{leaf_map}
 use Rattle.generation.specs.Steps.{tiles_above}
 use Rattle.shelf_io.specs.Opening.{OpenedSurvey, opening_steps}
 use Rattle.shelf_io.specs.declared.refusal.LoadRefusal.{LoadRefusal}
-use Rattle.past_session.specs.Run.{SinkBytes, HandsOnAll, PastRun}
+use Rattle.past_session.specs.Run.{SinkBytes, FlushesAll, PastRun}
 use Rattle.past_session.specs.declared.ending.PastEnd.{PastEnd}
 use Rattle.past_session.specs.declared.ending.PastEnd.TheVariants.{Done, Cut, BadLine, Spent, ReadFault, WriteFault, OutOfMemory}
 use Rattle.survey_commands.specs.Survey.{SaysWhy}
@@ -34,11 +34,11 @@ past_status (BadLine at) = 17
 -- ---- the run
 
 abbrev pub sink_of : Connection → SinkBytes
-sink_of connection = record { held = connection.written; handed_on = connection.handed_on }
+sink_of connection = record { held = connection.written; flushed = connection.flushed }
 
--- unless a writing failed, all that the sink holds was handed on, or nothing was written
-abbrev pub HandsOnPast : ℕ → Connection → Connection → Type 0
-HandsOnPast status old new = (status ≡ 6 → ⊥) → HandsOnAll (sink_of old) (sink_of new)
+-- unless a writing failed, all that the sink holds was flushed, or nothing was written
+abbrev pub FlushesPast : ℕ → Connection → Connection → Type 0
+FlushesPast status old new = (status ≡ 6 → ⊥) → FlushesAll (sink_of old) (sink_of new)
 
 -- the records of the survey were answered, whose source had this input; the count of steps before and after
 pub record AnswersPast (survey : OpenedSurvey) (input : List ℕ) (old new : Connection) (steps steps' status : ℕ) : Type 0 where
@@ -61,7 +61,7 @@ pub record OpensAndAnswers (found : Option ShelfFiles) (survey : OpenedSurvey) (
 pub record OpensAndSays (found : Option ShelfFiles) (refusal : LoadRefusal) (old new : Connection) (steps steps' status : ℕ) : Type 0 where
   pub opens_not : OpensNot found refusal
   pub unread : new.unread ≡ old.unread
-  pub says : SaysWhy refusal status old.written new.written old.handed_on new.handed_on
+  pub says : SaysWhy refusal status old.written new.written old.flushed new.flushed
   pub cost : IfSome found (λ files. steps' ≤ steps + opening_steps files)
 
 -- `past`, over the files and an input, by what the files open as

@@ -14,7 +14,7 @@ use Rattle.reader_pin.specs.Board.{BoardContent}
 use Rattle.reader_pin.specs.Solo.{only_seat}
 use Rattle.hips_http.specs.declared.served.SessionEnd.{SessionEnd}
 use Rattle.hips_http.specs.declared.served.SessionEnd.TheVariants.{Closed, Asked, Refused, Cut, Spent, ReadFault, WriteFault, OutOfMemory}
-use Rattle.hips_http.specs.SessionRun.{Exchange, SessionRun, HandsOn, input_of}
+use Rattle.hips_http.specs.SessionRun.{Exchange, SessionRun, Flushes, input_of}
 use Rattle.survey_commands.specs.Survey.{SaysWhy}
 
 -- ---- the connection
@@ -43,7 +43,7 @@ end_status (Refused code) = 14
 
 -- ---- the run
 
--- a connection as the ends tell it, whose source had this input; handing on what was written comes after it, at which the sink
+-- a connection as the ends tell it, whose source had this input; flushing what was written comes after it, at which the sink
 -- may fail too
 pub record IsTold (input : List ℕ) (old new : Connection) (exchange : Exchange) : Type 0 where
   pub input_is : input ≡ input_of exchange
@@ -54,11 +54,11 @@ pub record IsTold (input : List ℕ) (old new : Connection) (exchange : Exchange
   pub sink_faults : exchange.sink_faults ≡ old.sink_faults
   pub sink_faults_then : exchange.sink_faults_then ≤ new.sink_faults
 
--- the status is that of the end, and all that was written is handed on; or the sink failed at that, and what the connection had
--- handed on stays
+-- the status is that of the end, and all that was written is flushed; or the sink failed at that, and what the connection had
+-- flushed stays
 abbrev pub EndsWith : SessionEnd → ℕ → Exchange → Connection → Connection → Type 0
-EndsWith end status exchange old new = ((status ≡ end_status end) × (new.handed_on ≡ new.written))
-    ⊎ ((status ≡ 6) × Rises old.sink_faults new.sink_faults × HandsOn old.written old.handed_on new.handed_on exchange.handed_on)
+EndsWith end status exchange old new = ((status ≡ end_status end) × (new.flushed ≡ new.written))
+    ⊎ ((status ≡ 6) × Rises old.sink_faults new.sink_faults × Flushes old.written old.flushed new.flushed exchange.flushed)
 
 -- one connection of the survey was served, whose source had this input
 pub record Serves (survey : OpenedSurvey) (input : List ℕ) (old new : Connection) (status : ℕ) : Type 0 where
@@ -81,7 +81,7 @@ OpensNot found refusal = IfSome found (λ files. IsRefusedBy (result_err (openin
 abbrev pub SessionOf : Option ShelfFiles → List ℕ → Connection → Connection → ℕ → Result OpenedSurvey LoadRefusal → Type 0
 SessionOf found input old new status (Ok survey) = OpensAs found survey × Serves survey input old new status
 SessionOf found input old new status (Err refusal) = OpensNot found refusal × (new.unread ≡ old.unread)
-    × SaysWhy refusal status old.written new.written old.handed_on new.handed_on
+    × SaysWhy refusal status old.written new.written old.flushed new.flushed
 
 abbrev pub RunsSession : Option ShelfFiles → List ℕ → Connection → Connection → ℕ → Type 0
 RunsSession found input old new status = (opened : Result OpenedSurvey LoadRefusal) × SessionOf found input old new status opened

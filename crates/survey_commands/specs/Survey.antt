@@ -48,15 +48,15 @@ IsComparison (Some found) (Err refusal) = IsRefusedBy (result_err (opening found
 abbrev pub line_of : List ℕ → List ℕ
 line_of text = text ++ 10 ∷ []
 
--- the bytes were written and all that the sink holds was handed on
+-- the bytes were written and all that the sink holds was flushed
 pub record IsWritten (bytes : List ℕ) (held held' handed' : Option (List ℕ)) : Type 0 where
   pub appended : Appends held held' bytes
-  pub handed_on : handed' ≡ held'
+  pub flushed : handed' ≡ held'
 
 -- nothing was written
 pub record IsSilent (held held' handed handed' : Option (List ℕ)) : Type 0 where
   pub kept : held' ≡ held
-  pub handed_on : handed' ≡ handed
+  pub flushed : handed' ≡ handed
 
 -- the line was written, and the status is the command's own; or the sink failed at it, or there was no memory for it
 abbrev pub Says : ℕ → List ℕ → ℕ → Option (List ℕ) → Option (List ℕ) → Option (List ℕ) → Option (List ℕ) → Type 0
@@ -89,7 +89,7 @@ SaysVerdict (Err refusal) = SaysWhy refusal
 
 -- ---- whole runs
 
--- `export`, over the files before and after, with its status, what the sink holds before and after, and what was handed on
+-- `export`, over the files before and after, with its status, what the sink holds before and after, and what was flushed
 abbrev pub RunsExport : Option ShelfFiles → Option ShelfFiles → ℕ → Option (List ℕ) → Option (List ℕ) → Option (List ℕ) → Option (List ℕ) → Type 0
 RunsExport old new status held held' handed handed' =
     (outcome : Result ℕ LoadRefusal) × (IsExport old new outcome × SaysExport outcome status held held' handed handed')

@@ -46,7 +46,7 @@ where
     H: Shelf,
     G: Gate + Sync,
     ensures run { RunsExport (H.files shelf.old) (H.files shelf.new) result
-        (K.held sink.old) (K.held sink.new) (K.handed_on sink.old) (K.handed_on sink.new) }
+        (K.held sink.old) (K.held sink.new) (K.flushed sink.old) (K.flushed sink.new) }
     ensures not_usage { result ≢ 1 }
     ensures not_door { result ≢ 8 }
     ensures not_read { result ≢ 5 }

@@ -41,7 +41,7 @@ where
     K: Sink,
     G: Gate + Sync,
     requires { IsMake number edits }
-    ensures run { RunsMake number edits result (K.held sink.old) (K.held sink.new) (K.handed_on sink.old) (K.handed_on sink.new) }
+    ensures run { RunsMake number edits result (K.held sink.old) (K.held sink.new) (K.flushed sink.old) (K.flushed sink.new) }
     ensures not_usage { result ≢ 1 }
     ensures not_door { result ≢ 8 }
     ensures not_read { result ≢ 5 }

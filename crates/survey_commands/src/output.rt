@@ -8,11 +8,11 @@ use std::alloc::Global;
 use std::fmt::Display;
 use survey_link::{Failed, Sink};
 
-/// Writes what is shown as a line and hands it on, and answers the status: `own`, or 6 where the sink failed, or 11 where
+/// Writes what is shown as a line and flushes it, and answers the status: `own`, or 6 where the sink failed, or 11 where
 /// there was no memory for the line, of which nothing is then written.
 pub fn say<T: Display, K: Sink>(alloc: Global, sink: &mut K, own: u8, shown: &T) -> u8
     ensures said { (text : List ℕ) → T.output shown.now ≡ Some text → Says own (line_of text) result
-        (K.held sink.old) (K.held sink.new) (K.handed_on sink.old) (K.handed_on sink.new) }
+        (K.held sink.old) (K.held sink.new) (K.flushed sink.old) (K.flushed sink.new) }
     ensures status { (result ≡ own) ⊎ ((result ≡ 6) ⊎ (result ≡ 11)) }
     ensures write_fault { own ≢ 6 → result ≡ 6 → Rises (K.faults sink.old) (K.faults sink.new) }
 {

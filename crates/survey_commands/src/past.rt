@@ -9,7 +9,7 @@ ghost use Rattle.past_session.specs.declared.ending.PastEnd.{PastEnd as Ending};
 ghost use Rattle.shelf_io.specs.Opening.{OpenedSurvey, opening_steps};
 ghost use Rattle.hips_http.specs.Moment.{connection_of};
 ghost use Rattle.survey_commands.specs.Session.{OpensAs, OpensNot};
-ghost use Rattle.survey_commands.specs.Past.{IsPast, RunsPast, RunsPastOver, HandsOnPast, AnswersPast, opened_cost, past_status};
+ghost use Rattle.survey_commands.specs.Past.{IsPast, RunsPast, RunsPastOver, FlushesPast, AnswersPast, opened_cost, past_status};
 
 use crate::refusing::say_why;
 use generation::Generation;
@@ -57,7 +57,7 @@ where
     ensures over { RunsPastOver (H.files shelf.old)
         (connection_of S.Source K.Sink source.old sink.old) (connection_of S.Source K.Sink source.new sink.new)
         steps.old steps.new result }
-    ensures handed_on { HandsOnPast result
+    ensures flushed { FlushesPast result
         (connection_of S.Source K.Sink source.old sink.old) (connection_of S.Source K.Sink source.new sink.new) }
     ensures kept { H.files shelf.new ≡ H.files shelf.old }
     ensures unread { (result ≡ 2) ⊎ (result ≡ 3) → source.new ≡ source.old }
@@ -129,9 +129,9 @@ where
         (connection_of S.Source K.Sink source.old sink.old) (connection_of S.Source K.Sink source.new sink.new)
         steps.old steps.new result }
     ensures over { (end : Ending) × RunsOver (arc_value opening).conf (arc_value opening).leaves (S.left source.old) (S.left source.new)
-        (record { held = K.held sink.old; handed_on = K.handed_on sink.old }) (record { held = K.held sink.new; handed_on = K.handed_on sink.new }) steps.old steps.new end
+        (record { held = K.held sink.old; flushed = K.flushed sink.old }) (record { held = K.held sink.new; flushed = K.flushed sink.new }) steps.old steps.new end
         × (result ≡ past_status end) }
-    ensures handed_on { HandsOnPast result
+    ensures flushed { FlushesPast result
         (connection_of S.Source K.Sink source.old sink.old) (connection_of S.Source K.Sink source.new sink.new) }
     ensures no_refusal { (result ≢ 1) × (result ≢ 2) × (result ≢ 3) × (result ≢ 7) × (result ≢ 8) }
     ensures read_fault { result ≡ 5 → Rises (S.faults source.old) (S.faults source.new) }

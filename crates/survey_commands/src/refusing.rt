@@ -12,7 +12,7 @@ use survey_link::Sink;
 /// Says why the shelf isn't opened, and answers the status: 2 for its description, 3 for its leaves; 7 where the shelf failed
 /// and 11 where there was no memory, of which nothing is written.
 pub fn say_why<K: Sink>(alloc: Global, sink: &mut K, refusal: &LoadRefusal) -> u8
-    ensures said { SaysWhy refusal.now result (K.held sink.old) (K.held sink.new) (K.handed_on sink.old) (K.handed_on sink.new) }
+    ensures said { SaysWhy refusal.now result (K.held sink.old) (K.held sink.new) (K.flushed sink.old) (K.flushed sink.new) }
     ensures not_usage { result ≢ 1 }
     ensures not_door { result ≢ 8 }
     ensures not_read { result ≢ 5 }

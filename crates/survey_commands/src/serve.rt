@@ -49,7 +49,7 @@ where
     requires asked { IsServe connections places }
     requires there { places ≤ length doors.old }
     ensures run { RunsServe (H.files shelf.old) connections (map D.connections (take places doors.old)) (map D.connections (take places doors.new)) result
-        (K.held sink.old) (K.held sink.new) (K.handed_on sink.old) (K.handed_on sink.new) }
+        (K.held sink.old) (K.held sink.new) (K.flushed sink.old) (K.flushed sink.new) }
     ensures beyond { drop places doors.new ≡ drop places doors.old }
     ensures closed { (result ≡ 2) ⊎ ((result ≡ 3) ⊎ (result ≡ 7)) → doors.new ≡ doors.old }
     ensures kept { H.files shelf.new ≡ H.files shelf.old }

@@ -138,7 +138,7 @@ fn first_state(alloc: Global, generation: Generation) -> Result<State, AllocErro
     }
 }
 
-// Serves one connection by a board that nobody else has, hands on what is written, and answers the status.
+// Serves one connection by a board that nobody else has, flushes what is written, and answers the status.
 fn serve_source<R, S, K, G>(
     rt: &R,
     board: &mut Solo,

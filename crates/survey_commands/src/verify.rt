@@ -34,7 +34,7 @@ where
     H: Shelf,
     G: Gate + Sync,
     ensures run { RunsVerify (H.files shelf.old) result
-        (K.held sink.old) (K.held sink.new) (K.handed_on sink.old) (K.handed_on sink.new) }
+        (K.held sink.old) (K.held sink.new) (K.flushed sink.old) (K.flushed sink.new) }
     ensures kept { H.files shelf.new ≡ H.files shelf.old }
     ensures not_usage { result ≢ 1 }
     ensures not_door { result ≢ 8 }

@@ -1,12 +1,12 @@
 -- The connections that come through a door.
 use Rattle.std.specs.Prelude.{◌≡◌, ℕ, List, [], ◌∷◌, ◌++◌, length, Option, Some, None, ⊤, if◌then◌else◌, nat_lt}
 
--- a connection: the bytes left in its source, those held by its sink and those of them that were handed on, where they are
+-- a connection: the bytes left in its source, those held by its sink and those of them that were flushed, where they are
 -- told, and the counts of faults of both
 pub record Connection : Type 0 where
   pub unread : Option (List ℕ)
   pub written : Option (List ℕ)
-  pub handed_on : Option (List ℕ)
+  pub flushed : Option (List ℕ)
   pub source_faults : ℕ
   pub sink_faults : ℕ
 

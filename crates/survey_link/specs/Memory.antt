@@ -34,11 +34,11 @@ pub record SureState : Type 0 where
 abbrev pub after_sure_read : ℕ → SureState → SureState
 after_sure_read m source = record source { unread = drop m source.unread; calls = next_count source.calls }
 
--- a sink: the bytes written, those of them that were handed on, how many it holds at most, the calls that fail, and how many
+-- a sink: the bytes written, those of them that were flushed, how many it holds at most, the calls that fail, and how many
 -- calls came and failed
 pub record SinkState : Type 0 where
   pub written : List ℕ
-  pub handed_on : List ℕ
+  pub flushed : List ℕ
   pub room : ℕ
   pub fails : List ℕ
   pub calls : ℕ
@@ -56,9 +56,9 @@ taken_of sink count = min count (sink.room - length sink.written)
 abbrev pub after_write : List ℕ → SinkState → SinkState
 after_write bytes sink = record sink { written = sink.written ++ bytes; calls = next_count sink.calls }
 
--- a flush went well: all that was written is handed on
+-- a flush went well: all that was written is flushed
 abbrev pub after_flush : SinkState → SinkState
-after_flush sink = record sink { handed_on = sink.written; calls = next_count sink.calls }
+after_flush sink = record sink { flushed = sink.written; calls = next_count sink.calls }
 
 -- a write or a flush failed
 abbrev pub after_failed_write : SinkState → SinkState
@@ -95,7 +95,7 @@ abbrev pub connection_of : SourceState × SinkState → Connection
 connection_of ends = record {
   unread = Some ends.0.unread;
   written = Some ends.1.written;
-  handed_on = Some ends.1.handed_on;
+  flushed = Some ends.1.flushed;
   source_faults = ends.0.faults;
   sink_faults = ends.1.faults;
 }

@@ -36,7 +36,7 @@ pub trait Door {
             (λ taken. Takes (connections self.old) (connections self.new) (record {
               unread = Self.In.left taken.0;
               written = Self.Out.held taken.1;
-              handed_on = Self.Out.handed_on taken.1;
+              flushed = Self.Out.flushed taken.1;
               source_faults = Self.In.faults taken.0;
               sink_faults = Self.Out.faults taken.1;
             }))) }
@@ -55,7 +55,7 @@ pub trait Door {
         ensures returned { connections self.new ≡ option_map (given_back (record {
           unread = Self.In.left input;
           written = Self.Out.held output;
-          handed_on = Self.Out.handed_on output;
+          flushed = Self.Out.flushed output;
           source_faults = Self.In.faults input;
           sink_faults = Self.Out.faults output;
         })) (connections self.old) }

@@ -15,8 +15,8 @@ use std::marker::Model;
 pub struct MemSink {
     bytes: Vec<u8>,
     room: usize,
-    // How many of the bytes were handed on.
-    flushed: usize,
+    // How many of the bytes were flushed.
+    flush_end: usize,
     calls: Calls,
 }
 
@@ -28,14 +28,14 @@ impl Model for MemSink {
 
     ghost view = { λ a. record {
       written = a.bytes.items;
-      handed_on = take a.flushed a.bytes.items;
+      flushed = take a.flush_end a.bytes.items;
       room = a.room;
       fails = a.calls.fails.items;
       calls = a.calls.made;
       faults = a.calls.faults;
     } };
 
-    ghost invariant = { λ a. (vec_len a.bytes ≤ a.room) × (a.room ≤ vec_capacity a.bytes) × (a.flushed ≤ vec_len a.bytes) };
+    ghost invariant = { λ a. (vec_len a.bytes ≤ a.room) × (a.room ≤ vec_capacity a.bytes) × (a.flush_end ≤ vec_len a.bytes) };
 }
 
 impl MemSink {
@@ -48,7 +48,7 @@ impl MemSink {
     pub fn new(alloc: Global, room: usize, fails: Vec<u64>) -> Result<MemSink, AllocError>
         ensures { IfOk result (λ sink. sink ≡ record {
           written = [];
-          handed_on = [];
+          flushed = [];
           room = room;
           fails = fails.items;
           calls = 0;
@@ -59,7 +59,7 @@ impl MemSink {
         Ok(MemSink {
             bytes,
             room,
-            flushed: 0,
+            flush_end: 0,
             calls: Calls::new(fails),
         })
     }
@@ -81,7 +81,7 @@ impl MemSink {
         Ok(MemSink {
             bytes,
             room: self.room,
-            flushed: self.flushed,
+            flush_end: self.flush_end,
             calls,
         })
     }
@@ -90,7 +90,7 @@ impl MemSink {
 impl Sink for MemSink {
     ghost held = { λ s. Some s.written };
 
-    ghost handed_on = { λ s. Some s.handed_on };
+    ghost flushed = { λ s. Some s.flushed };
 
     ghost faults = { λ s. s.faults };
 
@@ -144,7 +144,7 @@ impl Sink for MemSink {
             return Err(Failed);
         }
         self.calls.count();
-        self.flushed = self.bytes.len();
+        self.flush_end = self.bytes.len();
         Ok(())
     }
 }

@@ -20,7 +20,7 @@ impl NullSink {
 impl Sink for NullSink {
     ghost held = { λ _. None };
 
-    ghost handed_on = { λ _. None };
+    ghost flushed = { λ _. None };
 
     ghost faults = { λ _. 0 };
 

@@ -11,13 +11,13 @@ pub trait Sink {
     /// The bytes held, where they are told.
     ghost held: { Self → Option (List ℕ) };
 
-    /// Those of the bytes held that were handed on, where they are told.
-    ghost handed_on: { Self → Option (List ℕ) };
+    /// Those of the bytes held that were flushed, where they are told.
+    ghost flushed: { Self → Option (List ℕ) };
 
     /// How often it has failed. The count never falls.
     ghost faults: { Self → ℕ };
 
-    /// Writes some first bytes of `buf`, at least one, and answers how many. What was handed on stays.
+    /// Writes some first bytes of `buf`, at least one, and answers how many. What was flushed stays.
     ///
     /// # Errors
     ///
@@ -28,7 +28,7 @@ pub trait Sink {
         ensures count { IfOk result (λ m. m ≤ length buf.now) }
         ensures appended { IfOk result (λ m. Appends (held self.old) (held self.new) (take m buf.now)) }
         ensures kept { OnErr result (held self.new ≡ held self.old) }
-        ensures handed { handed_on self.new ≡ handed_on self.old }
+        ensures flushed { flushed self.new ≡ flushed self.old }
         ensures failed { OnErr result (Rises (faults self.old) (faults self.new)) }
         ensures never_falls { faults self.old ≤ faults self.new };
 
@@ -43,19 +43,19 @@ pub trait Sink {
         ensures count { IfOk result (λ m. m ≤ length (parts_bytes parts.entry)) }
         ensures appended { IfOk result (λ m. Appends (held self.old) (held self.new) (take m (parts_bytes parts.entry))) }
         ensures kept { OnErr result (held self.new ≡ held self.old) }
-        ensures handed { handed_on self.new ≡ handed_on self.old }
+        ensures flushed { flushed self.new ≡ flushed self.old }
         ensures failed { OnErr result (Rises (faults self.old) (faults self.new)) }
         ensures never_falls { faults self.old ≤ faults self.new };
 
-    /// Hands on all that is held.
+    /// Flushes all that is held.
     ///
     /// # Errors
     ///
-    /// `Failed` only where the count of faults rose; what is held stays, and so does what was handed on.
+    /// `Failed` only where the count of faults rose; what is held stays, and so does what was flushed.
     fn flush(&mut self) -> Result<(), Failed>
         ensures kept { held self.new ≡ held self.old }
-        ensures handed { OnOk result (handed_on self.new ≡ held self.new) }
-        ensures stays { OnErr result (handed_on self.new ≡ handed_on self.old) }
+        ensures flushed { OnOk result (flushed self.new ≡ held self.new) }
+        ensures stays { OnErr result (flushed self.new ≡ flushed self.old) }
         ensures failed { OnErr result (Rises (faults self.old) (faults self.new)) }
         ensures never_falls { faults self.old ≤ faults self.new };
 }
@@ -68,7 +68,7 @@ pub trait Sink {
 pub fn write_whole<K: Sink>(sink: &mut K, bytes: &[u8]) -> Result<(), Failed>
     ensures whole { OnOk result (Appends (K.held sink.old) (K.held sink.new) bytes.now) }
     ensures part { OnErr result (AppendsPrefix (K.held sink.old) (K.held sink.new) bytes.now) }
-    ensures handed { K.handed_on sink.new ≡ K.handed_on sink.old }
+    ensures flushed { K.flushed sink.new ≡ K.flushed sink.old }
     ensures failed { OnErr result (Rises (K.faults sink.old) (K.faults sink.new)) }
     ensures never_falls { K.faults sink.old ≤ K.faults sink.new }
 {
@@ -88,7 +88,7 @@ pub fn write_whole<K: Sink>(sink: &mut K, bytes: &[u8]) -> Result<(), Failed>
 pub fn write_all_parts<K: Sink>(sink: &mut K, parts: [&[u8]; 4]) -> Result<(), Failed>
     ensures whole { OnOk result (Appends (K.held sink.old) (K.held sink.new) (parts_bytes parts.entry)) }
     ensures part { OnErr result (AppendsPrefix (K.held sink.old) (K.held sink.new) (parts_bytes parts.entry)) }
-    ensures handed { K.handed_on sink.new ≡ K.handed_on sink.old }
+    ensures flushed { K.flushed sink.new ≡ K.flushed sink.old }
     ensures failed { OnErr result (Rises (K.faults sink.old) (K.faults sink.new)) }
     ensures never_falls { K.faults sink.old ≤ K.faults sink.new }
 {

@@ -156,7 +156,7 @@ impl<W> StreamSink<W> {
 impl<W: Write> Sink for StreamSink<W> {
     ghost held = { λ _. None };
 
-    ghost handed_on = { λ _. None };
+    ghost flushed = { λ _. None };
 
     ghost faults = { λ s. s.faults };
 

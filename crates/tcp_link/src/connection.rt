@@ -59,7 +59,7 @@ impl<R> Connection<R> {
         self.rests.load(Ordering::SeqCst)
     }
 
-    /// A turn has begun, or its reply was handed on.
+    /// A turn has begun, or its reply was flushed.
     pub(crate) fn set_rests(&self, rests: bool) {
         self.rests.store(rests, Ordering::SeqCst);
     }

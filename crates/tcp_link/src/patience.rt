@@ -7,7 +7,7 @@ use std::time::Duration;
 
 /// How long the peer of a connection may take.
 ///
-/// A turn is a request with its reply. It begins with the first byte that comes after the last reply was handed on, or after
+/// A turn is a request with its reply. It begins with the first byte that comes after the last reply was flushed, or after
 /// the accept.
 #[derive(Clone, Copy)]
 pub struct Patience {

@@ -123,7 +123,7 @@ where
 {
     ghost held = { λ _. None };
 
-    ghost handed_on = { λ _. None };
+    ghost flushed = { λ _. None };
 
     ghost faults = { λ faults. faults };
 

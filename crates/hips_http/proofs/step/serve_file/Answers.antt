@@ -13,7 +13,7 @@ returns-in-Err-clause-serves g c =
       broken = λ is. let wrote : c.body_end.result ≡ WriteFault = cc in absurd (body_reads c.in-Err.stop (sym ended ∙ wrote));
       halted = λ _. record { stop = c.in-Err.stop; leaves = e.stop; end_is = ended; untouched = record { board = refl; steps_are = refl; wants_are = refl }; written_is = refl };
       hands = record {
-        handed_on = tt;
+        flushed = tt;
         stays = refl;
         unwritten = λ _. refl;
         write_fault = λ is. let wrote : c.body_end.result ≡ WriteFault = cc in absurd (body_reads c.in-Err.stop (sym ended ∙ wrote));
@@ -33,7 +33,7 @@ returns-in-Ok-give_file-clause-serves g c =
       ok = (f.answer, record { body = t.0; takes = t.1; serves = f.serves; wants_is = sym (wants_found connection.wants f.answer f.finds) }, f.sends.whole);
       broken = λ is. absurd (cc);
       halted = tt;
-      hands = record { handed_on = e.hands.handed_on; stays = tt; unwritten = tt; write_fault = λ is. absurd (cc); memory = tt };
+      hands = record { flushed = e.hands.flushed; stays = tt; unwritten = tt; write_fault = λ is. absurd (cc); memory = tt };
       never_falls = record { source = c.in-Ok.ensures.never_falls; sink = e.hands.never_falls; steps = omega arith; wants = omega arith; room = c.in-Ok.ensures.room };
     }
 
@@ -48,6 +48,6 @@ returns-in-Err-give_file-clause-serves g c =
       ok = tt;
       broken = λ _. (f.answer, record { body = t.0; takes = t.1; serves = f.serves; wants_is = sym (wants_found connection.wants f.answer f.finds) }, f.sends.part);
       halted = λ other. absurd (other refl);
-      hands = record { handed_on = tt; stays = e.hands.stays; unwritten = λ other. absurd (other refl); write_fault = λ _. e.hands.failed; memory = λ is. cc };
+      hands = record { flushed = tt; stays = e.hands.stays; unwritten = λ other. absurd (other refl); write_fault = λ _. e.hands.failed; memory = λ is. cc };
       never_falls = record { source = c.in-Ok.ensures.never_falls; sink = e.hands.never_falls; steps = omega arith; wants = omega arith; room = c.in-Ok.ensures.room };
     }

@@ -3,7 +3,7 @@ use Rattle.hips_http.specs.declared.served.SessionEnd.{SessionEnd}
 use Rattle.hips_http.specs.declared.served.SessionEnd.TheVariants.{ReadFault, WriteFault}
 use Rattle.hips_http.specs.Replies.{leave_bytes}
 use Rattle.hips_http.specs.Moment.{input_at, output_at, moment_of}
-use Rattle.hips_http.proofs.HandedOn.{hands_leave, hands_same}
+use Rattle.hips_http.proofs.Flushed.{hands_leave, hands_same}
 use Rattle.hips_http.proofs.ReadRequests.{head_reads, both_read, both_whole}
 use Rattle.hips_http.proofs.Steps.{head_stops, stops_by_read, leave_stops, served_one, breaks_one, halts_one, is_write_fault, kept_part, head_part, replied_part, halted_part, rises_from, halts_by_read}
 use Rattle.hips_http.proofs.step.serve_one.Goals as goal
@@ -21,8 +21,8 @@ returns-in-Err-clause-serves g c =
       left = kept_part connection.frame.now c.next_call.new.frame (g.S.Source.left connection.src.now) (g.S.Source.left c.next_call.new.src) c.in-Err.ensures.kept;
       turn = tt;
       hands = record {
-        handed_on = tt;
-        hands_on = e.handed_on;
+        flushed = tt;
+        flushes = e.flushed;
         breaks = λ is. let ended : c.end_at.result ≡ WriteFault = cc in ([], inr (e.stays ended, refl));
       };
       faults = record {
@@ -46,7 +46,7 @@ returns-in-Err-grant-clause-serves g c =
       stops = leave_stops c.args.count c.args.top old input output c.in-Ok.next.0 c.in-Ok.next.1 c.requires.room c.in-Ok.ensures.read e.waits e.part;
       left = head_part c.args.top old.input input c.in-Ok.next.0 c.in-Ok.next.1 c.in-Ok.ensures.read;
       turn = tt;
-      hands = record { handed_on = tt; hands_on = λ other. absurd (other refl); breaks = λ _. ([], inr (e.stays, refl)) };
+      hands = record { flushed = tt; flushes = λ other. absurd (other refl); breaks = λ _. ([], inr (e.stays, refl)) };
       faults = record { read_fault = λ is. absurd (cc); write_fault = λ _. e.failed; memory = λ is. cc };
       never_falls = record { source = c.in-Ok.ensures.never_falls; sink = e.never_falls; steps = omega arith; wants = omega arith; room = c.in-Ok.ensures.room };
     }
@@ -65,7 +65,7 @@ returns-in-Ok-serve_call-clause-serves g c =
       stops = tt;
       left = replied_part c.args.count c.args.top old input output c.in-Ok.next.0 c.in-Ok.next.1 c.requires.room c.in-Ok.ensures.read new leave.whole c.requires.top c.closes-close.result c.closes-close.ensures r.0 r.1;
       turn = r.1.takes.turn;
-      hands = record { handed_on = s.hands.handed_on; hands_on = tt; breaks = λ is. absurd (cc) };
+      hands = record { flushed = s.hands.flushed; flushes = tt; breaks = λ is. absurd (cc) };
       faults = record { read_fault = λ is. absurd (cc); write_fault = λ is. absurd (cc); memory = tt };
       never_falls = record {
         source = omega (arith, c.in-Ok.ensures.never_falls, s.never_falls.source);
@@ -107,11 +107,11 @@ returns-in-Err-serve_call-clause-serves g c =
       ];
       turn = tt;
       hands = record {
-        handed_on = tt;
-        hands_on = λ other. hands_same old.output.held output.held new.output.held old.output.handed_on output.handed_on new.output.handed_on leave.handed_on (s.hands.unwritten other) s.hands.stays;
+        flushed = tt;
+        flushes = λ other. hands_same old.output.held output.held new.output.held old.output.flushed output.flushed new.output.flushed leave.flushed (s.hands.unwritten other) s.hands.stays;
         breaks = λ is. (
           leave_bytes c.in-Ok.next.0,
-          hands_leave old.output.held output.held old.output.handed_on output.handed_on new.output.handed_on (leave_bytes c.in-Ok.next.0) leave.whole leave.handed_on s.hands.stays,
+          hands_leave old.output.held output.held old.output.flushed output.flushed new.output.flushed (leave_bytes c.in-Ok.next.0) leave.whole leave.flushed s.hands.stays,
         );
       };
       faults = record {

@@ -12,7 +12,7 @@ returns-in-Err-clause-serves g c =
       broken = λ is. let wrote : c.body_end.result ≡ WriteFault = cc in absurd (body_reads c.in-Err.stop (sym ended ∙ wrote));
       halted = λ _. record { stop = c.in-Err.stop; leaves = e.stop; end_is = ended; untouched = record { board = e.unchanged; steps_are = e.no_steps; wants_are = refl }; written_is = refl };
       hands = record {
-        handed_on = tt;
+        flushed = tt;
         stays = refl;
         unwritten = λ _. refl;
         write_fault = λ is. let wrote : c.body_end.result ≡ WriteFault = cc in absurd (body_reads c.in-Err.stop (sym ended ∙ wrote));
@@ -29,7 +29,7 @@ returns-in-Ok-send_text-clause-serves g c =
       ok = (c.in-Ok.reply, record { body = r.body; takes = r.takes; serves = r.serves c.args.connection.now.frame.now.path; wants_is = c.count_want-connection.ensures.counted }, e.sends.whole);
       broken = λ is. absurd (cc);
       halted = tt;
-      hands = record { handed_on = e.hands.handed_on; stays = tt; unwritten = tt; write_fault = λ is. absurd (cc); memory = tt };
+      hands = record { flushed = e.hands.flushed; stays = tt; unwritten = tt; write_fault = λ is. absurd (cc); memory = tt };
       never_falls = record { source = c.in-Ok.ensures.source_never_falls; sink = e.hands.never_falls; steps = c.in-Ok.ensures.steps_never_fall; wants = c.count_want-connection.ensures.one; room = c.in-Ok.ensures.room };
     }
 
@@ -41,6 +41,6 @@ returns-in-Err-send_text-clause-serves g c =
       ok = tt;
       broken = λ _. (c.in-Ok.reply, record { body = r.body; takes = r.takes; serves = r.serves c.args.connection.now.frame.now.path; wants_is = c.count_want-connection.ensures.counted }, e.sends.part);
       halted = λ other. absurd (other refl);
-      hands = record { handed_on = tt; stays = e.hands.stays; unwritten = λ other. absurd (other refl); write_fault = λ _. e.hands.failed; memory = λ is. cc };
+      hands = record { flushed = tt; stays = e.hands.stays; unwritten = λ other. absurd (other refl); write_fault = λ _. e.hands.failed; memory = λ is. cc };
       never_falls = record { source = c.in-Ok.ensures.source_never_falls; sink = e.hands.never_falls; steps = c.in-Ok.ensures.steps_never_fall; wants = c.count_want-connection.ensures.one; room = c.in-Ok.ensures.room };
     }

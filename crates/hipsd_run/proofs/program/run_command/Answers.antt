@@ -18,7 +18,7 @@ returns-in-Probe g c =
         counted = done.counted;
         range = done.range;
         untouched = done.untouched;
-        handed_on = done.handed_on;
+        flushed = done.flushed;
         kept = done.kept;
         reads = done.reads;
         end = done.end;
@@ -119,7 +119,7 @@ returns-in-Serve g c =
         run = of_doors
             (λ olds news. RunsServe (g.H.Shelf.files c.args.shelf.now) c.in-Serve.connections (map g.D.Door.connections (take c.in-Serve.places olds))
             (map g.D.Door.connections (take c.in-Serve.places news)) c.run_serve.result (g.K.Sink.held c.args.sink.now) (g.K.Sink.held c.run_serve.new.sink)
-            (g.K.Sink.handed_on c.args.sink.now) (g.K.Sink.handed_on c.run_serve.new.sink))
+            (g.K.Sink.flushed c.args.sink.now) (g.K.Sink.flushed c.run_serve.new.sink))
             _ _ _ _ old new done.run;
         beyond = ap (drop c.in-Serve.places) new ∙ done.beyond ∙ ap (drop c.in-Serve.places) old;
       };
@@ -140,7 +140,7 @@ returns-in-Past g c =
     let done = c.run_past.ensures in
     rw c.in-Past.is
     (record {
-      does = record { run = done.run; over = done.over; handed_on = done.handed_on; unread = done.unread };
+      does = record { run = done.run; over = done.over; flushed = done.flushed; unread = done.unread };
       unused = record { source = is_used; shelf = is_used; files = λ _. done.kept; doors = λ _. refl };
       faults = record {
         not_usage = done.not_usage;

@@ -3,7 +3,7 @@ use Rattle.survey_commands.proofs.mirror.run_mirror.Goals as goal
 
 pub returns-in-Ok-clause-run : goal.returns-in-Ok-clause-run
 returns-in-Ok-clause-run g c =
-    (Ok c.in-Ok.count, (refl, record { copies = c.in-Ok.ensures.copied; handed_on = c.in-Ok.ensures.handed }))
+    (Ok c.in-Ok.count, (refl, record { copies = c.in-Ok.ensures.copied; flushed = c.in-Ok.ensures.flushed }))
 
 pub returns-in-Err-clause-run : goal.returns-in-Err-clause-run
 returns-in-Err-clause-run g c = (

@@ -12,5 +12,5 @@ returns-clause-answered g c = λ input e. record {
 pub returns-clause-over : goal.returns-clause-over
 returns-clause-over g c = (c.past_session-end.result, c.past_session-end.ensures.over, c.past_status.ensures)
 
-pub returns-clause-handed_on : goal.returns-clause-handed_on
-returns-clause-handed_on g c = λ other. c.past_session-end.ensures.handed_on (λ is. other (c.past_status.ensures ∙ ap past_status is))
+pub returns-clause-flushed : goal.returns-clause-flushed
+returns-clause-flushed g c = λ other. c.past_session-end.ensures.flushed (λ is. other (c.past_status.ensures ∙ ap past_status is))

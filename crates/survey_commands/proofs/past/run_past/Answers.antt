@@ -59,5 +59,5 @@ returns-in-Err-clause-over g c = record {
   );
 }
 
-pub returns-in-Err-clause-handed_on : goal.returns-in-Err-clause-handed_on
-returns-in-Err-clause-handed_on g c = λ other. says_hands c.say_why.result _ _ _ _ other c.in-Err.refusal c.say_why.ensures.said
+pub returns-in-Err-clause-flushed : goal.returns-in-Err-clause-flushed
+returns-in-Err-clause-flushed g c = λ other. says_hands c.say_why.result _ _ _ _ other c.in-Err.refusal c.say_why.ensures.said

@@ -21,7 +21,7 @@ returns-in-Ok-clause-run g c =
         subst (λ xs. Serves opened.0 c.args.connections (map g.D.Door.connections xs) (map g.D.Door.connections (take c.args.places (c.serve_state.new.doors ++ split.result.1.now))) c.serve_state.result)
             split.ensures.front
             (subst (λ xs. Serves opened.0 c.args.connections (map g.D.Door.connections split.result.0.now) (map g.D.Door.connections xs) c.serve_state.result) (sym new) served),
-        record { kept = refl; handed_on = refl },
+        record { kept = refl; flushed = refl },
       ),
     )
 

@@ -11,6 +11,6 @@ returns-in_err-written-clause-part g c =
 pub loop-rest-preserved : goal.loop-rest-preserved
 loop-rest-preserved g c = record {
   wrote = rw c.rest_of-rest.ensures (wrote_next _ _ _ _ _ _ c.loop-rest.invariant.wrote c.in_ok-written.ensures.appended);
-  handed = c.write_parts.ensures.handed ∙ c.loop-rest.invariant.handed;
+  flushed = c.write_parts.ensures.flushed ∙ c.loop-rest.invariant.flushed;
   never_falls = omega (arith, c.loop-rest.invariant.never_falls, c.write_parts.ensures.never_falls);
 }

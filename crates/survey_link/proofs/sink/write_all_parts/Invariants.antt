@@ -6,7 +6,7 @@ use Rattle.survey_link.proofs.sink.write_all_parts.Given as goal
 abbrev pub invariant-loop-rest : goal.invariant-loop-rest
 invariant-loop-rest g l = record {
   wrote : Wrote (g.K.Sink.held l.fn.sink) (g.K.Sink.held l.sink) (parts_bytes l.fn.parts) (parts_bytes l.rest);
-  handed : g.K.Sink.handed_on l.sink ≡ g.K.Sink.handed_on l.fn.sink;
+  flushed : g.K.Sink.flushed l.sink ≡ g.K.Sink.flushed l.fn.sink;
   never_falls : g.K.Sink.faults l.fn.sink ≤ g.K.Sink.faults l.sink;
 }
 

@@ -8,13 +8,13 @@ pub returns-in-Ok-clause-sends : goal.returns-in-Ok-clause-sends
 returns-in-Ok-clause-sends g c =
     let inside = c.self.inside in
     let is : c.deref.result.now ≡ past_generation inside.past.conf inside.journal.opening inside.journal.batches c.args.k = c.deref.ensures ∙ c.in-Ok.ensures.found in
-    rw (sym c.self.view_is) (found_sends (arc_value inside.conf) inside.journal inside.past c.args.k c.args.path.now c.self.invariant c.deref.result.now c.send_file.result (record { held = g.K.Sink.held c.args.sink.now; handed_on = g.K.Sink.handed_on c.args.sink.now }) (record { held = g.K.Sink.held c.send_file.new.sink; handed_on = g.K.Sink.handed_on c.send_file.new.sink }) is c.in-Ok.ensures.whole c.send_file.ensures.sends)
+    rw (sym c.self.view_is) (found_sends (arc_value inside.conf) inside.journal inside.past c.args.k c.args.path.now c.self.invariant c.deref.result.now c.send_file.result (record { held = g.K.Sink.held c.args.sink.now; flushed = g.K.Sink.flushed c.args.sink.now }) (record { held = g.K.Sink.held c.send_file.new.sink; flushed = g.K.Sink.flushed c.send_file.new.sink }) is c.in-Ok.ensures.whole c.send_file.ensures.sends)
 
 pub returns-in-Ok-clause-fails : goal.returns-in-Ok-clause-fails
 returns-in-Ok-clause-fails g c =
     let inside = c.self.inside in
     let is : c.deref.result.now ≡ past_generation inside.past.conf inside.journal.opening inside.journal.batches c.args.k = c.deref.ensures ∙ c.in-Ok.ensures.found in
-    rw (sym c.self.view_is) (found_fails (arc_value inside.conf) inside.journal inside.past c.args.k c.args.path.now c.self.invariant c.deref.result.now c.send_file.result (record { held = g.K.Sink.held c.args.sink.now; handed_on = g.K.Sink.handed_on c.args.sink.now }) (record { held = g.K.Sink.held c.send_file.new.sink; handed_on = g.K.Sink.handed_on c.send_file.new.sink }) is c.in-Ok.ensures.whole c.send_file.ensures.fails)
+    rw (sym c.self.view_is) (found_fails (arc_value inside.conf) inside.journal inside.past c.args.k c.args.path.now c.self.invariant c.deref.result.now c.send_file.result (record { held = g.K.Sink.held c.args.sink.now; flushed = g.K.Sink.flushed c.args.sink.now }) (record { held = g.K.Sink.held c.send_file.new.sink; flushed = g.K.Sink.flushed c.send_file.new.sink }) is c.in-Ok.ensures.whole c.send_file.ensures.fails)
 
 pub returns-in-Ok-clause-after : goal.returns-in-Ok-clause-after
 returns-in-Ok-clause-after g c =
@@ -29,12 +29,12 @@ returns-in-Ok-clause-steps g c =
 pub returns-in-Err-clause-sends : goal.returns-in-Err-clause-sends
 returns-in-Err-clause-sends g c =
     let inside = c.self.inside in
-    rw (sym c.self.view_is) (refused_sends (arc_value inside.conf) inside.journal inside.past c.args.k c.args.path.now c.self.invariant c.in-Err.refusal c.send_refusal.result (record { held = g.K.Sink.held c.args.sink.now; handed_on = g.K.Sink.handed_on c.args.sink.now }) (record { held = g.K.Sink.held c.send_refusal.new.sink; handed_on = g.K.Sink.handed_on c.send_refusal.new.sink }) c.in-Err.ensures.refused c.send_refusal.ensures.wants c.send_refusal.ensures.sends)
+    rw (sym c.self.view_is) (refused_sends (arc_value inside.conf) inside.journal inside.past c.args.k c.args.path.now c.self.invariant c.in-Err.refusal c.send_refusal.result (record { held = g.K.Sink.held c.args.sink.now; flushed = g.K.Sink.flushed c.args.sink.now }) (record { held = g.K.Sink.held c.send_refusal.new.sink; flushed = g.K.Sink.flushed c.send_refusal.new.sink }) c.in-Err.ensures.refused c.send_refusal.ensures.wants c.send_refusal.ensures.sends)
 
 pub returns-in-Err-clause-fails : goal.returns-in-Err-clause-fails
 returns-in-Err-clause-fails g c =
     let inside = c.self.inside in
-    rw (sym c.self.view_is) (refused_fails (arc_value inside.conf) inside.journal inside.past c.args.k c.args.path.now c.self.invariant c.in-Err.refusal c.send_refusal.result (record { held = g.K.Sink.held c.args.sink.now; handed_on = g.K.Sink.handed_on c.args.sink.now }) (record { held = g.K.Sink.held c.send_refusal.new.sink; handed_on = g.K.Sink.handed_on c.send_refusal.new.sink }) c.in-Err.ensures.refused c.send_refusal.ensures.wants c.send_refusal.ensures.fails)
+    rw (sym c.self.view_is) (refused_fails (arc_value inside.conf) inside.journal inside.past c.args.k c.args.path.now c.self.invariant c.in-Err.refusal c.send_refusal.result (record { held = g.K.Sink.held c.args.sink.now; flushed = g.K.Sink.flushed c.args.sink.now }) (record { held = g.K.Sink.held c.send_refusal.new.sink; flushed = g.K.Sink.flushed c.send_refusal.new.sink }) c.in-Err.ensures.refused c.send_refusal.ensures.wants c.send_refusal.ensures.fails)
 
 pub returns-in-Err-clause-after : goal.returns-in-Err-clause-after
 returns-in-Err-clause-after g c =
