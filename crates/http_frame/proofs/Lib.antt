@@ -3,10 +3,10 @@ mod DigitSteps
 mod Values
 mod Targets
 mod FirstLine
-mod Held
 mod HeadEnds
 pub mod Fills
-mod ReadingSteps
+pub mod ReadingSteps
+mod Taken
 pub mod Nexts
 pub mod Unique
 mod Stands

@@ -1,6 +1,6 @@
 use Rattle.std.proofs.Common.{arith}
-use Rattle.http_frame.proofs.Held.{rest_after, front_length}
-use Rattle.http_frame.proofs.buffer.Buffer.give.Goals as goal
+use Rattle.survey_link.proofs.Held.{rest_after, front_length}
+use Rattle.survey_link.proofs.inbox.Inbox.give.Goals as goal
 
 pub returns-clause-rest : goal.returns-clause-rest
 returns-clause-rest c =

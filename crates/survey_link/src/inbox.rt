@@ -1,14 +1,15 @@
-//! The bytes that were read of a connection and not yet given.
-ghost use Rattle.std.specs.Prelude.{◌≡◌, ◌+◌, ◌<◌, ◌≤◌, ℕ, List, [], ◌++◌, length, take, drop, Ok, IfOk, OnErr};
+//! The bytes that were read of a source and not yet used.
+ghost use Rattle.std.specs.Prelude.{◌≡◌, ◌+◌, ◌<◌, ◌≤◌, ◌⊎◌, ℕ, List, [], ◌++◌, length, take, drop, Ok, IfOk, OnErr};
 ghost use Rattle.std.specs.Io.KnownBytes.{Consumes, IsAtEnd};
 ghost use Rattle.survey_link.specs.Link.{Rises, readings_after};
 
+use crate::faults::Failed;
+use crate::source::Source;
 use std::alloc::{AllocError, Global};
-use survey_link::{Failed, Source};
 
-/// Bytes from `start` to `end` are held, with room after them.
+/// The bytes that were read of a source and not yet given to whoever uses them, with room for more behind them.
 #[derive(Drop)]
-pub(crate) struct Buffer {
+pub struct Inbox {
     bytes: Vec<u8>,
     start: usize,
     end: usize,
@@ -16,17 +17,21 @@ pub(crate) struct Buffer {
     ghost within: { end ≤ length bytes.items },
 }
 
-impl Buffer {
-    ghost use Rattle.http_frame.specs.Held.{given, held, size};
+impl Inbox {
+    ghost use Rattle.survey_link.specs.Inbox.{given, held, size};
 
-    /// A buffer for so many bytes, which holds none.
-    pub fn new(alloc: Global, capacity: usize) -> Result<Buffer, AllocError>
+    /// An inbox for so many bytes, which holds none.
+    ///
+    /// # Errors
+    ///
+    /// `AllocError` where there is no memory for them.
+    pub fn new(alloc: Global, capacity: usize) -> Result<Inbox, AllocError>
         ensures empty { IfOk result (λ b. held b ≡ []) }
         ensures size { IfOk result (λ b. size b ≡ capacity) }
         ensures places { IfOk result (λ b. (b.start ≡ 0) × (b.end ≡ 0)) }
     {
         let bytes = Vec::from_elem(alloc, 0, capacity)?;
-        Ok(Buffer {
+        Ok(Inbox {
             bytes,
             start: 0,
             end: 0,
@@ -66,6 +71,21 @@ impl Buffer {
         ensures places { (self.new.start ≡ self.old.start + count) × (self.new.end ≡ self.old.end) }
     {
         self.start += count;
+    }
+
+    /// Gives the first bytes to the front of `out`, as many as are held and fit, and answers how many these are.
+    pub fn give_to(&mut self, out: &mut [u8]) -> usize
+        ensures within { result ≤ length out.new }
+        ensures given { take result out.new ++ held self.new ≡ held self.old }
+        ensures all { (held self.new ≡ []) ⊎ (result ≡ length out.new) }
+        ensures len { length out.new ≡ length out.old }
+        ensures size { size self.new ≡ size self.old }
+    {
+        let held = self.held();
+        let count = held.len().min(out.len());
+        out[..count].copy_from_slice(&held[..count]);
+        self.give(count);
+        count
     }
 
     /// The last `count` bytes that were given.

@@ -2,8 +2,8 @@ use Rattle.std.proofs.Common.{arith, take, length, ◌≤◌, ◌-◌, ◌≡◌
 use Rattle.std.proofs.lemmas.Result.{err_from_is_err_and}
 use Rattle.std.proofs.lemmas.Grind.{common_steps}
 use Rattle.std.proofs.lemmas.List.{length-take-le}
-use Rattle.http_frame.proofs.Held.{kept_in, grown_in}
-use Rattle.http_frame.proofs.buffer.Buffer.read.Goals as goal
+use Rattle.survey_link.proofs.Held.{kept_in, grown_in}
+use Rattle.survey_link.proofs.inbox.Inbox.read.Goals as goal
 
 pub returns-in_err-count-clause-kept : goal.returns-in_err-count-clause-kept
 returns-in_err-count-clause-kept g c =
