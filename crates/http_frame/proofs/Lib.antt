@@ -6,7 +6,8 @@ mod FirstLine
 mod HeadEnds
 pub mod Fills
 pub mod ReadingSteps
-mod Taken
+pub mod ReadLemmas
+pub mod Taken
 pub mod Nexts
 pub mod Unique
 mod Stands

@@ -52,19 +52,21 @@ given_whole xs rest k n size (inl none) = inl none
 given_whole xs rest k n size (inr whole) = inr (length-take-le k xs (omega (arith, whole)) ∙ whole ∙ size)
 
 -- what was read behind the bytes that were given was read behind all that were held
-pub reads_behind : {S : Type 0} (left : S → Option (List ℕ)) (readings : S → Option ℕ) (n : ℕ) (front rest all out : List ℕ) (a b : S) (P : Type 0)
+pub reads_behind : {S : Type 0} (left : S → Option (List ℕ)) (readings : S → Option ℕ) (n : ℕ) (front rest all out : List ℕ) (a b : S) (P Q : Type 0)
     → front ++ rest ≡ all → (rest ≡ []) ⊎ (length front ≡ n)
-    → (came : List ℕ) × ReadsWhile left readings (IsShort n) front a b came × (P → out ≡ front ++ came)
-    → (came : List ℕ) × ReadsWhile left readings (IsShort n) all a b came × (P → out ++ rest ≡ all ++ came)
-reads_behind left readings n front rest all out a b P is (inl none) read =
+    → (came : List ℕ) × ReadsWhile left readings (IsShort n) front a b came × (P → out ≡ front ++ came) × (Q → IsShort n (front ++ came))
+    → (came : List ℕ) × ReadsWhile left readings (IsShort n) all a b came × (P → out ++ rest ≡ all ++ came) × (Q → IsShort n (all ++ came))
+reads_behind left readings n front rest all out a b P Q is (inl none) read =
     let same : front ≡ all = sym (append-nil front) ∙ ap (λ r. front ++ r) (sym none) ∙ is in (
       read.0,
       subst (λ held. ReadsWhile left readings (IsShort n) held a b read.0) same read.1,
       λ p. ap (λ r. out ++ r) none ∙ append-nil out ∙ read.2 p ∙ ap (λ bytes. bytes ++ read.0) same,
+      λ q. subst (λ bytes. IsShort n (bytes ++ read.0)) same (read.3 q),
     )
-reads_behind left readings n front rest all out a b P is (inr whole) read =
+reads_behind left readings n front rest all out a b P Q is (inr whole) read =
     let none = reads_full left readings (IsShort n) front read.0 a b read.1 (λ short. omega (arith, short, whole)) in (
       [],
       subst (λ s. ReadsWhile left readings (IsShort n) all a s []) (sym none.0) (reads_none left readings (IsShort n) all a),
       λ p. ap (λ bytes. bytes ++ rest) (read.2 p ∙ ap (λ came. front ++ came) none.1 ∙ append-nil front) ∙ is ∙ sym (append-nil all),
+      λ q. let short : length (front ++ read.0) < n = read.3 q in absurd (omega (arith, short, whole, length-append front read.0)),
     )

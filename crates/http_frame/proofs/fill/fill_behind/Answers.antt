@@ -24,7 +24,9 @@ returns-in-Ok-eq0-clause-needed g c =
     let last =
     filling_last _ _ _ (take c.args.start c.args.out.now) (take c.loop-at.at c.loop-at.out) (take (c.loop-at.at + c.in-Ok-eq0.field-0) c.read_behind.new.bytes) _ _ _
     read.more c.loop-at.invariant.filling short (record { given = read.consumed; counted = c.read_behind.ensures.counted }) read.grown in
-    (last.0, last.1, λ no. cc)
+    let zero : c.in-Ok-eq0.field-0 ≡ 0 = omega (arith, c.in-Ok-eq0.field-0-test) in
+    let taken = length-take-le (c.loop-at.at + c.in-Ok-eq0.field-0) c.read_behind.new.bytes c.in-Ok-eq0.ensures.within in
+    (last.0, last.1, λ no. cc, λ _. omega (arith, ap length last.2, taken, zero, c.loop-at.invariant.len, c.loop-at-test.true))
 
 pub loop-at-preserved : goal.loop-at-preserved
 loop-at-preserved g c =
@@ -52,4 +54,4 @@ returns-in-Err-clause-needed g c =
     [] c.loop-at.invariant.filling short
     (record { given = rw c.in-Err.ensures.kept (consumes_none (g.S.Source.left c.loop-at.src)); counted = c.read_behind.ensures.counted })
     (c.read_behind.ensures.front ∙ sym (append-nil (take c.loop-at.at c.loop-at.out))) in
-    (last.0, last.1, λ no. cc)
+    (last.0, last.1, λ no. cc, λ no. cc)

@@ -7,5 +7,5 @@ pub returns-clause-needed : goal.returns-clause-needed
 returns-clause-needed g c =
     let give = c.give_to-front in
     let size : length give.new.out ≡ length c.args.out.now = give.ensures.len in
-    reads_behind _ _ _ (take give.result give.new.out) (held give.new.self) (held c.args.inbox.now) c.fill_behind.new.out _ _ _
+    reads_behind _ _ _ (take give.result give.new.out) (held give.new.self) (held c.args.inbox.now) c.fill_behind.new.out _ _ _ _
     give.ensures.given (given_whole give.new.out (held give.new.self) give.result _ size give.ensures.all) (rw size at c.fill_behind.ensures.needed)
