@@ -1,5 +1,5 @@
 //! Reading of a connection until a whole head or a whole body is held.
-ghost use Rattle.std.specs.Prelude.{◌≡◌, ◌⊎◌, ◌<◌, ◌≤◌, ◌+◌, ◌-◌, ◌^◌, ℕ, List, [], ◌++◌, length, take, Ok, IfOk, IfErr, OnErr, OnOk, IfSome, IsNone, true, false};
+ghost use Rattle.std.specs.Prelude.{◌≡◌, ◌≢◌, ◌⊎◌, ◌<◌, ◌≤◌, ◌+◌, ◌-◌, ◌^◌, ℕ, List, [], ◌++◌, length, take, Ok, IfOk, IfErr, OnErr, OnOk, IfSome, IsNone, true, false};
 ghost use Rattle.std.specs.Io.KnownBytes.{Consumes, IsAtEnd};
 ghost use Rattle.survey_link.specs.Link.{Rises, readings_after};
 ghost use Rattle.memchr.specs.Find.{OccursAt, Nowhere};
@@ -130,7 +130,7 @@ pub fn take_exact<S: Source>(inbox: &mut Inbox, src: &mut S, out: &mut [u8]) -> 
     ensures taken { result ≡ Ok true → Takes (held inbox.old) (out.new ++ held inbox.new) (S.left src.old) (S.left src.new) }
     ensures cut { result ≡ Ok false → EndsShort (length out.old) (held inbox.old) (S.left src.old) (S.left src.new) }
     ensures needed { (came : List ℕ) × ReadsWhile S.left S.readings (IsShort (length out.old)) (held inbox.old) src.old src.new came
-        × (result ≡ Ok true → out.new ++ held inbox.new ≡ held inbox.old ++ came) × (result ≡ Ok false → IsShort (length out.old) (held inbox.old ++ came)) }
+        × (result ≡ Ok true → out.new ++ held inbox.new ≡ held inbox.old ++ came) × (result ≢ Ok true → IsShort (length out.old) (held inbox.old ++ came)) }
     ensures failed { OnErr result (Rises (S.faults src.old) (S.faults src.new)) }
     ensures never_falls { S.faults src.old ≤ S.faults src.new }
     ensures len { length out.new ≡ length out.old }
@@ -146,7 +146,7 @@ fn fill_behind<S: Source>(src: &mut S, out: &mut [u8], start: usize) -> Result<b
     ensures taken { result ≡ Ok true → Takes (take start out.old) out.new (S.left src.old) (S.left src.new) }
     ensures cut { result ≡ Ok false → EndsShort (length out.old) (take start out.old) (S.left src.old) (S.left src.new) }
     ensures needed { (came : List ℕ) × ReadsWhile S.left S.readings (IsShort (length out.old)) (take start out.old) src.old src.new came
-        × (result ≡ Ok true → out.new ≡ take start out.old ++ came) × (result ≡ Ok false → IsShort (length out.old) (take start out.old ++ came)) }
+        × (result ≡ Ok true → out.new ≡ take start out.old ++ came) × (result ≢ Ok true → IsShort (length out.old) (take start out.old ++ came)) }
     ensures failed { OnErr result (Rises (S.faults src.old) (S.faults src.new)) }
     ensures never_falls { S.faults src.old ≤ S.faults src.new }
     ensures len { length out.new ≡ length out.old }

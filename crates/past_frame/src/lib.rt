@@ -10,4 +10,4 @@ mod reading;
 mod record;
 
 pub use reading::{has_more, read_record};
-pub use record::{Inbox, Record, Stop};
+pub use record::{Record, Stop};

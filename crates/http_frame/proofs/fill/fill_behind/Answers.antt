@@ -54,4 +54,5 @@ returns-in-Err-clause-needed g c =
     [] c.loop-at.invariant.filling short
     (record { given = rw c.in-Err.ensures.kept (consumes_none (g.S.Source.left c.loop-at.src)); counted = c.read_behind.ensures.counted })
     (c.read_behind.ensures.front ∙ sym (append-nil (take c.loop-at.at c.loop-at.out))) in
-    (last.0, last.1, λ no. cc, λ no. cc)
+    let same : length (take c.loop-at.at c.read_behind.new.bytes) ≡ c.loop-at.at = rw c.read_behind.ensures.front held in
+    (last.0, last.1, λ no. cc, λ _. omega (arith, ap length last.2, same, c.loop-at-test.true, c.loop-at.invariant.len))

@@ -29,7 +29,7 @@ returns-in-Ok-false-clause-read g c =
     let size : length c.deref_mut.result.now ≡ c.args.begun.head.length = ap length c.deref_mut.ensures.value ∙ sym c.resize.new.self.ok.0 ∙ c.in_ok-resize.ensures.len in
     let needed = c.take_exact.ensures.needed in
     let ended = c.in-Ok-false.is ∙ rw c.in-Ok-false.field-0-test refl in
-    let short : length (held c.give.new.self ++ needed.0) < length c.deref_mut.result.now = needed.3 ended in (
+    let short : length (held c.give.new.self ++ needed.0) < length c.deref_mut.result.now = needed.3 (λ e. cc) in (
       needed.0,
       cut_while _ _ c.args.due (held c.args.inbox.now) c.args.begun.end _ _ c.requires.begun (held c.give.new.self) c.give.ensures.rest _ size _ _ needed.0 needed.1,
       (
