@@ -3,7 +3,10 @@ pub mod ToldLemmas
 pub mod CoverLemmas
 pub mod LeavesLemmas
 pub mod CompareLemmas
+pub mod StageLemmas
+pub mod LeafStage
 pub mod CopyLemmas
+pub mod DescriptionLemmas
 pub mod StepsLemmas
 pub mod MirrorLemmas
 pub mod HeadLemmas

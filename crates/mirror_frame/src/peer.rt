@@ -21,14 +21,13 @@ pub struct Peer<'s, 'k, S, K> {
 }
 
 impl<'s, 'k, S: Source, K: Sink> Peer<'s, 'k, S, K> {
-    ghost use Rattle.std.specs.Prelude.{◌≤◌, Ok, Err, IfOk, IfErr, OnOk, IfSome, IsErrOf, MatchResult};
-    ghost use Rattle.survey_link.specs.Link.{Rises};
+    ghost use Rattle.std.specs.Prelude.{IfOk, IfErr, OnOk, IfSome, MatchResult};
     ghost use Rattle.survey_link.specs.Inbox.{held};
     ghost use Rattle.mirror_frame.specs.Requests.{HasOrder};
     ghost use Rattle.mirror_frame.specs.Reply.{IsReply, FitsPrefix};
-    ghost use Rattle.mirror_frame.specs.Reading.{StopsReply, TellsPinned, unread};
+    ghost use Rattle.mirror_frame.specs.Reading.{StopsReply, TellsPinned};
     ghost use Rattle.mirror_frame.specs.Exchange.{IsExchanged, BreaksOff};
-    ghost use Rattle.mirror_frame.specs.Peer.{talk, SameEnds, Told};
+    ghost use Rattle.mirror_frame.specs.Peer.{talk, body_of, unread_at, Goes, TellsFault, Told};
 
     /// A conversation over these two ends, before the first request.
     pub fn new(alloc: Global, src: &'s mut S, sink: &'k mut K, inbox: Inbox) -> Peer<'s, 'k, S, K>
@@ -47,7 +46,7 @@ impl<'s, 'k, S: Source, K: Sink> Peer<'s, 'k, S, K> {
 
     /// The body of the last reply.
     pub fn body(&self) -> &[u8]
-        ensures { result.now ≡ self.now.body.items }
+        ensures { result.now ≡ body_of self.now }
     {
         &self.body
     }
@@ -62,17 +61,13 @@ impl<'s, 'k, S: Source, K: Sink> Peer<'s, 'k, S, K> {
     pub fn ask(&mut self, ask: &Ask, due: Due) -> Result<Option<u32>, Stop>
         requires { HasOrder ask.now }
         ensures asked { MatchResult result
-            (λ prefix. IsExchanged S.Source K.Sink ask.now due self.new.body.items (talk self.old) (talk self.new))
+            (λ prefix. IsExchanged S.Source K.Sink ask.now due (body_of self.new) (talk self.old) (talk self.new))
             (λ stop. BreaksOff S.Source K.Sink ask.now due (talk self.old) (talk self.new) stop) }
-        ensures read { OnOk result (Told (unread (held self.old.inbox) (S.left self.old.src.now)) (unread (held self.new.inbox) (S.left self.new.src.now))
-            (λ bytes rest. IsReply due bytes self.new.body.items rest)) }
-        ensures prefix { IfOk result (λ prefix. FitsPrefix due prefix × TellsPinned due self.new.body.items prefix) }
-        ensures stop { IfErr result (λ stop. IfSome (unread (held self.old.inbox) (S.left self.old.src.now)) (λ bytes. StopsReply due bytes stop)) }
-        ensures read_failed { IsErrOf result Stop.ReadFault → Rises (S.faults self.old.src.now) (S.faults self.new.src.now) }
-        ensures write_failed { IsErrOf result Stop.WriteFault → Rises (K.faults self.old.sink.now) (K.faults self.new.sink.now) }
-        ensures reads_never_fall { S.faults self.old.src.now ≤ S.faults self.new.src.now }
-        ensures writes_never_fall { K.faults self.old.sink.now ≤ K.faults self.new.sink.now }
-        ensures same { SameEnds self.old self.new }
+        ensures read { OnOk result (Told (unread_at S.Source self.old) (unread_at S.Source self.new) (λ bytes rest. IsReply due bytes (body_of self.new) rest)) }
+        ensures prefix { IfOk result (λ prefix. FitsPrefix due prefix × TellsPinned due (body_of self.new) prefix) }
+        ensures stop { IfErr result (λ stop. IfSome (unread_at S.Source self.old) (λ bytes. StopsReply due bytes stop)) }
+        ensures faults { IfErr result (TellsFault S.Source K.Sink self.old self.new) }
+        ensures goes { Goes S.Source K.Sink self.old self.new }
     {
         match send(self.sink, ask) {
             Ok(()) => read_reply(&mut self.inbox, self.src, &mut self.body, due),
