@@ -1,12 +1,12 @@
 -- The stages of a copy: which bytes each leads over, and why one stops there.
-use Rattle.std.proofs.Common.{◌≡◌, ◌⊎◌, inl, inr, ℕ, ◌+◌, ◌<◌, ◌≤◌, ◌^◌, true, false, List, [], ◌∷◌, ◌++◌, Option, Some, None, zero, suc, refl, sym, ap, ◌∙◌, subst, arith, length, map, append_assoc}
-use Rattle.std.specs.Prelude.{◌≢◌, nat_lt, if◌then◌else◌, IfSome}
+use Rattle.std.proofs.Common.{◌≡◌, ◌⊎◌, inl, inr, Bool, ℕ, ◌+◌, ◌<◌, ◌≤◌, ◌^◌, true, false, List, [], ◌∷◌, ◌++◌, Option, Some, None, zero, suc, refl, sym, ap, ◌∙◌, subst, arith, length, map, append_assoc}
+use Rattle.std.specs.Prelude.{◌≢◌, ◌||◌, nat_lt, if◌then◌else◌, IfSome}
 use Rattle.std.proofs.lemmas.Bool.Decides.{nat_tests}
 use Rattle.std.specs.Map.{keys_of}
 use Rattle.std.proofs.lemmas.Map.Entries.{length-keys_of}
 use Rattle.survey_link.specs.declared.source.Source as source
 use Rattle.survey_link.specs.declared.sink.Sink as sink
-use Rattle.pyramid_model.specs.Shape.{LeafMap}
+use Rattle.pyramid_model.specs.Shape.{PyramidShape, LeafMap}
 use Rattle.survey_conf.specs.Description.{Description}
 use Rattle.tile_path.specs.declared.path.Path.TheVariants as path
 use Rattle.edit_journal.specs.Leaves.{LeafTiles}
@@ -43,6 +43,9 @@ mosaic_by_count (e ∷ es) = refl
 mosaic_of_some : (n : ℕ) → 0 < n → asks_of_mosaic n ≡ File path.Allsky ∷ []
 mosaic_of_some zero some = absurd (omega (arith, some))
 mosaic_of_some (suc n) some = refl
+
+pub some_ask : (ask : Ask) (more : List Ask) → ask ∷ more ≢ []
+some_ask ask more none = cc
 
 not_empty : {T : Type 0} (xs ys : List T) (y : T) → xs ++ (y ∷ ys) ≢ []
 not_empty [] ys y = λ none. cc
@@ -135,6 +138,17 @@ module _ (k : ℕ) (d : Description) (counted : Option ℕ) where
   unpin_why : (tiles : LeafTiles) (refusal : MirrorRefusal) (bytes u : List ℕ) → Compared bytes k d (leaf_map tiles) u → RefusesReply Any (unpin_request (length tiles)) u refusal → Refuses bytes refusal
   unpin_why tiles refusal bytes u compared why = at_unpin k u d (leaf_map tiles) compared (subst (λ n. RefusesReply Any n u refusal) (last_is tiles) why)
 
+-- ---- how many leaves
+
+or_false : (a b : Bool) → a || b ≡ false → a ≡ false
+or_false true b is = absurd cc
+or_false false b is = refl
+
+pub fits_most : (shape : PyramidShape) (n : ℕ) → is_too_large shape n ≡ false → n ≤ 65000
+fits_most shape n fits =
+    let no : nat_lt 65000 n ≡ false = or_false (nat_lt 65000 n) _ fits in
+    grind (arith, nat_tests)
+
 -- ---- the mosaic
 
 pub mosaic_reached : {S K : Type 0} (told_source : source.Ghosts S) (told_sink : sink.Ghosts K) (k : ℕ) (own : Ask) (leaves : ℕ) (x y : Peer S K) → 0 < leaves → own ≡ File path.Allsky
@@ -164,9 +178,28 @@ mosaic_wrong k d counted tiles made body why few is told (some, inl other) = λ 
     ))
 mosaic_wrong k d counted tiles made body why few is told (some, inr memory) = λ properties counts. inr (inr memory)
 
+pub built_of_body : (why : MirrorRefusal) (P : Type 0) → ((why ≡ Differs path.Properties) × P) ⊎ (why ≡ OutOfMemory) → IsOfBody why
+built_of_body why P (inl other) = rw other.0 tt
+built_of_body why P (inr memory) = rw memory tt
+
+pub mosaic_of_body : (why : MirrorRefusal) (Q P : Type 0) → Q × (((why ≡ Differs path.Allsky) × P) ⊎ (why ≡ OutOfMemory)) → IsOfBody why
+mosaic_of_body why Q P (some, inl other) = rw other.0 tt
+mosaic_of_body why Q P (some, inr memory) = rw memory tt
+
+-- the mosaic of the generation that was built is that of its leaves
+pub mosaic_is : (d : Description) (tiles : LeafTiles) (made : GenerationContent) (body : List ℕ) → made ≡ record { conf = d; prefix = 0; leaves = tiles }
+    → (0 < length made.leaves → body ≡ file_of made.conf (leaf_map made.leaves) path.Allsky) → 0 < length tiles → body ≡ file_of d (leaf_map tiles) path.Allsky
+mosaic_is d tiles made body is same = subst (λ (g : GenerationContent). 0 < length g.leaves → body ≡ file_of g.conf (leaf_map g.leaves) path.Allsky) is same
+
 -- ---- the stages, one after another
 
-module _ {S K : Type 0} (told_source : source.Ghosts S) (told_sink : sink.Ghosts K) (k : ℕ) (d : Description) (counted : Option ℕ) (x : Peer S K) where
+abbrev first_asks : List Ask
+first_asks = Pin ∷ File path.Properties ∷ []
+
+abbrev cover_asks : List Ask
+cover_asks = Pin ∷ File path.Properties ∷ File path.Moc ∷ []
+
+module _ {S K : Type 0} (told_source : source.Ghosts S) (told_sink : sink.Ghosts K) (k : ℕ) (x : Peer S K) where
   -- some of these requests have replies, and one at least has none
   abbrev Short : List Ask → (y : Peer S K) → MirrorRefusal → Type 0
   Short all y why = (r : IsRefusedIn told_source told_sink k all (λ bytes. Refuses bytes why) x y why) × (r.stops.rest ≢ [])
@@ -184,20 +217,15 @@ module _ {S K : Type 0} (told_source : source.Ghosts S) (told_sink : sink.Ghosts
     not_empty first.stops.rest more ask,
   )
 
-  abbrev first_asks : List Ask
-  first_asks = Pin ∷ File path.Properties ∷ []
-
-  abbrev cover_asks : List Ask
-  cover_asks = Pin ∷ File path.Properties ∷ File path.Moc ∷ []
-
   pub stops_at_description : (y : Peer S K) (why : MirrorRefusal) → IsRefusedIn told_source told_sink k first_asks (λ bytes. Refuses bytes why) x y why → IsRefused told_source told_sink x y why
   stops_at_description y why first = refused_as 0 [] (asks 0 []) refl y why (short_before first_asks (File path.Moc) (Unpin ∷ []) y why first)
 
+module _ {S K : Type 0} (told_source : source.Ghosts S) (told_sink : sink.Ghosts K) (k : ℕ) (d : Description) (counted : Option ℕ) (x : Peer S K) where
   pub stops_at_cover : (y z : Peer S K) (why : MirrorRefusal) → Reaches told_source told_sink k first_asks (TellsSurvey k d counted) x y
       → IsRefusedIn told_source told_sink k (File path.Moc ∷ []) (λ bytes. RefusesAt (Survey k) 2 (WrongCover d) bytes why) y z why → IsRefused told_source told_sink x z why
   stops_at_cover y z why before last =
-      refused_as 0 [] (asks 0 []) refl z why
-      (short_before cover_asks Unpin [] z why
+      refused_as told_source told_sink k x 0 [] (asks 0 []) refl z why
+      (short_before told_source told_sink k x cover_asks Unpin [] z why
       (stopped_then told_source told_sink k first_asks (File path.Moc ∷ []) (TellsSurvey k d counted) (λ bytes. RefusesAt (Survey k) 2 (WrongCover d) bytes why) (λ bytes. Refuses bytes why) x y z why
       (cover_why k d counted why) before last))
 
@@ -230,8 +258,8 @@ module _ {S K : Type 0} (told_source : source.Ghosts S) (told_sink : sink.Ghosts
         → IsRefusedIn told_source told_sink k (map (leaf_ask d.shape.top) numbers) (λ bytes. RefusesLeaf k d numbers bytes why) y z why → IsRefused told_source told_sink x z why
     stops_at_leaves y z why before last =
         let behind = one_behind numbers in
-        refused_as d.shape.top numbers (leaf_asks ++ (behind.0 ∷ behind.1)) (ap (λ r. leaf_asks ++ r) (sym behind.2) ∙ all_asks) z why
-        (short_before leaf_asks behind.0 behind.1 z why
+        refused_as told_source told_sink k x d.shape.top numbers (leaf_asks ++ (behind.0 ∷ behind.1)) (ap (λ r. leaf_asks ++ r) (sym behind.2) ∙ all_asks) z why
+        (short_before told_source told_sink k x leaf_asks behind.0 behind.1 z why
         (stopped_then told_source told_sink k cover_asks (map (leaf_ask d.shape.top) numbers) (TellsCovered k d counted numbers) (λ bytes. RefusesLeaf k d numbers bytes why) (λ bytes. Refuses bytes why) x y z why
         (leaf_why k d counted numbers why) before last))
 
@@ -250,9 +278,9 @@ module _ {S K : Type 0} (told_source : source.Ghosts S) (told_sink : sink.Ghosts
           → (0 < length tiles) × IsRefusedIn told_source told_sink k (File path.Allsky ∷ []) (λ bytes. RefusesReply (Survey k) (3 + length tiles) bytes why) y z why → IsRefused told_source told_sink x z why
       stops_at_mosaic y z why before last =
           let one : File path.Allsky ∷ [] ≡ mosaic_asks numbers = sym (mosaic_of_some (length tiles) last.0) ∙ mosaic_same in
-          refused_as d.shape.top numbers ((leaf_asks ++ (File path.Allsky ∷ [])) ++ (Unpin ∷ []))
+          refused_as told_source told_sink k x d.shape.top numbers ((leaf_asks ++ (File path.Allsky ∷ [])) ++ (Unpin ∷ []))
           (append_assoc leaf_asks (File path.Allsky ∷ []) (Unpin ∷ []) ∙ ap (λ r. leaf_asks ++ (r ++ (Unpin ∷ []))) one ∙ all_asks) z why
-          (short_before (leaf_asks ++ (File path.Allsky ∷ [])) Unpin [] z why
+          (short_before told_source told_sink k x (leaf_asks ++ (File path.Allsky ∷ [])) Unpin [] z why
           (stopped_then told_source told_sink k leaf_asks (File path.Allsky ∷ []) (TellsTiles k d counted (leaf_map tiles)) (λ bytes. RefusesReply (Survey k) (3 + length tiles) bytes why) (λ bytes. Refuses bytes why) x y z why
           (mosaic_why k d counted tiles why last.0) before last.1))
 
@@ -276,8 +304,8 @@ module _ {S K : Type 0} (told_source : source.Ghosts S) (told_sink : sink.Ghosts
       pub stops_at_files : (body : List ℕ) (y : Peer S K) (why : MirrorRefusal) → IsOfBody why → FilesWrong k d counted tiles body why → Reaches told_source told_sink k files_asks (Came body) x y
           → IsRefused told_source told_sink x y why
       stops_at_files body y why of_body wrong before =
-          refused_as d.shape.top numbers (files_asks ++ (Unpin ∷ [])) whole_asks y why
-          (short_before files_asks Unpin [] y why (refused_here told_source told_sink k files_asks (Came body) (λ bytes. Refuses bytes why) x y why of_body (by (unread_at told_source x) (unread_at told_source y) before.told) before))
+          refused_as told_source told_sink k x d.shape.top numbers (files_asks ++ (Unpin ∷ [])) whole_asks y why
+          (short_before told_source told_sink k x files_asks Unpin [] y why (refused_here told_source told_sink k files_asks (Came body) (λ bytes. Refuses bytes why) x y why of_body (by (unread_at told_source x) (unread_at told_source y) before.told) before))
         where
           by : (a b : Option (List ℕ)) → Told a b (Came body) → IfSome a (λ bytes. Refuses bytes why)
           by None b told = tt
@@ -297,7 +325,7 @@ module _ {S K : Type 0} (told_source : source.Ghosts S) (told_sink : sink.Ghosts
         pub stops_at_unpin : (why : MirrorRefusal) → (r : IsRefusedIn told_source told_sink k (Unpin ∷ []) (λ bytes. RefusesReply Any (unpin_request (length tiles)) bytes why) y z why) → r.stops.rest ≢ []
             → IsRefused told_source told_sink x z why
         stops_at_unpin why last short =
-            refused_as d.shape.top numbers (files_asks ++ (Unpin ∷ [])) whole_asks z why (
+            refused_as told_source told_sink k x d.shape.top numbers (files_asks ++ (Unpin ∷ [])) whole_asks z why (
               stopped_then told_source told_sink k files_asks (Unpin ∷ []) (λ bytes rest. Compared bytes k d (leaf_map tiles) rest) (λ bytes. RefusesReply Any (unpin_request (length tiles)) bytes why) (λ bytes. Refuses bytes why) x y z why
                   (unpin_why k d counted tiles why) compared last,
               short,

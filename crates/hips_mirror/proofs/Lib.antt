@@ -8,6 +8,7 @@ pub mod LeafStage
 pub mod CopyLemmas
 pub mod DescriptionLemmas
 pub mod StepsLemmas
+pub mod OrderLemmas
 pub mod MirrorLemmas
 pub mod HeadLemmas
 pub mod OnceLemmas

@@ -79,3 +79,10 @@ pinned_told k body prefix a b is line told =
 -- what holds of a refusal holds of the one that was given
 pub of_err : {T E : Type 0} (r : Result T E) (e : E) (P : E → Type 0) → r ≡ Err e → IfErr r P → P e
 of_err r e P is holds = subst (λ q. IfErr q P) is holds
+
+pub of_ok : {T E : Type 0} (r : Result T E) (t : T) (P : T → Type 0) → r ≡ Ok t → IfOk r P → P t
+of_ok r t P is holds = subst (λ q. IfOk q P) is holds
+
+pub given_ok : {T E : Type 0} (r : Result T E) (X : Type 0) → OnOk r X → IfOk r (λ _. X)
+given_ok (Ok t) X x = x
+given_ok (Err e) X x = tt

@@ -24,7 +24,7 @@ use survey_link::{Sink, Source};
 /// `ReadFault` and `WriteFault` only where that count rose; `OutOfMemory`.
 pub(crate) fn ask<R: Log, S: Source, K: Sink>(
     rt: &R,
-    peer: &mut Peer<'_, '_, S, K>,
+    peer: &mut Peer<'_, '_, '_, S, K>,
     request: &Request,
     due: Due,
 ) -> Result<Option<u32>, MirrorRefusal>

@@ -41,7 +41,7 @@ use tile_pixels::Tile;
 /// As `ask`.
 pub(crate) fn read_mosaic<R: Log, S: Source, K: Sink>(
     rt: &R,
-    peer: &mut Peer<'_, '_, S, K>,
+    peer: &mut Peer<'_, '_, '_, S, K>,
     pinned: u32,
     leaves: usize,
 ) -> Result<(), MirrorRefusal>

@@ -5,7 +5,7 @@ ghost use Rattle.std.specs.Map.{keys_of};
 ghost use Rattle.std.specs.Io.KnownBytes.{Appends};
 ghost use Rattle.survey_link.specs.Link.{Rises};
 ghost use Rattle.mirror_frame.specs.Requests.{asks, mirror_requests};
-ghost use Rattle.mirror_frame.specs.Peer.{unread_at};
+ghost use Rattle.mirror_frame.specs.Peer.{unread_at, Goes};
 ghost use Rattle.generation.specs.Files.{leaf_map, files_in};
 ghost use Rattle.generation.specs.Steps.{tiles_above};
 ghost use Rattle.shelf_io.specs.Survey.{Replaces, OthersStay};
@@ -21,15 +21,14 @@ use crate::leaves::read_leaves;
 use crate::refusal::MirrorRefusal;
 use crate::saying::{Request, say_refused};
 use generation::Generation;
-use http_frame::MAX_HEAD;
 use log::Log;
-use mirror_frame::{Due, Peer};
+use mirror_frame::{Due, Peer, Received};
 use parent_rule::Steps;
 use shelf_io::export;
 use std::alloc::Global;
 use std::thread::Threads;
 use std::time::Clock;
-use survey_link::{Gate, Inbox, LinkFault, Shelf, Sink, Source};
+use survey_link::{Gate, LinkFault, Shelf, Sink, Source};
 
 /// Copies one published state of a peer's survey onto the shelf, and answers how many files these are. It has the peer's newest
 /// state held, reads its description, its coverage, its leaves one after another, and its mosaic, builds all files of the leaves
@@ -122,8 +121,12 @@ fn copy<R: Threads + Sync + Clock + Log, S: Source, K: Sink, G: Gate + Sync>(
     ensures steps { OnErr result ((steps.new ≡ steps.old) ⊎ StepsFit (S.left src.old) steps.old steps.new) }
     ensures steps_never_fall { steps.old ≤ steps.new }
 {
-    let inbox = Inbox::new(alloc, MAX_HEAD)?;
-    let mut peer = Peer::new(alloc, src, sink, inbox);
+    let mut received = Received::new(alloc)?;
+    let mut peer = Peer {
+        src,
+        sink,
+        received: &mut received,
+    };
     copy_from(rt, alloc, &mut peer, gate, steps)
 }
 
@@ -131,7 +134,7 @@ fn copy<R: Threads + Sync + Clock + Log, S: Source, K: Sink, G: Gate + Sync>(
 fn copy_from<R: Threads + Sync + Clock + Log, S: Source, K: Sink, G: Gate + Sync>(
     rt: &R,
     alloc: Global,
-    peer: &mut Peer<'_, '_, S, K>,
+    peer: &mut Peer<'_, '_, '_, S, K>,
     gate: &G,
     steps: &mut Steps,
 ) -> Result<Generation, MirrorRefusal>
@@ -139,6 +142,7 @@ fn copy_from<R: Threads + Sync + Clock + Log, S: Source, K: Sink, G: Gate + Sync
         (λ bytes rest. IsCopy bytes made.conf (leaf_map made.leaves)) peer.old peer.new) }
     ensures fits { IfOk result (λ made. is_too_large made.conf.shape (length made.leaves) ≡ false) }
     ensures refused { IfErr result (IsRefused S.Source K.Sink peer.old peer.new) }
+    ensures goes { Goes S.Source K.Sink peer.old peer.new }
     ensures few { IfOk result (λ made. steps.new ≤ steps.old + (length made.leaves + tiles_above made.conf.shape (leaf_map made.leaves))) }
     ensures steps { OnErr result ((steps.new ≡ steps.old) ⊎ StepsFit (unread_at S.Source peer.old) steps.old steps.new) }
     ensures steps_never_fall { steps.old ≤ steps.new }

@@ -34,7 +34,7 @@ const MOST_LEAVES: u64 = 65_000;
 pub(crate) fn read_cover<R: Log, S: Source, K: Sink>(
     rt: &R,
     alloc: Global,
-    peer: &mut Peer<'_, '_, S, K>,
+    peer: &mut Peer<'_, '_, '_, S, K>,
     survey: &Survey,
 ) -> Result<Vec<u64>, MirrorRefusal>
     ensures reached { IfOk result (λ numbers. Reaches S.Source K.Sink survey.now.pinned (File Moc ∷ []) (TellsCover survey.now.pinned survey.now.conf numbers.items) peer.old peer.new) }

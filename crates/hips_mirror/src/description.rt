@@ -38,7 +38,7 @@ pub(crate) struct Survey {
 pub(crate) fn read_description<R: Log, S: Source, K: Sink>(
     rt: &R,
     alloc: Global,
-    peer: &mut Peer<'_, '_, S, K>,
+    peer: &mut Peer<'_, '_, '_, S, K>,
 ) -> Result<Survey, MirrorRefusal>
     ensures reached { IfOk result (λ survey. Reaches S.Source K.Sink survey.pinned (Pin ∷ File Properties ∷ [])
         (TellsSurvey survey.pinned survey.conf survey.counted) peer.old peer.new) }
@@ -52,7 +52,7 @@ pub(crate) fn read_description<R: Log, S: Source, K: Sink>(
 // Has the newest state held, and answers how many edits are published in it.
 fn pin<R: Log, S: Source, K: Sink>(
     rt: &R,
-    peer: &mut Peer<'_, '_, S, K>,
+    peer: &mut Peer<'_, '_, '_, S, K>,
 ) -> Result<u32, MirrorRefusal>
     ensures reached { IfOk result (λ k. Reaches S.Source K.Sink k (Pin ∷ []) (λ bytes rest. IsReply Pinned bytes (pinned_line k) rest) peer.old peer.new) }
     ensures refused { IfErr result (λ refusal. IsRefusedIn S.Source K.Sink 0 (Pin ∷ []) (λ bytes. RefusesReply Pinned 0 bytes refusal) peer.old peer.new refusal) }
@@ -67,7 +67,7 @@ fn pin<R: Log, S: Source, K: Sink>(
 fn read_properties<R: Log, S: Source, K: Sink>(
     rt: &R,
     alloc: Global,
-    peer: &mut Peer<'_, '_, S, K>,
+    peer: &mut Peer<'_, '_, '_, S, K>,
     pinned: u32,
 ) -> Result<Survey, MirrorRefusal>
     ensures pinned { IfOk result (λ survey. survey.pinned ≡ pinned) }

@@ -39,7 +39,7 @@ use tile_pixels::Tile;
 pub(crate) fn read_leaves<R: Clock + Log, S: Source, K: Sink>(
     rt: &R,
     alloc: Global,
-    peer: &mut Peer<'_, '_, S, K>,
+    peer: &mut Peer<'_, '_, '_, S, K>,
     survey: &Survey,
     numbers: &[u64],
     steps: &mut Steps,

@@ -12,15 +12,15 @@ use Rattle.mirror_frame.specs.declared.peer.Peer.{Peer}
 
 -- the conversation with it, at this moment
 abbrev pub talk : {S K : Type 0} → Peer S K → Talk S K
-talk peer = record { src = peer.src.now; sink = peer.sink.now; held = held peer.inbox }
+talk peer = record { src = peer.src.now; sink = peer.sink.now; held = held peer.received.now.inbox }
 
 -- the body of the last reply
 abbrev pub body_of : {S K : Type 0} → Peer S K → List ℕ
-body_of peer = peer.body.items
+body_of peer = peer.received.now.body.items
 
 -- the unread bytes: those held and those left, where the source tells them
 abbrev pub unread_at : {S K : Type 0} → source.Ghosts S → Peer S K → Option (List ℕ)
-unread_at told peer = unread (held peer.inbox) (told.left peer.src.now)
+unread_at told peer = unread (held peer.received.now.inbox) (told.left peer.src.now)
 
 -- what holds of any two moments, one after the other: no count of faults falls, and the ends are the same
 pub record Goes {S K : Type 0} (told_source : source.Ghosts S) (told_sink : sink.Ghosts K) (old new : Peer S K) : Type 0 where

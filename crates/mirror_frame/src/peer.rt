@@ -6,21 +6,72 @@ ghost use Rattle.http_frame.specs.Next.{most_head};
 use crate::ask::{Ask, send};
 use crate::due::Due;
 use crate::reading::{Stop, read_reply};
-use std::alloc::Global;
+use http_frame::MAX_HEAD;
+use std::alloc::{AllocError, Global};
 use survey_link::{Failed, Inbox, Sink, Source};
 
-/// A conversation with a peer: what is read from it and written to it, what came and belongs to no reply yet, and the body of
-/// the last reply.
+/// What came of a peer.
 #[derive(Drop)]
-pub struct Peer<'s, 'k, S, K> {
-    src: &'s mut S,
-    sink: &'k mut K,
+pub struct Received {
+    // What belongs to no reply yet, with room for a head.
     inbox: Inbox,
+    // The body of the last reply.
     body: Vec<u8>,
     ghost room: { size inbox ≡ most_head },
 }
 
-impl<'s, 'k, S: Source, K: Sink> Peer<'s, 'k, S, K> {
+impl Received {
+    ghost use Rattle.std.specs.Prelude.{[], IfOk};
+    ghost use Rattle.survey_link.specs.Inbox.{held};
+
+    /// Nothing came.
+    ///
+    /// # Errors
+    ///
+    /// `AllocError` where there is no memory for the longest head.
+    pub fn new(alloc: Global) -> Result<Received, AllocError>
+        ensures { IfOk result (λ received. held received.inbox ≡ []) }
+    {
+        let inbox = Inbox::new(alloc, MAX_HEAD)?;
+        Ok(Received {
+            inbox,
+            body: Vec::new(alloc),
+        })
+    }
+}
+
+impl Received {
+    ghost use Rattle.std.specs.Prelude.{◌++◌, ℕ, List};
+    ghost use Rattle.std.specs.Prelude.{◌≤◌, IsErrOf};
+    ghost use Rattle.survey_link.specs.Link.{Rises};
+    ghost use Rattle.survey_link.specs.Inbox.{held};
+    ghost use Rattle.http_frame.specs.Readings.{ReadsWhile};
+    ghost use Rattle.mirror_frame.specs.Reply.{IsCutReply};
+    ghost use Rattle.mirror_frame.specs.Reading.{ReadsReply};
+
+    // Reads the next reply, and answers its Survey-Prefix.
+    fn read<S: Source>(&mut self, src: &mut S, due: Due) -> Result<Option<u32>, Stop>
+        ensures read { (came : List ℕ) × ReadsWhile S.left S.readings (IsCutReply due) (held self.old.inbox) src.old src.new came
+            × ReadsReply due (held self.old.inbox ++ came) self.new.body.items (held self.new.inbox) (S.left src.new) result }
+        ensures failed { IsErrOf result Stop.ReadFault → Rises (S.faults src.old) (S.faults src.new) }
+        ensures never_falls { S.faults src.old ≤ S.faults src.new }
+    {
+        read_reply(&mut self.inbox, src, &mut self.body, due)
+    }
+}
+
+/// A conversation with a peer: what is read from it, what it is sent, and what came. Each is lent for a time of its own.
+#[derive(Drop)]
+pub struct Peer<'s, 'k, 'r, S, K> {
+    /// What the peer sends.
+    pub src: &'s mut S,
+    /// What it is sent.
+    pub sink: &'k mut K,
+    /// What came of it.
+    pub received: &'r mut Received,
+}
+
+impl<S: Source, K: Sink> Peer<'_, '_, '_, S, K> {
     ghost use Rattle.std.specs.Prelude.{IfOk, IfErr, OnOk, IfSome, MatchResult};
     ghost use Rattle.survey_link.specs.Inbox.{held};
     ghost use Rattle.mirror_frame.specs.Requests.{HasOrder};
@@ -29,26 +80,11 @@ impl<'s, 'k, S: Source, K: Sink> Peer<'s, 'k, S, K> {
     ghost use Rattle.mirror_frame.specs.Exchange.{IsExchanged, BreaksOff};
     ghost use Rattle.mirror_frame.specs.Peer.{talk, body_of, unread_at, Goes, TellsFault, Told};
 
-    /// A conversation over these two ends, before the first request.
-    pub fn new(alloc: Global, src: &'s mut S, sink: &'k mut K, inbox: Inbox) -> Peer<'s, 'k, S, K>
-        requires { size inbox ≡ most_head }
-        ensures talk { talk result ≡ record { src = src.old; sink = sink.old; held = held inbox } }
-        ensures same_source { result.src.ghost_name ≡ src.entry.ghost_name }
-        ensures same_sink { result.sink.ghost_name ≡ sink.entry.ghost_name }
-    {
-        Peer {
-            src,
-            sink,
-            inbox,
-            body: Vec::new(alloc),
-        }
-    }
-
     /// The body of the last reply.
     pub fn body(&self) -> &[u8]
         ensures { result.now ≡ body_of self.now }
     {
-        &self.body
+        &self.received.body
     }
 
     /// Sends a request, flushes it, and reads its reply, in whatever pieces its bytes come: what came behind it stays held. It
@@ -70,7 +106,7 @@ impl<'s, 'k, S: Source, K: Sink> Peer<'s, 'k, S, K> {
         ensures goes { Goes S.Source K.Sink self.old self.new }
     {
         match send(self.sink, ask) {
-            Ok(()) => read_reply(&mut self.inbox, self.src, &mut self.body, due),
+            Ok(()) => self.received.read(self.src, due),
             Err(Failed) => Err(Stop::WriteFault),
         }
     }
