@@ -2,4 +2,4 @@ mod Lines
 mod Heads
 mod Replies
 mod OneReply
-mod Exchanges
+pub mod Exchanges

@@ -1,5 +1,5 @@
 -- A conversation with a peer: one request after another, each with its reply.
-use Rattle.std.specs.Prelude.{◌≡◌, ℕ, List, [], ◌∷◌, ◌++◌, Err}
+use Rattle.std.specs.Prelude.{◌≡◌, ◌⊎◌, ℕ, List, [], ◌∷◌, ◌++◌, Err}
 use Rattle.std.specs.Io.KnownBytes.{Appends}
 use Rattle.survey_link.specs.Link.{AppendsPrefix}
 use Rattle.survey_link.specs.declared.source.Source as source
@@ -60,3 +60,17 @@ module _ {S K : Type 0} (told_source : source.Ghosts S) (told_sink : sink.Ghosts
   abbrev pub Converses : ℕ → List Ask → Talk S K → Talk S K → Type 0
   Converses k [] old new = new ≡ old
   Converses k (ask ∷ asks) old new = (mid : Talk S K) × (body : List ℕ) × IsExchanged ask (due_of k ask) body old mid × Converses k asks mid new
+
+  -- what came of the next of these requests: it was not begun, or it has no reply for one of these reasons
+  abbrev pub LastOf : ℕ → (Stop → Type 0) → Type 0 → List Ask → Talk S K → Talk S K → Type 0
+  LastOf k Fits NotBegun [] old new = (new ≡ old) × NotBegun
+  LastOf k Fits NotBegun (ask ∷ rest) old new = ((new ≡ old) × NotBegun) ⊎ ((stop : Stop) × Fits stop × BreaksOff ask (due_of k ask) old new stop)
+
+  -- some first ones of these requests have their replies, and what was begun behind them is at most the next one
+  pub record StopsIn (k : ℕ) (Fits : Stop → Type 0) (NotBegun : Type 0) (asks : List Ask) (old new : Talk S K) : Type 0 where
+    pub done : List Ask
+    pub rest : List Ask
+    pub are : asks ≡ done ++ rest
+    pub mid : Talk S K
+    pub conversed : Converses k done old mid
+    pub last : LastOf k Fits NotBegun rest mid new

@@ -13,5 +13,5 @@ mod reading;
 
 pub use ask::Ask;
 pub use due::Due;
-pub use peer::Peer;
+pub use peer::{Peer, Received};
 pub use reading::Stop;

@@ -6,50 +6,85 @@ ghost use Rattle.http_frame.specs.Next.{most_head};
 use crate::ask::{Ask, send};
 use crate::due::Due;
 use crate::reading::{Stop, read_reply};
-use std::alloc::Global;
+use http_frame::MAX_HEAD;
+use std::alloc::{AllocError, Global};
 use survey_link::{Failed, Inbox, Sink, Source};
 
-/// A conversation with a peer: what is read from it and written to it, what came and belongs to no reply yet, and the body of
-/// the last reply.
+/// What came of a peer.
 #[derive(Drop)]
-pub struct Peer<'s, 'k, S, K> {
-    src: &'s mut S,
-    sink: &'k mut K,
+pub struct Received {
+    // What belongs to no reply yet, with room for a head.
     inbox: Inbox,
+    // The body of the last reply.
     body: Vec<u8>,
     ghost room: { size inbox ≡ most_head },
 }
 
-impl<'s, 'k, S: Source, K: Sink> Peer<'s, 'k, S, K> {
-    ghost use Rattle.std.specs.Prelude.{◌≤◌, Ok, Err, IfOk, IfErr, OnOk, IfSome, IsErrOf, MatchResult};
+impl Received {
+    ghost use Rattle.std.specs.Prelude.{[], IfOk};
+    ghost use Rattle.survey_link.specs.Inbox.{held};
+
+    /// Nothing came.
+    ///
+    /// # Errors
+    ///
+    /// `AllocError` where there is no memory for the longest head.
+    pub fn new(alloc: Global) -> Result<Received, AllocError>
+        ensures { IfOk result (λ received. held received.inbox ≡ []) }
+    {
+        let inbox = Inbox::new(alloc, MAX_HEAD)?;
+        Ok(Received {
+            inbox,
+            body: Vec::new(alloc),
+        })
+    }
+}
+
+impl Received {
+    ghost use Rattle.std.specs.Prelude.{◌++◌, ℕ, List};
+    ghost use Rattle.std.specs.Prelude.{◌≤◌, IsErrOf};
     ghost use Rattle.survey_link.specs.Link.{Rises};
+    ghost use Rattle.survey_link.specs.Inbox.{held};
+    ghost use Rattle.http_frame.specs.Readings.{ReadsWhile};
+    ghost use Rattle.mirror_frame.specs.Reply.{IsCutReply};
+    ghost use Rattle.mirror_frame.specs.Reading.{ReadsReply};
+
+    // Reads the next reply, and answers its Survey-Prefix.
+    fn read<S: Source>(&mut self, src: &mut S, due: Due) -> Result<Option<u32>, Stop>
+        ensures read { (came : List ℕ) × ReadsWhile S.left S.readings (IsCutReply due) (held self.old.inbox) src.old src.new came
+            × ReadsReply due (held self.old.inbox ++ came) self.new.body.items (held self.new.inbox) (S.left src.new) result }
+        ensures failed { IsErrOf result Stop.ReadFault → Rises (S.faults src.old) (S.faults src.new) }
+        ensures never_falls { S.faults src.old ≤ S.faults src.new }
+    {
+        read_reply(&mut self.inbox, src, &mut self.body, due)
+    }
+}
+
+/// A conversation with a peer: what is read from it, what it is sent, and what came. Each is lent for a time of its own.
+#[derive(Drop)]
+pub struct Peer<'s, 'k, 'r, S, K> {
+    /// What the peer sends.
+    pub src: &'s mut S,
+    /// What it is sent.
+    pub sink: &'k mut K,
+    /// What came of it.
+    pub received: &'r mut Received,
+}
+
+impl<S: Source, K: Sink> Peer<'_, '_, '_, S, K> {
+    ghost use Rattle.std.specs.Prelude.{IfOk, IfErr, OnOk, IfSome, MatchResult};
     ghost use Rattle.survey_link.specs.Inbox.{held};
     ghost use Rattle.mirror_frame.specs.Requests.{HasOrder};
     ghost use Rattle.mirror_frame.specs.Reply.{IsReply, FitsPrefix};
-    ghost use Rattle.mirror_frame.specs.Reading.{StopsReply, TellsPinned, unread};
+    ghost use Rattle.mirror_frame.specs.Reading.{StopsReply, TellsPinned};
     ghost use Rattle.mirror_frame.specs.Exchange.{IsExchanged, BreaksOff};
-    ghost use Rattle.mirror_frame.specs.Peer.{talk, SameEnds, Told};
-
-    /// A conversation over these two ends, before the first request.
-    pub fn new(alloc: Global, src: &'s mut S, sink: &'k mut K, inbox: Inbox) -> Peer<'s, 'k, S, K>
-        requires { size inbox ≡ most_head }
-        ensures talk { talk result ≡ record { src = src.old; sink = sink.old; held = held inbox } }
-        ensures same_source { result.src.ghost_name ≡ src.entry.ghost_name }
-        ensures same_sink { result.sink.ghost_name ≡ sink.entry.ghost_name }
-    {
-        Peer {
-            src,
-            sink,
-            inbox,
-            body: Vec::new(alloc),
-        }
-    }
+    ghost use Rattle.mirror_frame.specs.Peer.{talk, body_of, unread_at, Goes, TellsFault, Told};
 
     /// The body of the last reply.
     pub fn body(&self) -> &[u8]
-        ensures { result.now ≡ self.now.body.items }
+        ensures { result.now ≡ body_of self.now }
     {
-        &self.body
+        &self.received.body
     }
 
     /// Sends a request, flushes it, and reads its reply, in whatever pieces its bytes come: what came behind it stays held. It
@@ -62,20 +97,16 @@ impl<'s, 'k, S: Source, K: Sink> Peer<'s, 'k, S, K> {
     pub fn ask(&mut self, ask: &Ask, due: Due) -> Result<Option<u32>, Stop>
         requires { HasOrder ask.now }
         ensures asked { MatchResult result
-            (λ prefix. IsExchanged S.Source K.Sink ask.now due self.new.body.items (talk self.old) (talk self.new))
+            (λ prefix. IsExchanged S.Source K.Sink ask.now due (body_of self.new) (talk self.old) (talk self.new))
             (λ stop. BreaksOff S.Source K.Sink ask.now due (talk self.old) (talk self.new) stop) }
-        ensures read { OnOk result (Told (unread (held self.old.inbox) (S.left self.old.src.now)) (unread (held self.new.inbox) (S.left self.new.src.now))
-            (λ bytes rest. IsReply due bytes self.new.body.items rest)) }
-        ensures prefix { IfOk result (λ prefix. FitsPrefix due prefix × TellsPinned due self.new.body.items prefix) }
-        ensures stop { IfErr result (λ stop. IfSome (unread (held self.old.inbox) (S.left self.old.src.now)) (λ bytes. StopsReply due bytes stop)) }
-        ensures read_failed { IsErrOf result Stop.ReadFault → Rises (S.faults self.old.src.now) (S.faults self.new.src.now) }
-        ensures write_failed { IsErrOf result Stop.WriteFault → Rises (K.faults self.old.sink.now) (K.faults self.new.sink.now) }
-        ensures reads_never_fall { S.faults self.old.src.now ≤ S.faults self.new.src.now }
-        ensures writes_never_fall { K.faults self.old.sink.now ≤ K.faults self.new.sink.now }
-        ensures same { SameEnds self.old self.new }
+        ensures read { OnOk result (Told (unread_at S.Source self.old) (unread_at S.Source self.new) (λ bytes rest. IsReply due bytes (body_of self.new) rest)) }
+        ensures prefix { IfOk result (λ prefix. FitsPrefix due prefix × TellsPinned due (body_of self.new) prefix) }
+        ensures stop { IfErr result (λ stop. IfSome (unread_at S.Source self.old) (λ bytes. StopsReply due bytes stop)) }
+        ensures faults { IfErr result (TellsFault S.Source K.Sink self.old self.new) }
+        ensures goes { Goes S.Source K.Sink self.old self.new }
     {
         match send(self.sink, ask) {
-            Ok(()) => read_reply(&mut self.inbox, self.src, &mut self.body, due),
+            Ok(()) => self.received.read(self.src, due),
             Err(Failed) => Err(Stop::WriteFault),
         }
     }
