@@ -9,6 +9,7 @@ pub mod Truncated
 pub mod Steps
 pub mod ReadLemmas
 pub mod ReadRequests
+pub mod InOrder
 pub mod Flushed
 pub mod Sessions
 pub mod OneKind

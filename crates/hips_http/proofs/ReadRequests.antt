@@ -57,6 +57,11 @@ behind_body held came body held' (Some xs) None some gone told = absurd gone
 behind_body held came body held' (Some xs) (Some ys) some gone told =
     append_cancel_right (held ++ came) (body ++ held') ys (append_assoc held came ys ∙ ap (λ (b : List ℕ). held ++ b) (sym gone) ∙ told ∙ sym (append_assoc body held' ys))
 
+-- the bytes that came are fewer requests than these, none of which asked to close, and the beginning of one more
+pub record NeedsAmong (room most : ℕ) (came : List ℕ) : Type 0 where
+  pub next : NeedsNext room came
+  pub fewer : length next.requests < most
+
 module _ {S : Type 0} (left : S → Option (List ℕ)) (readings : S → Option ℕ) (room : ℕ) where
   -- ---- one request
 
@@ -95,7 +100,7 @@ module _ {S : Type 0} (left : S → Option (List ℕ)) (readings : S → Option 
   -- what was read so far: so many requests of which none asked to close, and the bytes held
   pub record HasRead (count : ℕ) (held : List ℕ) (old now : S) : Type 0 where
     pub came : List ℕ
-    pub reads : ReadsWhile left readings (NeedsNext room) [] old now came
+    pub reads : ReadsWhile left readings (NeedsAmong room count) [] old now came
     pub gave : AllGave reads.pieces
     pub requests : List Asking
     pub are_requests : AreRequests room came requests held
@@ -105,7 +110,7 @@ module _ {S : Type 0} (left : S → Option (List ℕ)) (readings : S → Option 
   pub has_read_none : (held : List ℕ) (s : S) → held ≡ [] → HasRead 0 held s s
   has_read_none held s none = record {
     came = [];
-    reads = reads_none left readings (NeedsNext room) [] s;
+    reads = reads_none left readings (NeedsAmong room 0) [] s;
     gave = tt;
     requests = [];
     are_requests = none;
@@ -115,23 +120,31 @@ module _ {S : Type 0} (left : S → Option (List ℕ)) (readings : S → Option 
 
   -- the source goes on telling its bytes
   pub has_read_left : (count : ℕ) (held : List ℕ) (a b : S) → HasRead count held a b → IsSome (left a) → IsSome (left b)
-  has_read_left count held a b so some = some_left (left a) (left b) so.came some (reads_consume left readings (NeedsNext room) [] so.came a b so.reads)
+  has_read_left count held a b so some = some_left (left a) (left b) so.came some (reads_consume left readings (NeedsAmong room count) [] so.came a b so.reads)
+
+  abbrev pub reads_among : (count : ℕ) (a b : S) (came : List ℕ) → ReadsWhile left readings (NeedsAmong room count) [] a b came → ReadsWhile left readings (NeedsAmong room (count + 1)) [] a b came
+  reads_among count a b came reads =
+      reads_for left readings (NeedsAmong room count) (NeedsAmong room (count + 1)) [] [] came
+      (λ more needed. record { next = needed.next; fewer = (let fewer = needed.fewer in omega arith) }) a b reads
 
   module _ (count : ℕ) (held : List ℕ) (a b c : S) (so : HasRead count held a b) (few : count < most_requests) (came : List ℕ) (reads : ReadsWhile left readings (NeedsRest room) held b c came) where
-    abbrev pub later : ReadsWhile left readings (NeedsNext room) so.came b c came
+    abbrev pub later : ReadsWhile left readings (NeedsAmong room (count + 1)) so.came b c came
     later =
-        reads_for left readings (NeedsRest room) (NeedsNext room) held so.came came
+        reads_for left readings (NeedsRest room) (NeedsAmong room (count + 1)) held so.came came
         (λ more needed. record {
-          requests = so.requests;
-          rest = held ++ more;
-          are_requests = requests_more room so.came more so.requests held so.are_requests;
-          go_on = record { none_closes = so.none_closes; few = (let count_is = so.count_is in omega arith) };
-          needs = needed;
+          next = record {
+            requests = so.requests;
+            rest = held ++ more;
+            are_requests = requests_more room so.came more so.requests held so.are_requests;
+            go_on = record { none_closes = so.none_closes; few = (let count_is = so.count_is in omega arith) };
+            needs = needed;
+          };
+          fewer = (let count_is = so.count_is in omega arith);
         })
         b c reads
 
-    abbrev pub reads_on : ReadsWhile left readings (NeedsNext room) [] a c (so.came ++ came)
-    reads_on = reads_then left readings (NeedsNext room) [] so.came came a b c so.reads so.gave later
+    abbrev pub reads_on : ReadsWhile left readings (NeedsAmong room (count + 1)) [] a c (so.came ++ came)
+    reads_on = reads_then left readings (NeedsAmong room (count + 1)) [] so.came came a b c (reads_among count a b so.came so.reads) so.gave later
 
     pub has_read_more : (held' : List ℕ) → HoldsBehind room (held ++ came) held' (Ok false) → HasRead (count + 1) held' a c
     has_read_more held' behind =

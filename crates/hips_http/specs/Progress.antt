@@ -337,4 +337,3 @@ pub record ServesAll (first last : Moment) (end : SessionEnd) : Type 0 where
   pub sink_never_falls : first.output.faults ≤ last.output.faults
   pub steps_never_fall : first.steps ≤ last.steps
   pub room : last.input.frame.room ≡ first.input.frame.room
-  pub served : IfSome first.input.left (IsServedTo first last end)

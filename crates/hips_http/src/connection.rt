@@ -7,8 +7,8 @@ ghost use Rattle.reader_pin.specs.Board.{IsOwned};
 ghost use Rattle.http_frame.specs.declared.stop.Turn.TheVariants.{AtHead};
 ghost use Rattle.hips_http.specs.SessionRun.{IsServed, Goes, FlushesAll, room_of, most_requests};
 ghost use Rattle.hips_http.specs.Moment.{connection_of, input_at, output_at, moment, moment_of, SameEnds, ReadsWhere};
-ghost use Rattle.hips_http.specs.Progress.{ServesAll};
-ghost use Rattle.hips_http.specs.Readings.{NeedsNext};
+ghost use Rattle.hips_http.specs.Progress.{ServesAll, IsServedTo};
+ghost use Rattle.hips_http.specs.Readings.{NeedsNext, FollowsReplies};
 ghost use Rattle.hips_http.specs.declared.served.SessionEnd.TheVariants.{ReadFault, WriteFault, OutOfMemory};
 
 use crate::open_connection::OpenConnection;
@@ -61,6 +61,10 @@ pub fn session<
         (connection_of S.Source K.Sink src.old sink.old) (connection_of S.Source K.Sink src.new sink.new) steps.old steps.new result) }
     // There it is read only while what came ends before or within the next request: so not once a request asked to close.
     ensures reads { IsSome (S.left src.old) → (came : List ℕ) × ReadsWhile S.left S.readings (NeedsNext (room_of (B.content board.old).conf)) [] src.old src.new came }
+    // And only after the replies to all requests before were flushed, as far as the sink tells its bytes.
+    ensures order { IfSome (S.left src.old) (λ input. (served : IsServed (B.content board.old) (B.content board.new) input
+        (connection_of S.Source K.Sink src.old sink.old) (connection_of S.Source K.Sink src.new sink.new) steps.old steps.new result)
+        × ReadsWhere S.Source (FollowsReplies (room_of (B.content board.old).conf) served.run.outputs served.passed) [] src.old src.new) }
 {
     let mut frame = frame_for(alloc, board);
     session_in(rt, alloc, &mut frame, board, src, sink, gate, steps)
@@ -100,6 +104,10 @@ pub fn session_in<
         (connection_of S.Source K.Sink src.old sink.old) (connection_of S.Source K.Sink src.new sink.new) steps.old steps.new result) }
     // There it is read only while what came ends before or within the next request: so not once a request asked to close.
     ensures reads { IsSome (S.left src.old) → (came : List ℕ) × ReadsWhile S.left S.readings (NeedsNext (room_of (B.content board.old).conf)) [] src.old src.new came }
+    // And only after the replies to all requests before were flushed, as far as the sink tells its bytes.
+    ensures order { IfSome (S.left src.old) (λ input. (served : IsServed (B.content board.old) (B.content board.new) input
+        (connection_of S.Source K.Sink src.old sink.old) (connection_of S.Source K.Sink src.new sink.new) steps.old steps.new result)
+        × ReadsWhere S.Source (FollowsReplies (room_of (B.content board.old).conf) served.run.outputs served.passed) [] src.old src.new) }
     // Want of memory ends it exactly where there is no frame.
     ensures begins { (result.end ≡ OutOfMemory) ↔ IsNone frame.old }
     ensures kept { IsSome frame.old → IsSome frame.new }
@@ -152,7 +160,9 @@ fn serve_all<
     requires released { (B.content board.old).held ≡ None }
     ensures serves { ServesAll (moment (input_at S.Source frame.old src.old) (output_at K.Sink sink.old) (B.content board.old) steps.old 0)
         (moment (input_at S.Source frame.new src.new) (output_at K.Sink sink.new) (B.content board.new) steps.new result.wants) result.end }
-    ensures reads { IsSome (S.left src.old) → ReadsWhere S.Source (NeedsNext (room_of (B.content board.old).conf)) [] src.old src.new }
+    ensures order { IfSome (S.left src.old) (λ input. (served : IsServedTo (moment (input_at S.Source frame.old src.old) (output_at K.Sink sink.old) (B.content board.old) steps.old 0)
+        (moment (input_at S.Source frame.new src.new) (output_at K.Sink sink.new) (B.content board.new) steps.new result.wants) result.end input)
+        × ReadsWhere S.Source (FollowsReplies (room_of (B.content board.old).conf) served.run.outputs served.passed) [] src.old src.new) }
 {
     let mut connection = OpenConnection {
         frame,
@@ -193,7 +203,8 @@ fn serve_requests<
     requires released { (B.content connection.old.board.now).held ≡ None }
     requires wants { connection.old.wants ≡ 0 }
     ensures serves { ServesAll (moment_of S.Source K.Sink B.content connection.old) (moment_of S.Source K.Sink B.content connection.new) result }
-    ensures reads { IsSome (S.left connection.old.src.now) → ReadsWhere S.Source (NeedsNext (room_of (B.content connection.old.board.now).conf)) [] connection.old.src.now connection.new.src.now }
+    ensures order { IfSome (S.left connection.old.src.now) (λ input. (served : IsServedTo (moment_of S.Source K.Sink B.content connection.old) (moment_of S.Source K.Sink B.content connection.new) result input)
+        × ReadsWhere S.Source (FollowsReplies (room_of (B.content connection.old.board.now).conf) served.run.outputs served.passed) [] connection.old.src.now connection.new.src.now) }
     ensures same { SameEnds connection.old connection.new }
 {
     for count in 0..MOST_REQUESTS {
