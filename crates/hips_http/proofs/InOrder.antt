@@ -95,19 +95,22 @@ order_from {S} told old released new (Some input) taken back steps steps' served
       r.1,
     )
 
-pub served_of : {S : Type 0} (told : source.Ghosts S) (old new : BoardContent) (unread : Option (List ℕ)) (taken back : Connection) (steps steps' : ℕ) (served : Served) (a b : S)
-    → IfSome unread (λ input. (s : IsServed old new input taken back steps steps' served) × ReadsWhere told (FollowsReplies (room_of old.conf) s.run.outputs s.passed) [] a b)
+pub served_from : {S : Type 0} (told : source.Ghosts S) (old released new : BoardContent) (unread : Option (List ℕ)) (taken back : Connection) (steps steps' : ℕ) (served : Served) (a b : S)
+    → released ≡ holding_none old
+    → IfSome unread (λ input. (s : IsServed released new input taken back steps steps' served) × ReadsWhere told (FollowsReplies (room_of released.conf) s.run.outputs s.passed) [] a b)
     → IfSome unread (λ input. IsServed old new input taken back steps steps' served)
-served_of told old new None taken back steps steps' served a b h = tt
-served_of told old new (Some input) taken back steps steps' served a b h = h.0
+served_from told old released new None taken back steps steps' served a b is h = tt
+served_from told old released new (Some input) taken back steps steps' served a b is h = (order_from told old released new (Some input) taken back steps steps' served a b is h).0
 
-pub reads_of : {S : Type 0} (told : source.Ghosts S) (old new : BoardContent) (unread : Option (List ℕ)) (taken back : Connection) (steps steps' : ℕ) (served : Served) (a b : S)
-    → IfSome unread (λ input. (s : IsServed old new input taken back steps steps' served) × ReadsWhere told (FollowsReplies (room_of old.conf) s.run.outputs s.passed) [] a b)
+pub reads_from : {S : Type 0} (told : source.Ghosts S) (old released new : BoardContent) (unread : Option (List ℕ)) (taken back : Connection) (steps steps' : ℕ) (served : Served) (a b : S)
+    → released ≡ holding_none old
+    → IfSome unread (λ input. (s : IsServed released new input taken back steps steps' served) × ReadsWhere told (FollowsReplies (room_of released.conf) s.run.outputs s.passed) [] a b)
     → IsSome unread → ReadsWhere told (NeedsNext (room_of old.conf)) [] a b
-reads_of told old new None taken back steps steps' served a b h some = absurd (true≢false (sym some))
-reads_of told old new (Some input) taken back steps steps' served a b h some =
-    let r = h.1 in
-    (r.0, reads_for told.left told.readings (FollowsReplies (room_of old.conf) h.0.run.outputs h.0.passed) (NeedsNext (room_of old.conf)) [] [] r.0 (λ more needed. needed.next) a b r.1)
+reads_from told old released new None taken back steps steps' served a b is h some = absurd (true≢false (sym some))
+reads_from told old released new (Some input) taken back steps steps' served a b is h some =
+    let o = order_from told old released new (Some input) taken back steps steps' served a b is h in
+    let r = o.1 in
+    (r.0, reads_for told.left told.readings (FollowsReplies (room_of old.conf) o.0.run.outputs o.0.passed) (NeedsNext (room_of old.conf)) [] [] r.0 (λ more needed. needed.next) a b r.1)
 
 -- without a frame nothing is read
 pub no_order : {S : Type 0} (told : source.Ghosts S) (old new : BoardContent) (unread : Option (List ℕ)) (connection : Connection) (steps : ℕ) (served : Served) (a : S)

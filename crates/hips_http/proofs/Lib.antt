@@ -11,6 +11,7 @@ pub mod ReadLemmas
 pub mod ReadRequests
 pub mod InOrder
 pub mod Flushed
+pub mod OneRequest
 pub mod Sessions
 pub mod OneKind
 pub mod Same

@@ -1,5 +1,5 @@
 -- What is read of a source for one request, and for one request after another.
-use Rattle.std.proofs.Common.{◌≡◌, ℕ, ◌+◌, ◌<◌, inl, inr, false, List, [], ◌∷◌, ◌++◌, length, Option, Some, None, Ok, refl, sym, ap, subst, ◌∙◌, arith, append_assoc, length-append}
+use Rattle.std.proofs.Common.{◌≡◌, ℕ, ◌+◌, ◌<◌, inl, inr, false, List, [], ◌∷◌, ◌++◌, length, Option, Some, None, Ok, Err, refl, sym, ap, subst, ◌∙◌, arith, append_assoc, length-append}
 use Rattle.std.specs.Prelude.{IfSome, IsSome, IsSomeAnd, All}
 use Rattle.std.specs.Io.KnownBytes.{Consumes, prepend_known}
 use Rattle.std.proofs.lemmas.Bool.{true≢false}
@@ -11,6 +11,7 @@ use Rattle.http_frame.specs.Next.{NeedsMore, IsFound, IsWhole}
 use Rattle.http_frame.specs.Readings.{ReadsWhile}
 use Rattle.http_frame.proofs.Nexts.{found_of_more}
 use Rattle.http_frame.proofs.Unique.{has_head, one_found}
+use Rattle.hips_http.specs.declared.served.SessionEnd.{SessionEnd}
 use Rattle.hips_http.specs.Answers.{Asking}
 use Rattle.hips_http.specs.SessionRun.{AreRequests, most_requests}
 use Rattle.hips_http.specs.Readings.{NeedsRest, NeedsNext, HoldsBehind}
@@ -94,6 +95,15 @@ module _ {S : Type 0} (left : S → Option (List ℕ)) (readings : S → Option 
           body_length = count;
           body_is = behind_body held' came' bytes held'' (left b) (left c) there (reads_consume left readings (IsShort asked.length) held' came' b c body) told;
         })
+
+    -- the request was answered, or the connection ended with it
+    pub reads_request : (bytes held'' : List ℕ) → IsSome (left a) → length bytes ≡ asked.length
+        → IfSome (prepend_known held' (left b)) (λ all. IsSomeAnd (prepend_known held'' (left c)) (λ rest. all ≡ bytes ++ rest))
+        → (all : List ℕ) × ReadsWhile left readings (NeedsRest room) held a c all × HoldsBehind room (held ++ all) held'' (Ok asked.close)
+    reads_request bytes held'' some count told = (came ++ came', both_read, (record { asked = asked; path = path; body = bytes }, both_whole bytes held'' some count told, refl))
+
+    pub reads_stopped : (held'' : List ℕ) (end : SessionEnd) → (all : List ℕ) × ReadsWhile left readings (NeedsRest room) held a c all × HoldsBehind room (held ++ all) held'' (Err end)
+    reads_stopped held'' end = (came ++ came', both_read, tt)
 
   -- ---- one request after another
 

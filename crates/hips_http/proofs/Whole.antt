@@ -8,7 +8,6 @@ use Rattle.survey_core.specs.History.{IsHistory, Begins}
 use Rattle.reader_pin.specs.Board.{BoardContent, IsOwned, holding_none}
 use Rattle.reader_pin.specs.SeatLaws.{keeps_holding_none}
 use Rattle.hips_http.specs.declared.served.SessionEnd.TheVariants.{OutOfMemory}
-use Rattle.hips_http.specs.declared.served.Served.{Served}
 use Rattle.hips_http.specs.SessionRun.{IsServed, Goes, first_point}
 
 -- nothing was written

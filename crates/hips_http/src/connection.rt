@@ -11,7 +11,7 @@ ghost use Rattle.hips_http.specs.Progress.{ServesAll, IsServedTo};
 ghost use Rattle.hips_http.specs.Readings.{NeedsNext, FollowsReplies};
 ghost use Rattle.hips_http.specs.declared.served.SessionEnd.TheVariants.{ReadFault, WriteFault, OutOfMemory};
 
-use crate::open_connection::OpenConnection;
+use crate::open_connection::{Means, OpenConnection};
 use crate::served::{Served, SessionEnd};
 use crate::step::{MOST_REQUESTS, serve_one};
 use http_frame::Frame;
@@ -114,14 +114,15 @@ pub fn session_in<
     ensures room { IfSome frame.new (λ frame. frame.room ≡ room_of (B.content board.new).conf) }
 {
     board.release();
-    let top = top_of(board);
     match frame {
         Some(frame) => {
             frame.clear();
-            return serve_all(rt, alloc, frame, board, src, sink, gate, steps, top);
+            let means = Means { rt, alloc, gate };
+            return serve_all(&means, frame, board, src, sink, steps);
         }
         None => {
-            // For the prover: a count fits 64 bits.
+            // For the prover: what a board has seen is a history, and a count fits 64 bits.
+            let _legal = board.last();
             let _count = steps.count();
             return Served {
                 end: SessionEnd::OutOfMemory,
@@ -131,8 +132,7 @@ pub fn session_in<
     }
 }
 
-// Serves one connection over a frame that holds nothing, by a board that holds no state; `top` is the order of the survey's
-// leaves.
+// Serves one connection over a frame that holds nothing, by a board that holds no state.
 fn serve_all<
     R: Threads + Sync + Clock + Log,
     B: ChangedWith<R>,
@@ -140,23 +140,16 @@ fn serve_all<
     K: Sink,
     G: Gate + Sync,
 >(
-    rt: &R,
-    alloc: Global,
+    means: &Means<'_, '_, R, G>,
     frame: &mut Frame,
     board: &mut B,
     src: &mut S,
     sink: &mut K,
-    gate: &G,
     steps: &mut Steps,
-    top: u8,
 ) -> Served
     requires empty { frame.old.held ≡ [] }
     requires turn { frame.old.turn ≡ AtHead }
     requires room { frame.old.room ≡ room_of (B.content board.old).conf }
-    requires top { top ≡ (B.content board.old).conf.shape.top }
-    requires small { top ≤ 11 }
-    requires legal { IsHistory (B.content board.old).opening (B.content board.old).history }
-    requires owned { IsOwned (B.content board.old) }
     requires released { (B.content board.old).held ≡ None }
     ensures serves { ServesAll (moment (input_at S.Source frame.old src.old) (output_at K.Sink sink.old) (B.content board.old) steps.old 0)
         (moment (input_at S.Source frame.new src.new) (output_at K.Sink sink.new) (B.content board.new) steps.new result.wants) result.end }
@@ -164,6 +157,7 @@ fn serve_all<
         (moment (input_at S.Source frame.new src.new) (output_at K.Sink sink.new) (B.content board.new) steps.new result.wants) result.end input)
         × ReadsWhere S.Source (FollowsReplies (room_of (B.content board.old).conf) served.run.outputs served.passed) [] src.old src.new) }
 {
+    let top = top_of(board);
     let mut connection = OpenConnection {
         frame,
         board,
@@ -172,7 +166,7 @@ fn serve_all<
         steps,
         wants: 0,
     };
-    let end = serve_requests(rt, alloc, gate, &mut connection, top);
+    let end = serve_requests(means, &mut connection, top);
     Served {
         end,
         wants: connection.wants,
@@ -187,9 +181,7 @@ fn serve_requests<
     K: Sink,
     G: Gate + Sync,
 >(
-    rt: &R,
-    alloc: Global,
-    gate: &G,
+    means: &Means<'_, '_, R, G>,
     connection: &mut OpenConnection<'_, '_, '_, '_, '_, B, S, K>,
     top: u8,
 ) -> SessionEnd
@@ -208,7 +200,7 @@ fn serve_requests<
     ensures same { SameEnds connection.old connection.new }
 {
     for count in 0..MOST_REQUESTS {
-        match serve_one(rt, alloc, gate, connection, top, count) {
+        match serve_one(means, connection, top, count) {
             Ok(true) => return SessionEnd::Asked,
             Ok(false) => {}
             Err(end) => return end,

@@ -3,7 +3,7 @@ use Rattle.hips_http.specs.Moment.{connection_of}
 use Rattle.hips_http.specs.SessionRun.{room_of}
 use Rattle.hips_http.specs.Readings.{NeedsNext}
 use Rattle.hips_http.proofs.ReadLemmas.{reads_none}
-use Rattle.hips_http.proofs.InOrder.{order_from, served_of, reads_of, no_order}
+use Rattle.hips_http.proofs.InOrder.{order_from, served_from, reads_from, no_order}
 use Rattle.hips_http.proofs.Whole.{no_memory_served, no_memory_goes, goes_from}
 use Rattle.hips_http.proofs.connection.session_in.Goals as goal
 
@@ -18,19 +18,21 @@ returns-in-Some-clause-order g c =
 
 pub returns-in-Some-clause-served : goal.returns-in-Some-clause-served
 returns-in-Some-clause-served g c =
-    served_of g.S.Source _ _ (g.S.Source.left c.args.src.now) _ _ c.args.steps.now c.serve_all.new.steps c.serve_all.result c.args.src.now c.serve_all.new.src (returns-in-Some-clause-order g c)
+    served_from g.S.Source (g.B.Board.content c.args.board.now) (g.B.Board.content c.release.new.self) (g.B.Board.content c.serve_all.new.board) (g.S.Source.left c.args.src.now)
+    (connection_of g.S.Source g.K.Sink c.args.src.now c.args.sink.now) (connection_of g.S.Source g.K.Sink c.serve_all.new.src c.serve_all.new.sink)
+    c.args.steps.now c.serve_all.new.steps c.serve_all.result c.args.src.now c.serve_all.new.src c.release.ensures c.serve_all.ensures.order
 
 pub returns-in-Some-clause-reads : goal.returns-in-Some-clause-reads
 returns-in-Some-clause-reads g c =
-    reads_of g.S.Source (g.B.Board.content c.args.board.now) (g.B.Board.content c.serve_all.new.board) (g.S.Source.left c.args.src.now)
+    reads_from g.S.Source (g.B.Board.content c.args.board.now) (g.B.Board.content c.release.new.self) (g.B.Board.content c.serve_all.new.board) (g.S.Source.left c.args.src.now)
     (connection_of g.S.Source g.K.Sink c.args.src.now c.args.sink.now) (connection_of g.S.Source g.K.Sink c.serve_all.new.src c.serve_all.new.sink)
-    c.args.steps.now c.serve_all.new.steps c.serve_all.result c.args.src.now c.serve_all.new.src (returns-in-Some-clause-order g c)
+    c.args.steps.now c.serve_all.new.steps c.serve_all.result c.args.src.now c.serve_all.new.src c.release.ensures c.serve_all.ensures.order
 
 pub returns-in-None-clause-goes : goal.returns-in-None-clause-goes
-returns-in-None-clause-goes g c = no_memory_goes _ _ c.top_of-top.ensures.legal c.top_of-top.ensures.owned c.release.ensures
+returns-in-None-clause-goes g c = no_memory_goes _ _ c.last-legal.ensures.legal c.last-legal.ensures.owned c.release.ensures
 
 pub returns-in-None-clause-served : goal.returns-in-None-clause-served
-returns-in-None-clause-served g c = no_memory_served _ _ _ (connection_of g.S.Source g.K.Sink c.args.src.now c.args.sink.now) _ c.top_of-top.ensures.legal c.release.ensures refl
+returns-in-None-clause-served g c = no_memory_served _ _ _ (connection_of g.S.Source g.K.Sink c.args.src.now c.args.sink.now) _ c.last-legal.ensures.legal c.release.ensures refl
 
 pub returns-in-None-clause-reads : goal.returns-in-None-clause-reads
 returns-in-None-clause-reads g c = λ _.

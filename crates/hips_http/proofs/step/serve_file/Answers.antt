@@ -27,8 +27,8 @@ returns-in-Ok-give_file-clause-serves g c =
     let connection = c.args.connection.now in
     let t = c.in-Ok.ensures.read in
     let e = c.in-Ok-give_file.ensures in
-    let path = sym (c.path.ensures ∙ c.in-Ok.ensures.path) in
-    let f = e.gives (record { asked = c.args.request.now; path = connection.frame.now.path; body = t.0 }) connection.steps.now path refl in
+    let path = sym (c.path-path.ensures ∙ c.in-Ok.ensures.path) in
+    let f = e.gives (record { asked = c.args.due.now.request; path = connection.frame.now.path; body = t.0 }) connection.steps.now path refl in
     record {
       ok = (f.answer, record { body = t.0; takes = t.1; serves = f.serves; wants_is = sym (wants_found connection.wants f.answer f.finds) }, f.sends.whole);
       broken = λ is. absurd (cc);
@@ -42,8 +42,8 @@ returns-in-Err-give_file-clause-serves g c =
     let connection = c.args.connection.now in
     let t = c.in-Ok.ensures.read in
     let e = c.in-Err-give_file.ensures in
-    let path = sym (c.path.ensures ∙ c.in-Ok.ensures.path) in
-    let f = e.gives (record { asked = c.args.request.now; path = connection.frame.now.path; body = t.0 }) connection.steps.now path refl in
+    let path = sym (c.path-path.ensures ∙ c.in-Ok.ensures.path) in
+    let f = e.gives (record { asked = c.args.due.now.request; path = connection.frame.now.path; body = t.0 }) connection.steps.now path refl in
     record {
       ok = tt;
       broken = λ _. (f.answer, record { body = t.0; takes = t.1; serves = f.serves; wants_is = sym (wants_found connection.wants f.answer f.finds) }, f.sends.part);
