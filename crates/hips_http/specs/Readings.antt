@@ -20,8 +20,8 @@ pub record NeedsNext (room : ℕ) (came : List ℕ) : Type 0 where
   pub needs : NeedsRest room rest
 
 -- the bytes that came are requests and the beginning of one more, and the replies to these requests, the first of these outputs,
--- were all flushed by the end of the connection. That holds of a reading also where the very next call of the sink fails, and
--- nothing is flushed from then on. So they were flushed before that reading
+-- are flushed at the end of the connection. This holds for every sink, also for one whose calls all fail from some moment on, and
+-- by which nothing more is flushed. So the replies were flushed before the reading that needed these bytes
 pub record FollowsReplies (room : ℕ) (outputs : List (List ℕ)) (flushed came : List ℕ) : Type 0 where
   pub next : NeedsNext room came
   pub answered : length next.requests ≤ length outputs
