@@ -4,7 +4,6 @@ use Rattle.std.specs.Prelude.{◌≡◌, ◌≢◌, ◌⊎◌, ℕ, ◌+◌, ◌
 use Rattle.std.specs.List.{concat}
 use Rattle.std.specs.Io.KnownBytes.{Appends}
 use Rattle.healpix_nested.specs.Cells.{cell_count}
-use Rattle.tile_path.specs.declared.path.Path.{Path}
 use Rattle.survey_link.specs.Link.{AppendsPrefix, Rises}
 use Rattle.survey_link.specs.declared.faults.Failed.{Failed}
 use Rattle.http_frame.specs.declared.request.Request.{Request}
@@ -86,13 +85,6 @@ pub record HandsReply (old new : Output) (result : Result (Unit {0}) Failed) : T
 -- a board sees the newest state, unless one is held
 abbrev pub Looks : BoardContent → BoardContent → Type 0
 Looks old new = ((new ≡ old) × IsSome old.held) ⊎ (Stays old new × (old.held ≡ None))
-
--- a file, or that there is none, is answered and sent
-pub record Gives (request : Asking) (file : Option Path) (close : Bool) (old new : BoardContent) (steps : ℕ) (output output' : Output) (result : Result (Unit {0}) Failed) : Type 0 where
-  pub answer : Answer
-  pub serves : Serves request (call.File file) old new steps steps answer
-  pub finds : (answer.code == 503) ≡ false
-  pub sends : Sends output output' (reply_of close request.asked answer) result
 
 -- ---- one request
 

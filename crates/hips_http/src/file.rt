@@ -4,10 +4,9 @@ ghost use Rattle.survey_core.specs.State.{survey_state};
 ghost use Rattle.reader_pin.specs.Board.{last_seen, state_in};
 ghost use Rattle.tile_path.specs.Spelling.{spelling};
 ghost use Rattle.hips_http.specs.Paths.{IsPathOf};
-ghost use Rattle.hips_http.specs.Answers.{Asking};
 ghost use Rattle.hips_http.specs.Moment.{output_at};
-ghost use Rattle.hips_http.specs.Progress.{Gives, HandsReply, Looks, Sends, reply_of};
-ghost use Rattle.hips_http.specs.Replies.{file_kind, path_answer, not_found, sent_body};
+ghost use Rattle.hips_http.specs.Progress.{HandsReply, Looks, Sends, reply_of};
+ghost use Rattle.hips_http.specs.Replies.{file_kind, file_answer, not_found, sent_body};
 ghost use Rattle.survey_link.specs.Link.{parts_bytes};
 
 use crate::open_connection::Due;
@@ -22,41 +21,8 @@ use survey_core::State;
 use survey_link::{Failed, Sink};
 use tile_path::Path;
 
-/// Answers GET and HEAD of a path, that of the file or of none: by the state that the board holds, else by the newest that it
-/// sees. It takes no memory.
-///
-/// # Errors
-///
-/// `Failed` only where the sink's count of faults rose; some first bytes may have been written.
-pub(crate) fn give_file<R: Clock + Log, B: Board, K: Sink>(
-    rt: &R,
-    board: &mut B,
-    sink: &mut K,
-    due: &Due,
-    path: Option<&[u8]>,
-    file: &Option<Path>,
-) -> Result<(), Failed>
-    requires file { IsPathOf (option_copied path) file.now }
-    ensures gives { (request : Asking) (steps : ℕ) → request.path ≡ option_copied path.entry → request.asked ≡ due.now.request
-        → Gives request file.now due.now.close (B.content board.old) (B.content board.new) steps (output_at K.Sink sink.old) (output_at K.Sink sink.new) result }
-    ensures hands { HandsReply (output_at K.Sink sink.old) (output_at K.Sink sink.new) result }
-{
-    look(board);
-    // For the prover: what a board has seen is a history.
-    let _legal = board.last();
-    let state = shown(board);
-    match file {
-        Some(file) => return send_file(rt, sink, due, path, state, file),
-        None => {
-            // For the prover: of which orders the tiles are.
-            let _orders = state.conf().shape();
-            return send_not_found(rt, sink, due, path, state);
-        }
-    }
-}
-
-// Sees the newest state, unless one is held.
-fn look<B: Board>(board: &mut B)
+/// Sees the newest state, unless one is held.
+pub(crate) fn look<B: Board>(board: &mut B)
     ensures { Looks (B.content board.old) (B.content board.new) }
 {
     match board.held() {
@@ -65,8 +31,8 @@ fn look<B: Board>(board: &mut B)
     }
 }
 
-// The state that files are read from: the one that is held, or else the last seen.
-fn shown<B: Board>(board: &B) -> &State
+/// The state that files are read from: the one that is held, or else the last seen.
+pub(crate) fn shown<B: Board>(board: &B) -> &State
     ensures { result.now ≡ state_in (B.content board.now) (unwrap_or (B.content board.now).held (last_seen (B.content board.now))) }
 {
     match board.held() {
@@ -75,20 +41,33 @@ fn shown<B: Board>(board: &B) -> &State
     }
 }
 
-// The reply with the file that the state has published at its path, or that there is none. The head and the parts of the file
-// go out by one call where the sink takes all.
-fn send_file<R: Clock + Log, K: Sink>(
+/// Answers GET and HEAD of a path, that of the file or of none, by the state. It takes no memory. The head and the parts of a
+/// file go out by one call where the sink takes all.
+///
+/// # Errors
+///
+/// `Failed` only where the sink's count of faults rose; some first bytes may have been written.
+pub(crate) fn send_path<R: Clock + Log, K: Sink>(
     rt: &R,
     sink: &mut K,
     due: &Due,
     path: Option<&[u8]>,
     state: &State,
-    file: &Path,
+    file: &Option<Path>,
 ) -> Result<(), Failed>
-    ensures sends { Sends (output_at K.Sink sink.old) (output_at K.Sink sink.new) (reply_of due.now.close due.now.request (path_answer state.now.conf state.now.opening (survey_state state.now) (spelling file.now))) result }
+    requires file { IsPathOf (option_copied path) file.now }
+    ensures sends { Sends (output_at K.Sink sink.old) (output_at K.Sink sink.new) (reply_of due.now.close due.now.request (file_answer state.now.conf state.now.opening (survey_state state.now) (option_copied path.entry))) result }
     ensures hands { HandsReply (output_at K.Sink sink.old) (output_at K.Sink sink.new) result }
 {
     let mut front = [0u8; 2880];
+    let file = match file {
+        Some(file) => file,
+        None => {
+            // For the prover: of which orders the tiles are.
+            let _orders = state.conf().shape();
+            return send_not_found(rt, sink, due, path, state);
+        }
+    };
     let parts = match state.generation().file_parts(file, &mut front) {
         Some(parts) => parts,
         None => return send_not_found(rt, sink, due, path, state),

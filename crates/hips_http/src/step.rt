@@ -19,7 +19,7 @@ ghost use Rattle.hips_http.specs.Readings.{NeedsRest, HoldsBehind};
 
 use crate::answer::{pass_body, reply_to};
 use crate::call::{Call, call_of, path_kind};
-use crate::file::give_file;
+use crate::file::{look, send_path, shown};
 use crate::open_connection::{Due, Means, OpenConnection};
 use crate::reply::TextReply;
 use crate::saying::Stopwatch;
@@ -150,7 +150,11 @@ fn serve_file<R: Clock + Log, B: Board, S: Source, K: Sink>(
         Err(stop) => return Err(body_end(stop)),
     }
     let path = connection.frame.path();
-    match give_file(rt, connection.board, connection.sink, due, path, file) {
+    look(connection.board);
+    // For the prover: what a board has seen is a history.
+    let _legal = connection.board.last();
+    let state = shown(connection.board);
+    match send_path(rt, connection.sink, due, path, state, file) {
         Ok(()) => return Ok(()),
         Err(_) => return Err(SessionEnd::WriteFault),
     }
