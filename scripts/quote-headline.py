@@ -7,7 +7,8 @@ repository that a quoted one uses and that aren't quoted: a file in bold, then a
 With --check nothing is written, and these are faults: a block that differs from its file, a definition that is used and neither
 quoted nor in the table, a row of the table that nothing uses, and a count in docs/PROVED.md that is a tenth or more off.
 
-With --count it prints how many lines a reader has to read who follows the definitions to their ends, and in which files.
+With --count it prints how many lines a reader has to read who follows the definitions to their ends, and in which files; and how
+many lines the real ends have, of whose bytes no clause speaks. Comments and empty lines don't count.
 """
 
 import re
@@ -25,8 +26,11 @@ TRAITS = [(f"crates/{file}.rt", name) for file, name in [
     ("survey_link/src/source", "Source"), ("survey_link/src/sink", "Sink"), ("survey_link/src/shelf", "Shelf"),
     ("survey_link/src/door", "Door"), ("reader_pin/src/board", "Board"),
 ]]
-# What docs/PROVED.md says of the count.
-COUNT = re.compile(r"([\d,]+) lines in ([\d,]+) definitions")
+# The real ends: main, sockets, streams and folders.
+ENDS = ["hipsd/src/*.rt", "tcp_link/src/*.rt", "survey_link/src/stream.rt", "survey_link/src/here.rt", "survey_link/src/folder_shelf.rt"]
+# What docs/PROVED.md says of the counts.
+COUNT = re.compile(r"([\d,]+) lines in ([\d,]+) definitions.*?([\d,]+) lines of code", re.S)
+COUNTED = "{:,} lines in {:,} definitions and clauses; {:,} lines of code of the real ends"
 DEFINED = re.compile(r"^ *(?:(?:abbrev|unfoldable) (?:pub )?|pub record |pub data )(\S+)", re.M)
 CONSTRUCTOR = re.compile(r"^  +(\w+) :", re.M)
 # `use Rattle.CRATE.specs.FILE.{NAME, NAME as OTHER}` or `.. as OTHER`. Behind `declared` stand types of the code.
@@ -156,23 +160,23 @@ def all_parts(text):
     return parts
 
 
-def count(parts):
-    return sum(len(without_comments(part)) for part in parts.values()), len(parts)
+def counts(parts):
+    lines = sum(len(without_comments(part)) for part in parts.values())
+    code = sum(len(without_comments(file.read_text())) for end in ENDS for file in (ROOT / "crates").glob(end))
+    return lines, len(parts), code
 
 
 def count_faults(parts):
     found = COUNT.search(PROVED.read_text())
-    said = [int(number.replace(",", "")) for number in found.groups()] if found else [0, 0]
-    if any(abs(there - here) * 10 > here for there, here in zip(said, count(parts))):
-        yield "docs/PROVED.md: the claim rests on {:,} lines in {:,} definitions".format(*count(parts))
+    said = [int(number.replace(",", "")) for number in found.groups()] if found else [0, 0, 0]
+    if any(abs(there - here) * 10 > here for there, here in zip(said, counts(parts))):
+        yield f"docs/PROVED.md: the claim rests on {COUNTED.format(*counts(parts))}"
 
 
 def print_count(parts):
-    files = sorted({file for file, _ in parts})
-    for file in files:
-        names = sorted(name for other, name in parts if other == file)
-        print(f"{file}: {', '.join(names)}")
-    print("{:,} lines in {:,} definitions and clauses".format(*count(parts)), f"of {len(files)} files")
+    for file in sorted({file for file, _ in parts}):
+        print(f"{file}: {', '.join(sorted(name for other, name in parts if other == file))}")
+    print(COUNTED.format(*counts(parts)))
 
 
 def main():
