@@ -5,6 +5,7 @@ of them: `scripts/index.py contracts survey_core batch`.
 """
 
 import re
+import signal
 import sys
 from pathlib import Path
 
@@ -61,6 +62,8 @@ def main():
     kinds = {"definitions": definitions, "contracts": contracts}
     if len(sys.argv) < 2 or sys.argv[1] not in kinds:
         raise SystemExit("usage: scripts/index.py definitions|contracts [WORD..]")
+    # Whoever reads only the first lines ends it.
+    signal.signal(signal.SIGPIPE, signal.SIG_DFL)
     for line in kinds[sys.argv[1]]():
         if all(word in line for word in sys.argv[2:]):
             print(line)
