@@ -119,6 +119,11 @@ def used(part, names):
     return {names[word] for word in words - bound if word in names}
 
 
+def filled(quote):
+    heading, file, names = quote.groups()
+    return heading + "```\n" + "\n\n".join(quoted(file, name) for name in names.split()) + "\n```\n"
+
+
 def quotations(text):
     return [(file, name) for _, file, names in QUOTE.findall(text) for name in names.split()]
 
@@ -170,7 +175,7 @@ def count_faults(parts):
     found = COUNT.search(PROVED.read_text())
     said = [int(number.replace(",", "")) for number in found.groups()] if found else [0, 0, 0]
     if any(abs(there - here) * 10 > here for there, here in zip(said, counts(parts))):
-        yield f"docs/PROVED.md: the claim rests on {COUNTED.format(*counts(parts))}"
+        yield f"docs/PROVED.md: its counts are a tenth or more off: it is {COUNTED.format(*counts(parts))}"
 
 
 def print_count(parts):
@@ -181,8 +186,7 @@ def print_count(parts):
 
 def main():
     before = HEADLINE.read_text()
-    fill = lambda it: it[1] + "```\n" + "\n\n".join(quoted(it[2], name) for name in it[3].split()) + "\n```\n"
-    after = QUOTE.sub(fill, before)
+    after = QUOTE.sub(filled, before)
     if sys.argv[1:] == ["--count"]:
         print_count(all_parts(after))
         return 0
