@@ -30,6 +30,10 @@ FILE = re.compile(r"[\w*.-]+(?:/[\w*.-]+)*\.(?:rt|antt|edit|sh|py|c|md|conf|serv
 # A page of claims names a function or a definition, and behind it clauses or fields of it.
 CLAUSES = re.compile(r"`(?:\w+::)*(\w+)`((?: and|,)? `[a-z]\w*`(?:(?:,| and) `[a-z]\w*`)*)")
 PAGES_OF_CLAIMS = {"docs/HEADLINE.md", "docs/PROVED.md"}
+# Pages on the sources: each single word in code is a name there, but for these of the language, its library and tools of others.
+PAGES_ON_SOURCES = PAGES_OF_CLAIMS | {"docs/ARCHITECTURE.md", "docs/DEFINITIONS.md"}
+OTHERS_NAMES = set("abbrev unfoldable record result unsafe Model Wait IfSome OnErr write_vectored astropy fitsverify healpy".split())
+DEFINED = re.compile(r"^ *(?:(?:abbrev|unfoldable) (?:pub )?|pub record |pub data )(\S+)", re.M)
 ITEM = re.compile(r"([A-Za-z_]\w*)::(?:<.*>::)?([A-Za-z_]\w*)(?:\(.*\))?")
 
 
@@ -72,6 +76,17 @@ def names_of_clauses(paths):
     return clauses
 
 
+def all_names(paths, declared, owners, clauses):
+    """Returns all of these, what the specs define, and the crates that crates.txt names, the toolchain's too."""
+    names = declared | owners | set(clauses).union(*clauses.values()) | OTHERS_NAMES
+    for path in paths:
+        if path.endswith(".antt") and "/specs/" in path:
+            names.update(DEFINED.findall((ROOT / path).read_text()))
+    for line in (ROOT / "crates.txt").read_text().split("\n"):
+        names.update(re.findall(r"\w+", line.partition("#")[0]))
+    return names
+
+
 def is_file(name, paths):
     # A name may leave out the folders above it, and `*` stands for any text within a name.
     pattern = re.compile("(?:^|/)" + re.escape(name).replace(r"\*", "[^/]*") + "$")
@@ -101,7 +116,7 @@ def link_faults(document, prose):
             yield f"the page of the link {link}#{anchor} has no such heading"
 
 
-def faults_of(document, paths, declared, owners, clauses):
+def faults_of(document, paths, declared, owners, clauses, names):
     text = (ROOT / document).read_text()
     words = len(text.split())
     if words > MOST_WORDS.get(document, words):
@@ -112,6 +127,8 @@ def faults_of(document, paths, declared, owners, clauses):
     yield from link_faults(document, prose)
     if document in PAGES_OF_CLAIMS:
         yield from clause_faults(prose, clauses)
+    if document in PAGES_ON_SOURCES:
+        yield from (f"there is no {word}" for word in re.findall(r"`([^\W_]\w*[^\W_])`", prose) if word not in names)
     for code in re.findall(r"`([^`\n]+)`", prose):
         if any(word in code for word in PLACEHOLDERS):
             continue
@@ -126,9 +143,10 @@ def main():
     paths = tracked()
     declared, owners = names_in_code(paths)
     clauses = names_of_clauses(paths)
+    names = all_names(paths, declared, owners, clauses)
     found = 0
     for document in sorted(path for path in paths if path.endswith(".md") or path in MOST_WORDS):
-        for fault in faults_of(document, paths, declared, owners, clauses):
+        for fault in faults_of(document, paths, declared, owners, clauses, names):
             found += 1
             print(f"{document}: {fault}")
     print(f"documents: {found} faults")
