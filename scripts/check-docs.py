@@ -1,6 +1,7 @@
 #!/usr/bin/env python3
-"""Looks through the documents for what no longer is: dead links, and names of files, functions, types and clauses that are gone. And
-it counts the words of each page that has a limit. Prints a line for each fault; the status is 1 if there is one.
+"""Looks through the documents for what no longer is: dead links, and names of files, functions, types and clauses that are gone. It
+counts the words of each page that has a limit, and looks whether docs/PROVED.md names each ported crate that the program stands on.
+Prints a line for each fault; the status is 1 if there is one.
 """
 
 import re
@@ -76,15 +77,21 @@ def names_of_clauses(paths):
     return clauses
 
 
+def crates():
+    """Returns the crates of this repository, and those of the toolchain that they stand on, but for its standard library."""
+    lines = [line.partition("#")[0].partition(":") for line in (ROOT / "crates.txt").read_text().split("\n")]
+    own = {name.split()[0] for name, colon, _ in lines if colon}
+    return own, {word for _, _, below in lines for word in below.split()} - own - {"core"}
+
+
 def all_names(paths, declared, owners, clauses):
     """Returns all of these, what the specs define, and the crates that crates.txt names, the toolchain's too."""
     names = declared | owners | set(clauses).union(*clauses.values()) | OTHERS_NAMES
     for path in paths:
         if path.endswith(".antt") and "/specs/" in path:
             names.update(DEFINED.findall((ROOT / path).read_text()))
-    for line in (ROOT / "crates.txt").read_text().split("\n"):
-        names.update(re.findall(r"\w+", line.partition("#")[0]))
-    return names
+    own, ported = crates()
+    return names | own | ported
 
 
 def is_file(name, paths):
@@ -127,6 +134,8 @@ def faults_of(document, paths, declared, owners, clauses, names):
     yield from link_faults(document, prose)
     if document in PAGES_OF_CLAIMS:
         yield from clause_faults(prose, clauses)
+    if document == "docs/PROVED.md":
+        yield from (f"the ported crate {name} isn't among what is trusted" for name in sorted(crates()[1]) if f"`{name}`" not in prose)
     if document in PAGES_ON_SOURCES:
         yield from (f"there is no {word}" for word in re.findall(r"`([^\W_]\w*[^\W_])`", prose) if word not in names)
     for code in re.findall(r"`([^`\n]+)`", prose):
