@@ -1,7 +1,7 @@
 #!/usr/bin/env python3
 """Looks through the documents for what no longer is: dead links, and names of files, functions, types and clauses that are gone. It
-counts the words of each page that has a limit, and looks whether docs/PROVED.md names each ported crate that the program stands on.
-Prints a line for each fault; the status is 1 if there is one.
+counts the words of each page that has a limit, and looks whether docs/PROVED.md names each ported crate that the program stands on,
+and each `unsafe`. Prints a line for each fault; the status is 1 if there is one.
 """
 
 import re
@@ -84,6 +84,15 @@ def crates():
     return own, {word for _, _, below in lines for word in below.split()} - own - {"core"}
 
 
+def trust_faults(paths, prose):
+    for name in sorted(crates()[1]):
+        if f"`{name}`" not in prose:
+            yield f"the ported crate {name} isn't among what is trusted"
+    for path in paths:
+        if path.endswith(".rt") and re.search(r"\bunsafe\b", (ROOT / path).read_text()) and path.removeprefix("crates/") not in prose:
+            yield f"the unsafe of {path} isn't among what is trusted"
+
+
 def all_names(paths, declared, owners, clauses):
     """Returns all of these, what the specs define, and the crates that crates.txt names, the toolchain's too."""
     names = declared | owners | set(clauses).union(*clauses.values()) | OTHERS_NAMES
@@ -135,7 +144,7 @@ def faults_of(document, paths, declared, owners, clauses, names):
     if document in PAGES_OF_CLAIMS:
         yield from clause_faults(prose, clauses)
     if document == "docs/PROVED.md":
-        yield from (f"the ported crate {name} isn't among what is trusted" for name in sorted(crates()[1]) if f"`{name}`" not in prose)
+        yield from trust_faults(paths, prose)
     if document in PAGES_ON_SOURCES:
         yield from (f"there is no {word}" for word in re.findall(r"`([^\W_]\w*[^\W_])`", prose) if word not in names)
     for code in re.findall(r"`([^`\n]+)`", prose):
