@@ -1,0 +1,54 @@
+#!/bin/bash
+# The quick check: every test, and the programs with their stored input and output, compiled by `rt try` without a proof; and the
+# checks that need no built program. Prints a line for each and a total. The status is 1 if one failed.
+#
+#     scripts/test.sh [JOBS]
+#
+# JOBS run at once, each in up to 2.5 GB. If none is named: one a processor, as far as memory allows.
+cd "$(dirname "$0")/.." || exit 1
+command -v rt >/dev/null || { echo "test: there is no rt on the path" >&2; exit 1; }
+room=$(awk '/^MemAvailable/ { print int($2 / 2500000) }' /proc/meminfo)
+jobs=${1:-$(nproc)}
+[ $# -gt 0 ] || [ "$jobs" -le "$room" ] || jobs=$((room > 0 ? room : 1))
+work=$(mktemp -d) || exit 1
+trap 'rm -rf "$work"' EXIT
+
+# tests CRATE: its tests.
+tests() {
+    cd "crates/$1" && rt try --test
+}
+# program CRATE: the program, with the arguments and the input beside its sources, and what it has to print.
+program() {
+    cd "crates/$1" || return
+    args=()
+    [ ! -f args ] || mapfile -t args <args
+    [ -f stdin ] && exec <stdin
+    rt try -- "${args[@]}" >"$work/$1.stdout" && cmp "$work/$1.stdout" stdout
+}
+# check SCRIPT WORD ..: a script that needs no built program.
+check() {
+    script=$1
+    shift
+    "scripts/$script" "$@"
+}
+# one KIND NAME WORD ..: does one of these, and says in a line how it went; where it failed, what it said stands below.
+one() {
+    log=$work/$1.$2 begun=$SECONDS
+    if ("$@") >"$log" 2>&1 </dev/null; then verdict=ok; else verdict=FAILED; fi
+    passed=$(sed -n 's/^test result: .*\. \([0-9]* passed; [0-9]* failed\);.*/, \1/p' "$log")
+    echo "$verdict $1 $2$passed, $((SECONDS - begun)) s" | tee -a "$work/verdicts"
+    [ $verdict = ok ] || tail -n 25 "$log"
+}
+export work
+export -f tests program check one
+
+{
+    for crate in hipsd board_tests survey_bench; do echo "program $crate"; done
+    grep -l '#\[test\]' crates/*/src/*.rt | cut -d / -f 2 | sort -u | sed 's/^/tests /'
+    printf 'check %s\n' 'made-survey.py --check' 'made-summary.py --check' 'size-values.py --check' check-docs.py 'quote-headline.py --check'
+    ! /usr/bin/python3 -c 'import healpy' 2>/dev/null || printf 'check %s\n' 'healpix-values.py --check' 'pyramid-values.py --check'
+} | xargs -P "$jobs" -I{} bash -c 'one {}' || echo "FAILED xargs: a check was stopped" | tee -a "$work/verdicts"
+
+failed=$(grep -c '^FAILED' "$work/verdicts")
+echo "test: $(grep -c '^ok' "$work/verdicts") passed, $failed failed, $SECONDS s. Nothing is proved by this: see rt ci"
+[ "$failed" = 0 ]
