@@ -15,7 +15,7 @@ trap 'rm -rf "$work"' EXIT
 
 # tests CRATE: its tests.
 tests() {
-    cd "crates/$1" && rt try --test
+    cd "crates/$1" && rt try --test --seconds 300
 }
 # program CRATE: the program, with the arguments and the input beside its sources, and what it has to print.
 program() {
@@ -23,7 +23,7 @@ program() {
     args=()
     [ ! -f args ] || mapfile -t args <args
     [ -f stdin ] && exec <stdin
-    rt try -- "${args[@]}" >"$work/$1.stdout" && cmp "$work/$1.stdout" stdout
+    rt try --seconds 300 -- "${args[@]}" >"$work/$1.stdout" && cmp "$work/$1.stdout" stdout
 }
 # check SCRIPT WORD ..: a script that needs no built program.
 check() {
@@ -37,7 +37,7 @@ one() {
     if ("$@") >"$log" 2>&1 </dev/null; then verdict=ok; else verdict=FAILED; fi
     passed=$(sed -n 's/^test result: .*\. \([0-9]* passed; [0-9]* failed\);.*/, \1/p' "$log")
     echo "$verdict $1 $2$passed, $((SECONDS - begun)) s" | tee -a "$work/verdicts"
-    [ $verdict = ok ] || tail -n 25 "$log"
+    [ $verdict = ok ] || grep -vE '\.\.\. ok$|^ *\[' "$log" | tail -n 20
 }
 export work
 export -f tests program check one

@@ -2,8 +2,9 @@
 """time-gate.py [NAME=VALUE ..] [COMMAND ..]: runs the command, `rt ci` if none is given, with these variables set, at the top of the repository.
 time-gate.py --pid NUMBER: watches an `rt` that runs already, until it ends.
 
-In the end it prints a table: by crate, the seconds of processor that its proof, its tests and its edits took. Each process below the command is looked at twice a second, so what it did right before its end is missing: how much that
-is stands below the table. What a crate's proof, tests and edits are is told by rattle's own words and by the folder it runs in.
+In the end it prints a table: by crate, the seconds of processor that its proof, its tests and its edits took. Each process below
+the command is looked at twice a second, so what it did right before its end is missing: how much that is stands below the table.
+What a crate's proof, tests and edits are is told by rattle's own words and by the folder it runs in.
 Then come the dearest edits: those stand in functions that take long to prove, and would do as well in smaller ones.
 """
 
