@@ -17,9 +17,11 @@
 # The status is 0 where the server did what was asked, and its reply is written as it came; 1 where not; 2 where the words are wrong,
 # and then nothing was sent.
 set -eu
+export LC_ALL=C
 base=${HIPSD:-http://127.0.0.1:8080}
 base=${base%/}
 journal=${HIPSD_JOURNAL:-}
+case $journal in '' | /*) ;; *) journal=./$journal ;; esac
 
 work=$(mktemp -d)
 trap 'rm -rf "$work"' EXIT
@@ -49,14 +51,19 @@ wants() {
 
 # quietly WORD ..: curl, in words that a person can read where it fails.
 quietly() {
-    curl -sS --netrc-optional "$@"
+    curl -sS --globoff --proto '=http,https' --netrc-optional "$@"
+}
+
+# address ADDRESS: refuses what is no address, before it gets into curl's configuration.
+address() {
+    case $1 in '' | *[!!-~]* | *[\"\\]*) refuse "'$1' is no address of a server" ;; esac
 }
 
 # ---- what is sent
 
 # hips_order of the survey: its leaves are of this order.
 order_of_survey() {
-    quietly --fail --max-time 60 -o "$work/properties" "$base/properties" || fail "there are no properties at $base"
+    quietly --fail --max-time 60 -o "$work/properties" --url "$base/properties" || fail "there are no properties at $base"
     order=$(sed -n 's/^hips_order = \([0-9][0-9]*\)$/\1/p' "$work/properties")
     [ -n "$order" ] || fail "$base/properties has no hips_order"
     echo "$order"
@@ -79,24 +86,27 @@ leaf_path() {
     echo "Norder$order/Dir$(($1 / 10000 * 10000))/Npix$1.fits"
 }
 
-# tile FILE: refuses what can't be a tile's file.
+# tile FILE: takes the file of a tile into $work/body, and refuses what can't be one.
 tile() {
     [ -f "$1" ] || refuse "there is no file $1"
     [ -r "$1" ] || refuse "$1 can't be read"
-    [ "$(head -c 10 "$1" | tr -d '\000')" = 'SIMPLE  = ' ] || refuse "$1 is no FITS file: it doesn't begin with 'SIMPLE  = '"
+    cp -- "$1" "$work/body"
+    [ "$(head -c 10 "$work/body" | tr -d '\000')" = 'SIMPLE  = ' ] || refuse "$1 is no FITS file: it doesn't begin with 'SIMPLE  = '"
 }
 
-# send EDIT PATH BODY ADDRESS: makes one request; its head and body are in $work/reply. The status is curl's.
+# send EDIT PATH BODY ADDRESS: makes one request; head and body of its reply are in $work/reply. The status is curl's.
 send() {
+    url=$4/$2
     case $1 in
-        put) set -- "$4/$2" -T "$3" ;;
-        add) set -- "$4/$2" -T "$3" -H 'If-None-Match: *' ;;
-        replace) set -- "$4/$2" -T "$3" -H 'If-Match: *' ;;
-        remove) set -- "$4/$2" -X DELETE ;;
-        batch) set -- "$4/batch" -X POST -H 'Content-Type:' --data-binary "@$3" ;;
-        publish) set -- "$4/publish" -X POST ;;
+        put) set -- -T "$3" ;;
+        add) set -- -T "$3" -H 'If-None-Match: *' ;;
+        replace) set -- -T "$3" -H 'If-Match: *' ;;
+        remove) set -- -X DELETE ;;
+        batch) url=$4/batch && set -- -X POST -H 'Content-Type:' --data-binary "@$3" ;;
+        publish) url=$4/publish && set -- -X POST ;;
+        *) fail "'$1' is no edit" ;;
     esac
-    quietly -i -H 'Expect:' --max-time 600 -o "$work/reply" "$@"
+    quietly -i -H 'Expect:' --max-time 600 -o "$work/reply" --url "$url" "$@"
 }
 
 # answer: the last reply's code, its number of edits or of the published prefix, and the first line of its body, in one line.
@@ -121,40 +131,79 @@ known() {
 
 # ---- the journal: NUMBER.edit is one line, the edit and its path; NUMBER.body its body; NUMBER.answer what it was answered
 
+# names FOLDER: the names of a journal's entries, in order.
+names() {
+    find "$1/" -maxdepth 1 -name '[0-9][0-9][0-9][0-9][0-9][0-9][0-9][0-9].edit' -printf '%f\n' | sed 's/[.]edit$//' | sort
+}
+
+# file PATH: whether it is a file, and no link: a journal may come from anybody.
+file() {
+    [ -f "$1" ] && [ ! -L "$1" ]
+}
+
+# entry FOLDER NAME: $edit and $path of an entry, which is judged whole before anything of it is used.
+entry() {
+    file "$1/$2.edit" || fail "$1/$2.edit is no file"
+    line=$(head -c 200 "$1/$2.edit")
+    case $line in
+        *[!A-Za-z0-9/.\ -]*) line= ;;
+    esac
+    echo "$line" | grep -qxE '(put|add|replace|remove) Norder[0-9]+/Dir[0-9]+/Npix[0-9]+[.]fits|(batch|publish) -' ||
+        fail "$1/$2.edit is no entry of a journal"
+    edit=${line%% *}
+    path=${line#* }
+    case $edit in
+        remove | publish) ;;
+        *) file "$1/$2.body" || fail "$1/$2.body is no file" ;;
+    esac
+}
+
+# answered FOLDER NAME: what an entry was answered; nothing if it wasn't.
+answered() {
+    ! file "$1/$2.answer" || head -c 300 "$1/$2.answer" | head -n 1 | tr -cd '[:print:]'
+}
+
+# locked FOLDER: one at a time, so that the journal has the edits in the order in which the server has accepted them.
+locked() {
+    (set -C && : >"$1/lock") 2>/dev/null || file "$1/lock" || fail "$1/lock is no file"
+    exec 9>>"$1/lock"
+    flock 9
+}
+
+# keep FILE: what is read becomes this file of the journal, on the disk. Nothing is written through a link.
+keep() {
+    rm -f "$1.new"
+    (set -C && cat >"$1.new")
+    sync "$1.new"
+    mv -T "$1.new" "$1"
+}
+
 # record EDIT PATH BODY: writes an entry, hands it to the disk, and says its name.
 record() {
-    last=$(find "$journal" -maxdepth 1 -name '*.edit' | sed 's#.*/##; s/[.]edit$//' | sort | tail -n 1 | sed 's/^0*//')
+    last=$(names "$journal" | tail -n 1 | sed 's/^0*//')
     entry=$journal/$(printf '%08d' $((${last:-0} + 1)))
-    if [ -n "$3" ]; then
-        cp -- "$3" "$entry.body"
-        sync "$entry.body"
-    fi
-    echo "$1 $2" >"$entry.edit.new"
-    sync "$entry.edit.new"
-    mv "$entry.edit.new" "$entry.edit"
+    [ -z "$3" ] || keep "$entry.body" <"$3"
+    echo "$1 $2" | keep "$entry.edit"
     sync "$journal"
     echo "$entry"
 }
 
 # mark ENTRY ANSWER: what it was answered.
 mark() {
-    echo "$2" >"$1.answer.new"
-    sync "$1.answer.new"
-    mv "$1.answer.new" "$1.answer"
+    printf '%s\n' "$2" | keep "$1.answer"
     sync "$journal"
 }
 
-# edit EDIT PATH BODY: sends it, by way of the journal where there is one. One edit at a time, so that the journal has them in the
-# order in which the server has accepted them.
+# edit EDIT PATH BODY: sends it, by way of the journal where there is one.
 edit() {
     entry=
     if [ -n "$journal" ]; then
+        umask 077
         if [ ! -d "$journal" ]; then
             mkdir -p "$journal"
             sync "$(dirname "$journal")"
         fi
-        exec 9>"$journal/lock"
-        flock 9
+        locked "$journal"
         entry=$(record "$@")
     fi
     ended=0
@@ -182,49 +231,60 @@ fresh() {
     [ "$edits" = 0 ] || fail "the server at $1 is no fresh one: it has accepted ${edits:-an unknown number of} edits"
 }
 
-# again ENTRY ADDRESS: sends an entry, and compares its answer with the one that it had. Says nothing where they are the same.
+# again FOLDER NAME ADDRESS: sends an entry, and compares its answer with the one that it had. Says nothing where they are the same.
 again() {
-    read -r edit path <"$1.edit"
-    name=$(basename "$1")
-    was=$(cat "$1.answer" 2>/dev/null) || was='never answered'
-    case $was in
+    entry "$1" "$2"
+    was=$(answered "$1" "$2")
+    case ${was:=never answered} in
         2[0-9][0-9]' '* | 'never answered') ;;
         *) return 0 ;;
     esac
     now=
-    send "$edit" "$path" "$1.body" "$2" && now=$(answer)
-    known "$now" || fail "$name, $edit $path: not answered. The replay ends here; begin again, with a fresh server"
+    send "$edit" "$path" "$1/$2.body" "$3" && now=$(answer)
+    known "$now" || fail "$2, $edit $path: not answered. The replay ends here; begin again, with a fresh server"
     sent=$((sent + 1))
     [ "$was" = "$now" ] && return
-    echo "$name, $edit $path: was $was, is $now"
+    echo "$2, $edit $path: was $was, is $now"
     differing=$((differing + 1))
 }
 
-# replay FOLDER ADDRESS
+# replay FOLDER ADDRESS: nothing is sent before all entries were judged.
 replay() {
     [ -d "$1" ] || refuse "there is no folder $1"
-    find "$1" -maxdepth 1 -name '*.edit' | sort >"$work/entries"
+    case $1 in /*) ;; *) set -- "./$1" "$2" ;; esac
+    address "$2"
+    names "$1" >"$work/names"
+    while read -r name <&8; do entry "$1" "$name"; done 8<"$work/names"
     address=${2%/}
     fresh "$address"
     sent=0 differing=0
-    while read -r entry <&8; do again "${entry%.edit}" "$address"; done 8<"$work/entries"
-    echo "$(wc -l <"$work/entries") entries: $sent sent again, the others weren't accepted; $differing answered otherwise than before"
+    while read -r name <&8; do again "$1" "$name" "$address"; done 8<"$work/names"
+    echo "$(wc -l <"$work/names") entries: $sent sent again, the others weren't accepted; $differing answered otherwise than before"
     [ "$differing" = 0 ]
 }
 
 # ---- what is read
 
-# path PATH: refuses what is no path of a survey's file.
+# path PATH: refuses what is no path of a survey's file, judged whole.
 path() {
     case $1 in
-        properties | Moc.fits | Norder3/Allsky.fits) ;;
-        *) echo "$1" | grep -qxE 'Norder[0-9]+/Dir[0-9]+/Npix[0-9]+[.]fits' || refuse "'$1' is no path of a survey's file" ;;
+        properties | Moc.fits | Norder3/Allsky.fits) return ;;
+        *[!A-Za-z0-9/.]*) ;;
+        *) echo "$1" | grep -qxE 'Norder[0-9]+/Dir[0-9]+/Npix[0-9]+[.]fits' && return ;;
     esac
+    refuse "'$1' is no path of a survey's file"
+}
+
+# said NAME VALUE: a line of curl's configuration.
+said() {
+    printf '%s = "%s"\n' "$1" "$(printf '%s' "$2" | sed 's/[\\"]/\\&/g')"
 }
 
 # group NAME: the words by which curl makes one request of a row; what it was answered goes to the file NAME.
 group() {
-    printf 'silent\nshow-error\nfail\nnetrc-optional\ncreate-dirs\nmax-time = 60\ndump-header = "%s/heads/%s"\n' "$work" "$1"
+    printf 'silent\nshow-error\nfail\ngloboff\nnetrc-optional\ncreate-dirs\nmax-time = 60\n'
+    said proto '=http,https'
+    said dump-header "$work/heads/$1"
     printf 'write-out = "%%{http_code} %%{url_effective}\\n"\n'
 }
 
@@ -234,13 +294,16 @@ read_files() {
     for path; do path "$path"; done
     {
         group pin
-        printf 'request = POST\nurl = "%s/pin"\noutput = "%s/pinned"\n' "$base" "$work"
+        printf 'request = POST\n'
+        said url "$base/pin"
+        said output "$work/pinned"
         number=0
         for path; do
             echo next
             number=$((number + 1))
             group "$number"
-            printf 'url = "%s/%s"\noutput = "%s/files/%s"\n' "$base" "$path" "$work" "$path"
+            said url "$base/$path"
+            said output "$work/files/$path"
         done
     } >"$work/config"
     mkdir "$work/heads"
@@ -258,12 +321,13 @@ read_files() {
 
 command=${1:-}
 [ $# = 0 ] || shift
+address "$base"
 case $command in
     put | add | replace)
         wants $# "$command" LEAF FILE
         tile "$2"
         path=$(leaf_path "$1")
-        edit "$command" "$path" "$2"
+        edit "$command" "$path" "$work/body"
         ;;
     remove)
         wants $# remove LEAF
@@ -285,7 +349,7 @@ case $command in
     get)
         wants $# get PATH
         path "$1"
-        quietly --fail --max-time 60 "$base/$1"
+        quietly --fail --max-time 60 --url "$base/$1"
         ;;
     read)
         [ $# -gt 0 ] || refuse "read wants at least one PATH"

@@ -9,6 +9,7 @@
 # The status is 0 where the file is written, or the states; 1 where there was no such state or no such file in it, or where the
 # journal doesn't have all edits, or was kept over another folder; 2 where the words are wrong.
 set -eu
+export LC_ALL=C
 program=${HIPSD_PROGRAM:-hipsd}
 
 work=$(mktemp -d)
@@ -35,12 +36,41 @@ whole() {
     esac
 }
 
-# path PATH: refuses what is no path of a survey's file.
+# path PATH: refuses what is no path of a survey's file, judged whole.
 path() {
     case $1 in
-        properties | Moc.fits | Norder3/Allsky.fits) ;;
-        *) echo "$1" | grep -qxE 'Norder[0-9]+/Dir[0-9]+/Npix[0-9]+[.]fits' || refuse "'$1' is no path of a survey's file" ;;
+        properties | Moc.fits | Norder3/Allsky.fits) return ;;
+        *[!A-Za-z0-9/.]*) ;;
+        *) echo "$1" | grep -qxE 'Norder[0-9]+/Dir[0-9]+/Npix[0-9]+[.]fits' && return ;;
     esac
+    refuse "'$1' is no path of a survey's file"
+}
+
+# ---- the journal, which may come from anybody: what is no entry of edit.sh ends this
+
+# file PATH: whether it is a file, and no link.
+file() {
+    [ -f "$1" ] && [ ! -L "$1" ]
+}
+
+# line NAME: the line of an entry, an edit and its path, judged whole; with a body where one belongs to it.
+line() {
+    file "$journal/$1.edit" || fail "$journal/$1.edit is no file"
+    line=$(head -c 200 "$journal/$1.edit")
+    case $line in
+        *[!A-Za-z0-9/.\ -]*) line= ;;
+    esac
+    echo "$line" | grep -xE '(put|add|replace|remove) Norder[0-9]+/Dir[0-9]+/Npix[0-9]+[.]fits|(batch|publish) -' ||
+        fail "$journal/$1.edit is no entry of a journal"
+    case $line in
+        remove' '* | publish' '*) ;;
+        *) file "$journal/$1.body" || fail "$journal/$1.body is no file" ;;
+    esac
+}
+
+# answered NAME: what an entry was answered; nothing if it wasn't.
+answered() {
+    ! file "$journal/$1.answer" || head -c 300 "$journal/$1.answer" | head -n 1 | tr -cd '[:print:]'
 }
 
 # ---- the edits that the server took
@@ -54,22 +84,25 @@ own() {
     esac
 }
 
-# plan JOURNAL: the entries that the server took, in order: their names, the number of edits behind each, and what they are. An
-# entry without an answer was taken where the next number counts more edits than are known; its own number is - then.
+# plan: the entries that the server took, in order: their names, the number of edits behind each, and what they are. An entry without
+# an answer was taken where the next number counts more edits than are known; its own number is - then.
 plan() {
     count=0 doubtful=
     while read -r name <&8; do
-        answer=$(cat "$1/$name.answer" 2>/dev/null) || answer=
+        line=$(line "$name") || exit
+        answer=$(answered "$name")
         case $answer in
-            '') grep -q '^publish ' "$1/$name.edit" || doubtful="$doubtful $name" ;;
+            '') [ "$line" = 'publish -' ] || doubtful="$doubtful $name" ;;
             2[0-9][0-9]' '*)
                 number=$(echo "$answer" | cut -d ' ' -f 2)
-                whole "$number" || fail "$1/$name.answer has no number of edits: $answer"
-                if [ $((number - $(own "$answer"))) -gt "$count" ]; then
-                    for entry in $doubtful; do echo "$entry - $(cat "$1/$entry.edit")"; done
+                whole "$number" || fail "$journal/$name.answer has no number of edits: $answer"
+                own=$(own "$answer")
+                whole "$own" || fail "$journal/$name.answer has no number of edits: $answer"
+                if [ $((number - own)) -gt "$count" ]; then
+                    for entry in $doubtful; do echo "$entry - $(line "$entry")"; done
                 fi
                 doubtful=
-                echo "$name $number $(cat "$1/$name.edit")"
+                echo "$name $number $line"
                 count=$number
                 ;;
         esac
@@ -89,35 +122,36 @@ states() {
 
 # ---- what hipsd is asked
 
-# record ENTRY EDIT PATH: an entry as a batch. An edit that was no batch is a batch of one.
+# record NAME EDIT PATH: an entry as a batch. An edit that was no batch is a batch of one.
 record() {
     leaf=${3##*/Npix}
     leaf=${leaf%.fits}
+    body=$journal/$1.body
     case $2 in
-        batch) cat "$1.body" ;;
+        batch) cat "$body" ;;
         remove) echo "remove $leaf" ;;
         *)
-            echo "$2 $leaf $(wc -c <"$1.body" | tr -d ' ')"
-            cat "$1.body"
+            echo "$2 $leaf $(wc -c <"$body")"
+            cat "$body"
             ;;
     esac >"$work/batch"
     echo "batch $(wc -c <"$work/batch" | tr -d ' ')"
     cat "$work/batch"
 }
 
-# records JOURNAL EDITS PATH: the batches up to that number of edits, and the read. What each batch is to be answered goes to a file,
-# with the entry's name.
+# records EDITS PATH: the batches up to that number of edits, and the read. What each batch is to be answered goes to a file, with the
+# entry's name.
 records() {
     while read -r name number edit path <&8; do
         [ "$edit" != publish ] || continue
-        record "$1/$name" "$edit" "$path"
+        record "$name" "$edit" "$path"
         echo "$name $number" >>"$work/wanted"
         case $number in
             -) ;;
-            *) [ "$number" -lt "$2" ] || break ;;
+            *) [ "$number" -lt "$1" ] || break ;;
         esac
     done 8<"$work/plan"
-    echo "read $2 $3"
+    echo "read $1 $2"
 }
 
 # compare: that each batch was answered by the number of edits that the server had answered. What it answered to an entry without
@@ -132,7 +166,7 @@ compare() {
     done 8<"$work/wanted" 9<"$work/output"
 }
 
-# look_back JOURNAL EDITS PATH
+# look_back EDITS PATH
 look_back() {
     : >"$work/wanted"
     ended=0
@@ -143,9 +177,9 @@ look_back() {
     answer=$(tail -n +$((batches + 1)) "$work/output" | head -n 1 | tr -d '\000')
     case $answer in
         "file "*) tail -n +$((batches + 2)) "$work/output" ;;
-        absent) fail "after $2 edits there was no $3" ;;
-        "split "*) fail "there was no state of $2 edits: they were made in one batch with the next one" ;;
-        "future "*) fail "the journal has fewer than $2 edits" ;;
+        absent) fail "after $1 edits there was no $2" ;;
+        "split "*) fail "there was no state of $1 edits: they were made in one batch with the next one" ;;
+        "future "*) fail "the journal has fewer than $1 edits" ;;
         *) fail "$program past 1 answers '$answer'" ;;
     esac
 }
@@ -163,6 +197,7 @@ if [ $# = 3 ]; then
     path "$3"
     [ -f survey.conf ] || refuse "this folder has no survey.conf: it is run where the server was"
 fi
-find "$1" -maxdepth 1 -name '*.edit' | sed 's#.*/##; s/[.]edit$//' | sort >"$work/names"
-plan "$1" >"$work/plan"
-if [ $# = 1 ]; then states; else look_back "$@"; fi
+case $1 in /*) journal=$1 ;; *) journal=./$1 ;; esac
+find "$journal/" -maxdepth 1 -name '[0-9][0-9][0-9][0-9][0-9][0-9][0-9][0-9].edit' -printf '%f\n' | sed 's/[.]edit$//' | sort >"$work/names"
+plan >"$work/plan"
+if [ $# = 1 ]; then states; else look_back "$2" "$3"; fi
