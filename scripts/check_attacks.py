@@ -2,16 +2,24 @@
 """Attacks what stands around the program, as an outsider or a foreign journal would: check_attacks.py [PROGRAM].
 
 PROGRAM is crates/hipsd/out/hipsd if none is named. What it starts it ends, and nothing is written outside a folder of its own.
+Attackers of nginx come from 127.0.0.2, beside a reader at 127.0.0.1. Each attack prints what it did and what the reader saw. Where
+nginx isn't installed this fails if CI=true, and else leaves those out.
 """
 
+import base64
+import http.client
 import os
+import random
 import shutil
 import socket
+import statistics
 import subprocess
 import sys
 import tempfile
+import threading
 import time
 import unittest
+from collections import Counter
 from pathlib import Path
 
 TOP = Path(__file__).resolve().parent.parent
@@ -182,7 +190,176 @@ class Journals(Attack):
             self.assertEqual(path.stat().st_mode & 0o077, 0, path)
 
 
+# ---- nginx
+
+
+class Proxy:
+    """nginx with examples/nginx.conf before a server, with ports and folders of this check."""
+
+    def __init__(self, folder, server, connections=512):
+        self.folder, self.port = folder, free_port()
+        words = [
+            ("127.0.0.1:8080", server.address), ("listen 80;", f"listen 127.0.0.1:{self.port};"), ("listen [::]:80;", ""),
+            ("/etc/nginx/hipsd.users", folder / "users"), ("/var/cache/nginx-hipsd", folder / "cache"), ("/var/log/nginx", folder),
+            ("/run/hipsd.paused", folder / "paused"),
+        ]
+        site = (EXAMPLES / "nginx.conf").read_text()
+        for old, new in words:
+            site = site.replace(old, str(new))
+        folder.chmod(0o755)
+        hashed = subprocess.run(["openssl", "passwd", "-6", "secret"], capture_output=True, text=True, check=True).stdout
+        (folder / "users").write_text(f"editor:{hashed}")
+        (folder / "site").write_text(site)
+        (folder / "nginx.conf").write_text(
+            f"worker_processes 1; daemon off; pid {folder}/nginx.pid; error_log {folder}/error.log; events {{ worker_connections {connections}; }}"
+            f"http {{ access_log off; client_body_temp_path {folder}/bodies; include {folder}/site; }}"
+        )
+        self.process = subprocess.Popen(["nginx", "-c", folder / "nginx.conf", "-p", folder], stderr=subprocess.PIPE)
+        listens(self.port, self.process)
+
+    def cached(self):
+        """How many files are in its cache."""
+        return sum(len(files) for _, _, files in os.walk(self.folder / "cache"))
+
+    def end(self):
+        self.process.terminate()
+        self.process.communicate()
+
+
+class Reader(threading.Thread):
+    """Reads on until it is ended, on one connection: what it was answered, and how long it took."""
+
+    def __init__(self, port):
+        super().__init__(daemon=True)
+        self.port, self.ended = port, threading.Event()
+        self.answers, self.times = Counter(), []
+        self.start()
+
+    def run(self):
+        connection = http.client.HTTPConnection("127.0.0.1", self.port, timeout=20)
+        while not self.ended.wait(0.02):
+            began = time.monotonic()
+            try:
+                connection.request("GET", "/survey/properties")
+                reply = connection.getresponse()
+                reply.read()
+                answer = reply.status
+            except (OSError, http.client.HTTPException) as fault:
+                connection.close()
+                answer = type(fault).__name__
+            self.answers[answer] += 1
+            self.times.append((time.monotonic() - began) * 1000)
+        connection.close()
+
+    def end(self):
+        self.ended.set()
+        self.join()
+        return self
+
+
+def flood(port, seconds, request, threads=4, at_once=20, source="127.0.0.2"):
+    """Sends requests, so many on a connection, and counts the codes that come back."""
+    until = time.monotonic() + seconds
+    codes = Counter()
+
+    def go_on():
+        while time.monotonic() < until:
+            try:
+                with socket.create_connection(("127.0.0.1", port), 20, (source, 0)) as one:
+                    one.settimeout(20)
+                    one.sendall(b"".join(request(b"close" if i == at_once - 1 else b"keep-alive") for i in range(at_once)))
+                    replies = b""
+                    while more := one.recv(1 << 20):
+                        replies += more
+            except OSError:
+                codes["broken"] += 1
+                continue
+            for part in replies.split(b"HTTP/1.1 ")[1:]:
+                codes[part[:3].decode()] += 1
+
+    attackers = [threading.Thread(target=go_on) for _ in range(threads)]
+    for attacker in attackers:
+        attacker.start()
+    for attacker in attackers:
+        attacker.join()
+    return codes
+
+
+def random_leaf():
+    """The path of a leaf; few of them are there, and few in nginx's cache."""
+    leaf = random.randrange(12288)
+    return f"/survey/Norder5/Dir{leaf // 10000 * 10000}/Npix{leaf}.fits".encode()
+
+
+def asks(*fields, path=random_leaf, body=b"", method=b"GET"):
+    """A request, by the word of its Connection field."""
+    rest = b"".join(b"\r\n" + field for field in fields) + b"\r\n\r\n" + body
+    return lambda word: method + b" " + path() + b" HTTP/1.1\r\nHost: x\r\nConnection: " + word + rest
+
+
+@unittest.skipUnless(shutil.which("nginx", path=os.environ["PATH"] + ":/usr/sbin") or os.environ.get("CI") == "true", "nginx isn't installed")
+class Readers(Attack):
+    """Outsiders, who may read: what they send costs hipsd few connections, and other readers little time."""
+
+    @classmethod
+    def setUpClass(cls):
+        super().setUpClass()
+        cls.proxy = Proxy(cls.folder, cls.server)
+        cls.addClassCleanup(cls.proxy.end)
+
+    def attack(self, name, seconds, request, connections, worst=2000, median=100, **more):
+        """Runs one beside a reader, and judges both."""
+        before = self.server.taken()
+        reader = Reader(self.proxy.port)
+        codes = flood(self.proxy.port, seconds, request, **more)
+        reader.end()
+        taken = self.server.taken() - before
+        middle, most = statistics.median(reader.times), max(reader.times)
+        print(f"{name}: {dict(codes)} in {seconds} s, {taken} connections of hipsd; "
+              f"the reader: {dict(reader.answers)}, median {middle:.1f} ms, worst {most:.0f} ms", flush=True)
+        self.assertEqual(set(reader.answers), {200}, "a reader is answered otherwise")
+        self.assertLess(middle, median)
+        self.assertLess(most, worst)
+        self.assertLess(taken, connections, "connections of hipsd were taken")
+        return codes
+
+    def test_heads_that_hipsd_refuses(self):
+        """nginx takes them, and hipsd closes the connection of each that it gets."""
+        large = b"x" * 500000
+        for name, request in (
+            ("over 64 fields", asks(*(b"X-%d: 1" % i for i in range(80)))),
+            ("over 8,192 bytes", asks(*(b"X-%d: " % i + b"x" * 4500 for i in range(2)))),
+            ("a control character", asks(b"X-Odd: \x01\x02")),
+            ("a long query", asks(path=lambda: b"/survey/properties?" + b"q" * 8145)),
+            ("a long path", asks(path=lambda: b"/survey/" + b"p" * 8165)),
+            ("bytes that are spelled longer", asks(path=lambda: b"/survey/" + b"\xff" * 3000)),
+            ("a large body", asks(b"Content-Length: 500000", body=large)),
+            ("a body of chunks", asks(b"Transfer-Encoding: chunked", body=b"7a120\r\n" + large + b"\r\n0\r\n\r\n")),
+        ):
+            with self.subTest(name):
+                self.attack(name, 1, request, 60, at_once=4 if "body" in name else 20)
+
+    def test_random_misses(self):
+        """Paths of tiles that aren't there."""
+        self.attack("random misses", 3, asks(), 100)
+        cached = self.proxy.cached()
+        print(f"random misses: {cached} files in the cache", flush=True)
+        self.assertLess(cached, 100, "misses fill the cache")
+
+    def test_guesses_of_passwords(self):
+        """Each costs nginx a hash, for which nobody else is served."""
+        words = base64.b64encode(b"editor:wrong")
+        guess = asks(b"Authorization: Basic " + words, b"Content-Length: 0", path=lambda: b"/edit/publish", method=b"POST")
+        codes = self.attack("guesses of passwords", 3, guess, 20, source="127.0.0.1")
+        tried = (self.proxy.folder / "error.log").read_text().count('user "editor": password mismatch')
+        print(f"guesses of passwords: {tried} were compared and logged", flush=True)
+        self.assertEqual(set(codes) - {"401", "429", "503", "broken"}, set())
+        self.assertGreater(tried, 0, "guesses aren't logged")
+        self.assertLess(tried, 200, "too many guesses are compared")
+
+
 if __name__ == "__main__":
+    os.environ["PATH"] += ":/usr/sbin"
     if len(sys.argv) > 1 and not sys.argv[1].startswith("-") and Path(sys.argv[1]).is_file():
         PROGRAM = Path(sys.argv.pop(1)).resolve()
     unittest.main()
