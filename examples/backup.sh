@@ -9,11 +9,17 @@
 # link is turned to it. Until then, whatever fails, the link shows the copy that it showed. Edits that aren't published are no
 # part of a copy.
 #
-# HIPSD_PROGRAM is the program, hipsd if nothing is said, and HIPSD_KEEP how many copies stay, 7 if nothing is said. The status is 0
-# where the link shows a new copy, 2 where the words are wrong, and else 1.
+# The newest copies stay, and each that is in use: the folder of a process, or one that a link beside it, a link in HIPSD_SERVERS
+# (rollover.sh) or a unit of systemd names.
+#
+# These variables say more: HIPSD_PROGRAM, the program (hipsd); HIPSD_KEEP, how many copies stay (7); HIPSD_SERVERS, the folder of
+# the servers (/var/lib/hipsd); HIPSD_UNITS, the folders of units (systemd's own). The status is 0 where the link shows a new copy, 2
+# where the words are wrong, and else 1.
 set -eu
 program=${HIPSD_PROGRAM:-hipsd}
 keep=${HIPSD_KEEP:-7}
+servers=${HIPSD_SERVERS:-/var/lib/hipsd}
+units=${HIPSD_UNITS:-/etc/systemd /run/systemd /usr/local/lib/systemd /usr/lib/systemd}
 
 # refuse TEXT: the words are wrong.
 refuse() {
@@ -65,7 +71,29 @@ mv -T "$link.turned" "$link"
 sync "$place"
 echo "$link is $(basename "$name"): $verdict"
 
-# The names sort by their times; the newest stay.
+# hidden: whether a hipsd runs whose folder this user may not see.
+hidden() {
+    for process in /proc/[0-9]*; do
+        [ "$(cat "$process/comm" 2>/dev/null)" != hipsd ] || readlink "$process/cwd" >/dev/null || return 0
+    done
+    return 1
+}
+# in_use COPY: whether a link, a process or a unit has it.
+in_use() {
+    [ -z "$(find -L "$place"/* "$servers"/* /proc/[0-9]*/cwd -maxdepth 0 -samefile "$1" ! -path "$1" 2>/dev/null)" ] || return 0
+    # shellcheck disable=SC2086 # folders
+    grep -rqsF "$1" $units
+}
+
+# The names sort by their times.
 find "$place" -mindepth 1 -maxdepth 1 -type d -name "$(basename "$link").[0-9]*Z" | sort -r | tail -n +$((keep + 1)) | while read -r old; do
-    rm -rf "$old"
+    if hidden; then
+        echo "backup.sh: all older copies stay, since a hipsd of another user runs: nobody but root sees which folder it has" >&2
+        break
+    fi
+    if in_use "$old"; then
+        echo "backup.sh: $old is in use, and stays" >&2
+    else
+        rm -rf "$old"
+    fi
 done
