@@ -1,5 +1,5 @@
 #!/usr/bin/python3
-"""Tries what keeps a served survey over the days: examples/backup.sh.
+"""Tries what keeps a survey over the days: examples/export.sh and backup.sh.
 
     scripts/check-renewal.py [PROGRAM [TEST ..]]
 
@@ -7,6 +7,7 @@ PROGRAM is crates/hipsd/out/hipsd if none is named. What it starts it ends, and 
 """
 
 import os
+import re
 import shutil
 import socket
 import subprocess
@@ -86,6 +87,57 @@ class Case(unittest.TestCase):
                              stderr=subprocess.STDOUT, text=True, timeout=60, check=False)
         self.assertEqual(ran.returncode, status, ran.stdout)
         return ran.stdout
+
+
+class Export(Case):
+    """A survey folder is exported, and nothing goes unasked."""
+
+    def files(self):
+        return {str(path.relative_to(self.shelf)) for path in self.shelf.rglob("*") if path.is_file()}
+
+    def order(self, order):
+        text = (self.shelf / "survey.conf").read_text(encoding="ascii")
+        (self.shelf / "survey.conf").write_text(re.sub("hips_order = .*", f"hips_order = {order}", text), encoding="ascii")
+
+    def test_nothing_goes_unasked(self):
+        self.shelf = self.survey("shelf", 0, 7, 8)
+        leaves = self.files()
+        said = self.script(0, "export.sh", self.shelf)
+        made = self.files() - leaves
+        self.assertEqual(len(made), 7)
+        self.assertIn("3 leaf tiles are there", said)
+        for line in "properties: 1", "Moc.fits: 1", "Norder3/Allsky.fits: 1", "tiles of order 3: 1", "tiles of order 4: 3":
+            self.assertIn(f"        {line}\n", said)
+        self.assertNotIn("would go", said)
+        self.assertEqual(self.script(0, "export.sh", self.shelf), "verified 10\n")
+
+        # A wrong order: all would go, and nothing does. What is no path of a HiPS never goes.
+        for stray in "Norder3/Dir0/Npix05.fits", "Norder3/Dir0/Npix768.fits", "Norder5/Dir10000/Npix8.fits", "Norder12/Dir0/Npix0.fits", "notes/Npix1.fits":
+            (self.shelf / stray).parent.mkdir(parents=True, exist_ok=True)
+            (self.shelf / stray).write_bytes(b"")
+        all_there = self.files()
+        self.order(8)
+        said = self.script(1, "export.sh", self.shelf)
+        self.assertEqual(self.files(), all_there)
+        for line in "Norder3/Allsky.fits: 1", "tiles of order 3: 1", "tiles of order 4: 3", "tiles of order 5: 3", "With hips_order = 5 ":
+            self.assertIn(line, said)
+        self.assertIn("with --remove these files go", said)
+        self.order(12)
+        self.assertIn("nothing is exported, since hipsd verify ended with status 2", self.script(1, "export.sh", self.shelf))
+        self.assertEqual(self.files(), all_there)
+
+        # What it says would go is what goes.
+        self.order(4)
+        said = self.script(1, "export.sh", self.shelf)
+        self.assertIn("3 leaf tiles are there", said)
+        self.assertIn("would go, since this survey doesn't have them:\n        tiles of order 5: 3\n", said)
+        self.assertIn("exported 7\n", self.script(0, "export.sh", "--remove", self.shelf))
+        self.assertEqual(all_there - self.files(), {tile_path(5, leaf) for leaf in (0, 7, 8)})
+
+    def test_the_words(self):
+        self.assertIn("the words are", self.script(2, "export.sh"))
+        self.assertIn("the words are", self.script(2, "export.sh", self.folder, "--remove"))
+        self.script(2, "export.sh", self.folder / "nothing")
 
 
 class Backup(Case):
