@@ -12,25 +12,12 @@
 #     scripts/check-mirror.sh [PROGRAM]
 #
 # PROGRAM is crates/hipsd/out/hipsd if none is named. Where a tool is missing this fails if CI=true, and else says what it left out.
-PATH=$PATH:/usr/sbin
 cd "$(dirname "$0")/.." || exit 1
-program=$(realpath -e "${1:-crates/hipsd/out/hipsd}") || { echo "check-mirror: there is no built hipsd" >&2; exit 1; }
+# shellcheck source-path=SCRIPTDIR source=check-common.sh
+. scripts/check-common.sh
 copies=20
-scripts=$PWD/scripts
 client=$scripts/mirror-client.py
-examples=$PWD/examples
-python=/usr/bin/python3
-export HIPSD_PROGRAM=$program HIPSD_LOG=error HIPSD_KEEP=$copies
-missing=
-command -v curl >/dev/null 2>&1 || missing="$missing curl"
-[ -x "$python" ] || missing="$missing python3"
-if [ -n "$missing" ]; then
-    echo "check-mirror: LEFT OUT, nothing was tried: not installed here:$missing"
-    [ "${CI:-}" = true ] && exit 1
-    exit 0
-fi
-
-folder=$(mktemp -d) || exit 1
+export HIPSD_PROGRAM=$program HIPSD_LOG=error HIPSD_KEEP=$copies HIPSD_SERVERS=$folder/servers
 started=
 # shellcheck disable=SC2317 # it is called by the trap
 end() {
@@ -42,35 +29,10 @@ end() {
     rm -rf "$folder"
 }
 trap end EXIT
-wrong=0
-blame() {
-    echo "check-mirror: $*" >&2
-    wrong=1
-}
-# leaves_out PACKAGE: a tool isn't there.
-leaves_out() {
-    echo "check-mirror: left out, since it isn't installed here: $1"
-    [ "${CI:-}" = true ] && blame "$1 isn't installed"
-}
-free_port() {
-    "$python" -c 'import socket; s = socket.socket(); s.bind(("127.0.0.1", 0)); print(s.getsockname()[1])'
-}
-# listens PORT PROCESS: once somebody listens there; fails where the process has ended.
-listens() {
-    for _ in $(seq 600); do
-        (exec 3<>"/dev/tcp/127.0.0.1/$1") 2>/dev/null && return
-        kill -0 "$2" 2>/dev/null || return
-        sleep 0.05
-    done
-    return 1
-}
-# serve: hipsd over the survey without leaves, at $port, once it answers; its process is $server.
+# serve: hipsd over the survey without leaves.
 serve() {
-    cd "$folder/survey" || exit 1
-    "$program" serve "127.0.0.1:$port" 65536 64 >"$folder/output" 2>"$folder/log" &
-    server=$!
+    start
     started="$started $server"
-    listens "$port" "$server" || { cat "$folder/log" >&2; echo "check-mirror: hipsd doesn't listen" >&2; exit 1; }
     cd "$folder" || exit 1
 }
 # edited JOURNAL: once an edit is accepted.
@@ -91,7 +53,6 @@ refused() {
 }
 
 mkdir "$folder/survey" && "$client" describe "$folder/survey" || exit 1
-port=$(free_port)
 serve
 
 # ---- copies of a server that is edited and published all the while
@@ -228,10 +189,5 @@ renewed() {
 }
 if command -v nginx >/dev/null 2>&1; then renewed; else leaves_out nginx; fi
 
-if command -v shellcheck >/dev/null 2>&1; then
-    shellcheck "$examples/backup.sh" "$examples/rollover.sh" "$scripts/check-mirror.sh" || blame "shellcheck"
-else
-    leaves_out shellcheck
-fi
 [ "$wrong" = 0 ] && echo "check-mirror: all did as it must"
 exit "$wrong"
