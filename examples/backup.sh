@@ -3,7 +3,8 @@
 #
 #     examples/backup.sh ADDRESS FOLDER
 #
-# ADDRESS is the server's own, as 127.0.0.1:8080 (a proxy keeps no pin). FOLDER is a symbolic link to the last copy, or nothing yet;
+# ADDRESS is the server's own, as 127.0.0.1:8080 (a proxy keeps no pin); of @FILE it's that in the line `server ADDRESS;` of the file,
+# by which the proxy goes to it. FOLDER is a symbolic link to the last copy, or nothing yet;
 # the copies stand beside it, FOLDER.20261129T094500Z and so on. One published state is copied, whatever is edited and published
 # meanwhile, into a new folder; its survey.conf is made of its properties; `hipsd verify` reads all files again; and only then the
 # link is turned to it. Until then, whatever fails, the link shows the copy that it showed. Edits that aren't published are no
@@ -34,6 +35,12 @@ fail() {
 
 [ $# = 2 ] || refuse "the words are ADDRESS FOLDER"
 address=$1
+case $address in
+    @*)
+        address=$(sed -n 's/^ *server \([^ ;]*\)[ ;].*/\1/p' "${address#@}" | sort -u)
+        case $address in '' | *[!0-9A-Za-z.:-]*) refuse "${1#@} doesn't name one server: '$address'" ;; esac
+        ;;
+esac
 folder=${2%/}
 case $keep in '' | 0* | *[!0-9]*) refuse "HIPSD_KEEP is '$keep': how many copies stay, 1 or more" ;; esac
 case $program in */*) program=$(realpath -e "$program") || refuse "there is no program $HIPSD_PROGRAM" ;; esac
@@ -74,7 +81,10 @@ echo "$link is $(basename "$name"): $verdict"
 # hidden: whether a hipsd runs whose folder this user may not see.
 hidden() {
     for process in /proc/[0-9]*; do
-        [ "$(cat "$process/comm" 2>/dev/null)" != hipsd ] || readlink "$process/cwd" >/dev/null || return 0
+        name=
+        { read -r name <"$process/comm"; } 2>/dev/null || :
+        [ "$name" = hipsd ] || continue
+        readlink "$process/cwd" >/dev/null || ! grep -qs '^State:.[^Z]' "$process/status" || return 0
     done
     return 1
 }

@@ -108,7 +108,7 @@ kept=$(find "$folder" -maxdepth 1 -type d -name 'kept.[0-9]*Z' | wc -l)
 
 # ---- the service and the timer
 if command -v systemd-analyze >/dev/null 2>&1; then
-    sed -e "s#=/usr/local/share/doc/hipsd/examples/#=$examples/#" "$examples/hipsd-backup.service" >"$folder/hipsd-backup.service"
+    sed "s#=/usr/local/share/doc/hipsd/examples/#=$examples/#" "$examples/hipsd-backup.service" >"$folder/hipsd-backup.service"
     cp "$examples/hipsd-backup.timer" "$folder"
     systemd-analyze verify --man=no "$folder/hipsd-backup.service" "$folder/hipsd-backup.timer" >"$folder/body" 2>&1 || blame "systemd-analyze verify: $(cat "$folder/body")"
     [ ! -s "$folder/body" ] || blame "systemd-analyze verify: $(cat "$folder/body")"
@@ -121,9 +121,12 @@ fi
 # proxy_starts: nginx with the example, but for ports and folders of this check, in front of $port; two processes.
 proxy_starts() {
     plain=$(free_port)
-    sed -e "s/127.0.0.1:8080/127.0.0.1:$port/" -e "s/listen 80;/listen 127.0.0.1:$plain;/" -e '/listen \[::\]:/d' \
+    sed -e "s/127.0.0.1:8080/127.0.0.1:$port/" -e "s#/etc/nginx/hipsd.port.conf#$folder/port#" -e "s/listen 80;/listen 127.0.0.1:$plain;/" -e '/listen \[::\]:/d' \
         -e "s#/etc/nginx/hipsd.users#$folder/users#" -e "s#/var/cache/nginx-hipsd#$folder/cache#" -e "s#/run/hipsd.paused#$folder/paused#" \
         "$examples/nginx.conf" >"$folder/site"
+    echo "server 127.0.0.1:$port;" >"$folder/port"
+    named=$folder/port
+    grep -q "include $named;" "$folder/site" || named=$folder/site
     printf '%s\n' 'worker_processes 2;' 'daemon off;' "pid $folder/nginx.pid;" "error_log $folder/nginx.log;" 'events { }' \
         "http { access_log off; client_body_temp_path $folder/bodies; include $folder/site; }" >"$folder/nginx.conf"
     nginx -c "$folder/nginx.conf" -p "$folder" 2>"$folder/refused" &
@@ -134,9 +137,9 @@ proxy_starts() {
 # rolls WORD ..: rollover.sh, with what it takes here; with another $begin, a second server is begun by that.
 rolls() {
     serves="cd \"\$FOLDER\" && { '$program' serve \"\$ADDRESS\" 65536 64 2>'$folder/new.log' & echo \$! >'$folder/served'; }"
-    HIPSD_SITE=$folder/site HIPSD_PAUSED=$folder/paused HIPSD_NGINX_PID=$folder/nginx.pid HIPSD_BEGIN=${begin:-$serves} \
+    HIPSD_SITE=$named HIPSD_STRANGER=false HIPSD_PAUSED=$folder/paused HIPSD_NGINX_PID=$folder/nginx.pid HIPSD_BEGIN=${begin:-$serves} \
         HIPSD_RELOAD="nginx -t -q -c '$folder/nginx.conf' -p '$folder' 2>/dev/null && kill -HUP $web" \
-        HIPSD_FINISH="if [ \"\$ADDRESS\" = 127.0.0.1:$port ]; then kill $server; else kill \$(cat '$folder/served') && rm '$folder/served'; fi" \
+        HIPSD_FINISH="if [ \"\$PORT\" = $port ]; then kill $server; else kill \$(cat '$folder/served') && rm '$folder/served'; fi" \
         "$examples/rollover.sh" "$@" >"$folder/said" 2>&1
 }
 # goes_on: the first server, and edits.
@@ -144,7 +147,7 @@ goes_on() {
     [ ! -e "$folder/paused" ] || blame "edits stay paused after $*"
     (exec 3<>"/dev/tcp/127.0.0.1/$next") 2>/dev/null && blame "the second server runs after $*"
     rm -f "$folder/served"
-    grep -qF "server 127.0.0.1:$port;" "$folder/site" || blame "the proxy is turned away after $*"
+    grep -qF "server 127.0.0.1:$port;" "$named" || blame "the proxy is turned away after $*"
     kill -0 "$server" 2>/dev/null || blame "the first server has ended after $*"
 }
 # renewed: under readers and an editor.
@@ -156,11 +159,11 @@ renewed() {
     chmod 755 "$folder" && chmod 644 "$folder/users"
     proxy_starts || return
     # Where the copy is refused, and where no second server comes up.
-    HIPSD_PROGRAM=$folder/damaging rolls "127.0.0.1:$port" "127.0.0.1:$next" "$folder/kept" && blame "rollover.sh takes a copy that verify refuses"
+    HIPSD_PROGRAM=$folder/damaging rolls "127.0.0.1:$port" "127.0.0.1:$next" && blame "rollover.sh takes a copy that verify refuses"
     goes_on "a copy that verify refuses"
-    rolls "127.0.0.1:$port" "127.0.0.1:$port" "$folder/kept" && blame "rollover.sh takes an address where the first server listens"
+    rolls "127.0.0.1:$port" "127.0.0.1:$port" && blame "rollover.sh takes an address where the first server listens"
     goes_on "an address where the first server listens"
-    begin='exit 1' rolls "127.0.0.1:$port" "127.0.0.1:$next" "$folder/kept" && blame "rollover.sh goes on where no second server comes up"
+    begin='exit 1' rolls "127.0.0.1:$port" "127.0.0.1:$next" && blame "rollover.sh goes on where no second server comes up"
     goes_on "a second server that doesn't come up"
     "$client" edit 1 "127.0.0.1:$plain/edit" "$folder/journal" "$folder/stop" editor:secret 2>"$folder/editor" &
     editor=$!
@@ -171,7 +174,7 @@ renewed() {
         "$client" read "127.0.0.1:$plain" "$folder/replies.$name" "$folder/stop-readers" 2>"$folder/reader.$name" &
         readers="$readers $!"
     done
-    rolls "127.0.0.1:$port" "127.0.0.1:$next" "$folder/kept" || blame "rollover.sh: $(cat "$folder/said")"
+    rolls "127.0.0.1:$port" "127.0.0.1:$next" || blame "rollover.sh: $(cat "$folder/said")"
     [ ! -e "$folder/paused" ] || blame "edits stay paused"
     wait "$server"
     (exec 3<>"/dev/tcp/127.0.0.1/$port") 2>/dev/null && blame "the first server runs on"
@@ -184,7 +187,7 @@ renewed() {
     for reader in $readers; do wait "$reader" || blame "a reader: $(cat "$folder"/reader.*)"; done
     "$client" judge "$folder/journal" "$folder"/replies.* || blame "replies while a server was renewed"
     # All accepted edits are there.
-    HIPSD_KEEP=3 "$examples/backup.sh" "127.0.0.1:$next" "$folder/kept" >"$folder/body" 2>&1 || blame "backup.sh of the second server: $(cat "$folder/body")"
+    HIPSD_KEEP=3 "$examples/backup.sh" "@$named" "$folder/kept" >"$folder/body" 2>&1 || blame "backup.sh of the second server: $(cat "$folder/body")"
     "$client" last "$folder/journal" "$folder/kept" || blame "the second server"
 }
 if command -v nginx >/dev/null 2>&1; then renewed; else leaves_out nginx; fi

@@ -864,7 +864,7 @@ installs() {
     PROGRAM=$program DESTDIR=$root "$scripts/install.sh" /usr >"$folder/body" 2>&1 || blame "install.sh: $(cat "$folder/body")"
     PROGRAM=$program DESTDIR=$root "$scripts/install.sh" /usr >"$folder/body" 2>&1 || blame "install.sh, again: $(cat "$folder/body")"
     (cd "$folder/survey" && "$root/usr/bin/hipsd" export) >"$folder/body" 2>/dev/null || blame "what is installed doesn't run: $(cat "$folder/body")"
-    for file in share/man/man1/hipsd.1 lib/systemd/system/hipsd.service lib/systemd/system/hipsd-backup.service lib/systemd/system/hipsd-backup.timer \
+    for file in share/man/man1/hipsd.1 lib/systemd/system/hipsd@.service lib/systemd/system/hipsd-backup.service lib/systemd/system/hipsd-backup.timer \
         lib/sysusers.d/hipsd.conf share/doc/hipsd/examples/README.md; do
         [ -s "$root/usr/$file" ] || blame "install.sh: there is no $file"
     done
@@ -872,7 +872,7 @@ installs() {
         [ -x "$root/usr/share/doc/hipsd/examples/$script" ] || blame "$script can't be run where it is installed"
     done
     grep -rqE '@(PREFIX|VERSION|REVISION|TOOLCHAIN)@' "$root/usr/share/man" "$root/usr/lib" && blame "install.sh leaves a word unfilled"
-    grep -q '^ExecStart=/usr/bin/hipsd serve 127.0.0.1:' "$root/usr/lib/systemd/system/hipsd.service" || blame "the service starts another program"
+    grep -q '^ExecStart=/usr/bin/hipsd serve 127.0.0.1:%i ' "$root/usr/lib/systemd/system/hipsd@.service" || blame "the service starts another program"
     grep -q '^ExecStart=/usr/share/doc/hipsd/examples/backup.sh ' "$root/usr/lib/systemd/system/hipsd-backup.service" || blame "the backup's service starts another script"
     grep -q '=/usr/bin/hipsd ' "$root/usr/lib/systemd/system/hipsd-backup.service" || blame "the backup's service takes another program"
     if command -v mandoc >/dev/null 2>&1; then
@@ -885,8 +885,8 @@ installs() {
     fi
     if command -v systemd-analyze >/dev/null 2>&1; then
         # It looks for the program where the service says.
-        sed "s#=/usr/bin/hipsd#=$root/usr/bin/hipsd#" "$root/usr/lib/systemd/system/hipsd.service" >"$folder/hipsd.service"
-        service "$folder/hipsd.service"
+        sed "s#=/usr/#=$root/usr/#" "$root/usr/lib/systemd/system/hipsd@.service" >"$folder/hipsd@8081.service"
+        service "$folder/hipsd@8081.service"
         mkdir -p "$root/etc"
         systemd-sysusers --dry-run --root="$root" "$root/usr/lib/sysusers.d/hipsd.conf" 2>&1 | grep -q "Creating user 'hipsd'" || blame "systemd-sysusers makes no user"
     else

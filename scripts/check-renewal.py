@@ -1,14 +1,16 @@
 #!/usr/bin/python3
-"""Tries what keeps a survey over the days: examples/export.sh and backup.sh.
+"""Tries what keeps a survey over the days: examples/export.sh, backup.sh and rollover.sh.
 
     scripts/check-renewal.py [PROGRAM [TEST ..]]
 
 PROGRAM is crates/hipsd/out/hipsd if none is named. What it starts it ends, and nothing is written outside a folder of its own.
 """
 
+import http.client
 import os
 import re
 import shutil
+import signal
 import socket
 import subprocess
 import sys
@@ -19,6 +21,7 @@ from pathlib import Path
 
 TOP = Path(__file__).resolve().parent.parent
 sys.path.insert(0, str(TOP / "scripts"))
+os.environ["PATH"] += ":/usr/sbin"
 from survey_files import Survey, image, tile_path
 
 PROGRAM = str(Path(sys.argv[1] if sys.argv[1:] else TOP / "crates/hipsd/out/hipsd").resolve())
@@ -185,6 +188,133 @@ class Backup(Case):
                              stdout=subprocess.PIPE, stderr=subprocess.STDOUT, text=True, timeout=60, check=False)
         self.assertIn("a hipsd of another user runs", ran.stdout)
         self.assertTrue(old.exists())
+
+
+SYSTEMCTL = """#!/bin/sh
+# systemctl enable or disable --quiet --now hipsd@PORT, in the folder {0}
+echo "$*" >>{0}/calls
+port=${{4#hipsd@}}
+if [ "$1" = enable ]; then
+    : >{0}/enabled.$port
+    cd {0}/servers/$port && {{ {1} serve 127.0.0.1:$port 65536 4 >/dev/null 2>&1 & echo $! >{0}/process.$port; }}
+else
+    rm {0}/enabled.$port
+    process=$(cat {0}/process.$port)
+    rm {0}/process.$port
+    kill "$process"
+    while readlink "/proc/$process/exe" >/dev/null; do sleep 0.05; done
+fi
+"""
+NGINX = """worker_processes 1;
+daemon off;
+pid {0}/nginx.pid;
+error_log {0}/nginx.log;
+events {{ }}
+http {{
+    access_log off;
+    client_body_temp_path {0}/bodies;
+    upstream survey {{ include {0}/port; }}
+    server {{ listen 127.0.0.1:{1}; location / {{ proxy_pass http://survey/; }} }}
+}}
+"""
+
+
+@unittest.skipUnless(shutil.which("nginx") or os.environ.get("CI") == "true", "nginx isn't installed")
+class Rollover(Case):
+    """A server is renewed by the units of systemd, in whose place a script starts and ends the servers; nginx is before it."""
+
+    def setUp(self):
+        super().setUp()
+        self.old, self.new, self.web = free_port(), free_port(), free_port()
+        (self.folder / "servers").mkdir()
+        (self.folder / "servers" / str(self.old)).symlink_to(self.survey("survey", 7))
+        (self.folder / "bin").mkdir()
+        (self.folder / "bin" / "systemctl").write_text(SYSTEMCTL.format(self.folder, PROGRAM), encoding="ascii")
+        (self.folder / "bin" / "systemctl").chmod(0o755)
+        (self.folder / "port").write_text(f"# the port\nserver 127.0.0.1:{self.old} max_conns=9;\n", encoding="ascii")
+        (self.folder / "nginx.conf").write_text(NGINX.format(self.folder, self.web), encoding="ascii")
+        self.addCleanup(self.end_all)
+        self.boot(self.old)
+        self.proxy = self.begin("nginx", "-c", self.folder / "nginx.conf", "-p", self.folder)
+        listens(self.web, self.proxy)
+
+    def boot(self, *ports):
+        """Starts the servers that are enabled, and these."""
+        for port in {*ports, *(int(path.suffix[1:]) for path in self.folder.glob("enabled.*"))}:
+            subprocess.run([self.folder / "bin/systemctl", "enable", "--quiet", "--now", f"hipsd@{port}"], check=True)
+            self.asks("GET", "properties", f"127.0.0.1:{port}")
+        (self.folder / "calls").unlink()
+
+    def end_all(self):
+        for process in self.folder.glob("process.*"):
+            os.kill(int(process.read_text(encoding="ascii")), signal.SIGKILL)
+
+    def asks(self, method, path, address=None, body=None):
+        """Code, fields and body of a reply, from nginx if no address is named; a server that starts is waited for."""
+        for _ in range(200):
+            connection = http.client.HTTPConnection(address or f"127.0.0.1:{self.web}", timeout=20)
+            try:
+                connection.request(method, "/" + path, body)
+                reply = connection.getresponse()
+                return reply.status, reply.headers, reply.read()
+            except ConnectionError:
+                time.sleep(0.05)
+            finally:
+                connection.close()
+        raise AssertionError(f"nobody answers at {address}")
+
+    def edit(self, leaf, address=None):
+        self.assertIn(self.asks("PUT", tile_path(5, leaf), address, tile(leaf))[0], (201, 204))
+
+    def roll(self, status, *words, **environment):
+        return self.script(status, "rollover.sh", *words, **{
+            "PATH": f"{self.folder}/bin:{os.environ['PATH']}", "HIPSD_SITE": str(self.folder / "port"), "HIPSD_PAUSED": str(self.folder / "paused"),
+            "HIPSD_NGINX_PID": str(self.folder / "nginx.pid"), "HIPSD_RELOAD": f"kill -HUP {self.proxy.pid}", **environment})
+
+    def named(self):
+        return (self.folder / "port").read_text(encoding="ascii")
+
+    def test_a_renewed_server_outlives_a_reboot(self):
+        self.edit(8)
+        said = self.roll(0, f"127.0.0.1:{self.old}", f"127.0.0.1:{self.new}")
+        if ROOT:
+            self.assertIn(f"any user of this machine may edit at 127.0.0.1:{self.new}", said)
+        self.assertEqual(self.named(), f"# the port\nserver 127.0.0.1:{self.new} max_conns=9;\n")
+        self.assertEqual((self.folder / "calls").read_text(encoding="ascii"),
+                         f"enable --quiet --now hipsd@{self.new}\ndisable --quiet --now hipsd@{self.old}\n")
+        self.end_all()
+        self.boot()
+        self.assertEqual([path.name for path in self.folder.glob("process.*") if path.suffix == f".{self.old}"], [])
+        self.assertEqual(self.asks("GET", tile_path(5, 8))[0], 200)
+
+        # To and fro, with backups beside it: the folder of the server that runs stays.
+        for one, other in (self.new, self.old), (self.old, self.new):
+            self.edit(one % 100 + 9)
+            self.roll(0, f"127.0.0.1:{one}", f"127.0.0.1:{other}")
+            for _ in range(2):
+                self.script(0, "backup.sh", f"@{self.folder / 'port'}", self.folder / "servers" / "backup", HIPSD_KEEP="1")
+            folder = (self.folder / "servers" / str(other)).resolve()
+            self.assertTrue((folder / "properties").exists())
+            self.assertEqual(Path(f"/proc/{(self.folder / f'process.{other}').read_text(encoding='ascii').strip()}/cwd").resolve(), folder)
+        self.assertLessEqual(len(list((self.folder / "servers").glob("*Z"))), 3)
+
+    def stays(self, said, text):
+        """The first server goes on, as it was."""
+        self.assertIn(text, said)
+        self.assertIn(f"The server at 127.0.0.1:{self.old} goes on", said)
+        self.assertIn(f"server 127.0.0.1:{self.old} max_conns=9;", self.named())
+        self.assertFalse((self.folder / "paused").exists())
+        self.assertEqual([path.suffix for path in self.folder.glob("enabled.*")], [f".{self.old}"])
+        self.assertEqual(self.asks("GET", tile_path(5, 7))[0], 200)
+
+    def test_a_port_that_others_reach(self):
+        words = f"127.0.0.1:{self.old}", f"127.0.0.1:{self.new}"
+        self.stays(self.roll(1, *words, HIPSD_STRANGER=f"[ $PORT = {self.new} ]"), "hipsd.nft has to name both ports")
+        (self.folder / "leaf").write_bytes(tile(9))
+        begin = f'systemctl enable --quiet --now "hipsd@$PORT" && curl -s --retry 9 --retry-connrefused -T {self.folder}/leaf "http://$ADDRESS/{tile_path(5, 9)}"'
+        self.stays(self.roll(1, *words, HIPSD_STRANGER="false", HIPSD_BEGIN=begin), f"somebody has edited at 127.0.0.1:{self.new}")
+        (self.folder / "port").write_text("# nothing\n", encoding="ascii")
+        self.assertIn("doesn't name one server", self.roll(2))
 
 
 if __name__ == "__main__":
