@@ -3,17 +3,24 @@
 #
 #     examples/backup.sh ADDRESS FOLDER
 #
-# ADDRESS is the server's own, as 127.0.0.1:8080 (a proxy keeps no pin). FOLDER is a symbolic link to the last copy, or nothing yet;
+# ADDRESS is the server's own, as 127.0.0.1:8080 (a proxy keeps no pin); of @FILE it's that in the line `server ADDRESS;` of the file,
+# by which the proxy goes to it. FOLDER is a symbolic link to the last copy, or nothing yet;
 # the copies stand beside it, FOLDER.20261129T094500Z and so on. One published state is copied, whatever is edited and published
 # meanwhile, into a new folder; its survey.conf is made of its properties; `hipsd verify` reads all files again; and only then the
 # link is turned to it. Until then, whatever fails, the link shows the copy that it showed. Edits that aren't published are no
 # part of a copy.
 #
-# HIPSD_PROGRAM is the program, hipsd if nothing is said, and HIPSD_KEEP how many copies stay, 7 if nothing is said. The status is 0
-# where the link shows a new copy, 2 where the words are wrong, and else 1.
+# The newest copies stay, and each that is in use: the folder of a process, or one that a link beside it, a link in HIPSD_SERVERS
+# (rollover.sh) or a unit of systemd names.
+#
+# These variables say more: HIPSD_PROGRAM, the program (hipsd); HIPSD_KEEP, how many copies stay (7); HIPSD_SERVERS, the folder of
+# the servers (/var/lib/hipsd); HIPSD_UNITS, the folders of units (systemd's own). The status is 0 where the link shows a new copy, 2
+# where the words are wrong, and else 1.
 set -eu
 program=${HIPSD_PROGRAM:-hipsd}
 keep=${HIPSD_KEEP:-7}
+servers=${HIPSD_SERVERS:-/var/lib/hipsd}
+units=${HIPSD_UNITS:-/etc/systemd /run/systemd /usr/local/lib/systemd /usr/lib/systemd}
 
 # refuse TEXT: the words are wrong.
 refuse() {
@@ -28,6 +35,12 @@ fail() {
 
 [ $# = 2 ] || refuse "the words are ADDRESS FOLDER"
 address=$1
+case $address in
+    @*)
+        address=$(sed -n 's/^ *server \([^ ;]*\)[ ;].*/\1/p' "${address#@}" | sort -u)
+        case $address in '' | *[!0-9A-Za-z.:-]*) refuse "${1#@} doesn't name one server: '$address'" ;; esac
+        ;;
+esac
 folder=${2%/}
 case $keep in '' | 0* | *[!0-9]*) refuse "HIPSD_KEEP is '$keep': how many copies stay, 1 or more" ;; esac
 case $program in */*) program=$(realpath -e "$program") || refuse "there is no program $HIPSD_PROGRAM" ;; esac
@@ -65,7 +78,32 @@ mv -T "$link.turned" "$link"
 sync "$place"
 echo "$link is $(basename "$name"): $verdict"
 
-# The names sort by their times; the newest stay.
+# hidden: whether a hipsd runs whose folder this user may not see.
+hidden() {
+    for process in /proc/[0-9]*; do
+        name=
+        { read -r name <"$process/comm"; } 2>/dev/null || :
+        [ "$name" = hipsd ] || continue
+        readlink "$process/cwd" >/dev/null || ! grep -qs '^State:.[^Z]' "$process/status" || return 0
+    done
+    return 1
+}
+# in_use COPY: whether a link, a process or a unit has it.
+in_use() {
+    [ -z "$(find -L "$place"/* "$servers"/* /proc/[0-9]*/cwd -maxdepth 0 -samefile "$1" ! -path "$1" 2>/dev/null)" ] || return 0
+    # shellcheck disable=SC2086 # folders
+    grep -rqsF "$1" $units
+}
+
+# The names sort by their times.
 find "$place" -mindepth 1 -maxdepth 1 -type d -name "$(basename "$link").[0-9]*Z" | sort -r | tail -n +$((keep + 1)) | while read -r old; do
-    rm -rf "$old"
+    if hidden; then
+        echo "backup.sh: all older copies stay, since a hipsd of another user runs: nobody but root sees which folder it has" >&2
+        break
+    fi
+    if in_use "$old"; then
+        echo "backup.sh: $old is in use, and stays" >&2
+    else
+        rm -rf "$old"
+    fi
 done

@@ -8,23 +8,9 @@
 #     scripts/check-operate.sh [PROGRAM]
 #
 # PROGRAM is crates/hipsd/out/hipsd if none is named. Where a tool is missing this fails if CI=true, and else says what it left out.
-PATH=$PATH:/usr/sbin
 cd "$(dirname "$0")/.." || exit 1
-program=$(realpath -e "${1:-crates/hipsd/out/hipsd}") || { echo "check-operate: there is no built hipsd" >&2; exit 1; }
-python=/usr/bin/python3
-top=$PWD
-scripts=$top/scripts
-examples=$top/examples
-missing=
-command -v curl >/dev/null 2>&1 || missing="$missing curl"
-[ -x "$python" ] || missing="$missing python3"
-if [ -n "$missing" ]; then
-    echo "check-operate: LEFT OUT, nothing was tried: not installed here:$missing"
-    [ "${CI:-}" = true ] && exit 1
-    exit 0
-fi
-
-folder=$(mktemp -d) || exit 1
+# shellcheck source-path=SCRIPTDIR source=check-common.sh
+. scripts/check-common.sh
 server=
 web=
 # shellcheck disable=SC2317 # it is called by the trap
@@ -34,36 +20,6 @@ end() {
     rm -rf "$folder"
 }
 trap end EXIT
-wrong=0
-blame() {
-    echo "check-operate: $*" >&2
-    wrong=1
-}
-# leaves_out PACKAGE: a tool isn't there.
-leaves_out() {
-    echo "check-operate: left out, since it isn't installed here: $1"
-    [ "${CI:-}" = true ] && blame "$1 isn't installed"
-}
-free_port() {
-    "$python" -c 'import socket; s = socket.socket(); s.bind(("127.0.0.1", 0)); print(s.getsockname()[1])'
-}
-# listens PORT PROCESS: once somebody listens there; fails where the process has ended.
-listens() {
-    for _ in $(seq 600); do
-        (exec 3<>"/dev/tcp/127.0.0.1/$1") 2>/dev/null && return
-        kill -0 "$2" 2>/dev/null || return
-        sleep 0.05
-    done
-    return 1
-}
-
-# start: hipsd over the survey in $folder/survey, at $port, once it answers.
-start() {
-    cd "$folder/survey" || exit 1
-    "$program" serve "127.0.0.1:$port" 65536 64 >"$folder/output" 2>"$folder/log" &
-    server=$!
-    listens "$port" "$server" || { cat "$folder/log" >&2; echo "check-operate: hipsd doesn't listen" >&2; exit 1; }
-}
 # stop: ends it.
 stop() {
     kill "$server" 2>/dev/null
@@ -101,7 +57,6 @@ Path("survey.conf").write_bytes(Survey("operate", "Survey operate", top=5, low=3
 Path("../leaf").write_bytes(image(8, 8, range(64), ("ORDER", 5), ("NPIX", 7)))
 Path("../other").write_bytes(image(8, 8, range(64, 128), ("ORDER", 5), ("NPIX", 7)))
 PYTHON
-port=$(free_port)
 direct=http://127.0.0.1:$port
 
 # ---- nginx
@@ -909,7 +864,7 @@ installs() {
     PROGRAM=$program DESTDIR=$root "$scripts/install.sh" /usr >"$folder/body" 2>&1 || blame "install.sh: $(cat "$folder/body")"
     PROGRAM=$program DESTDIR=$root "$scripts/install.sh" /usr >"$folder/body" 2>&1 || blame "install.sh, again: $(cat "$folder/body")"
     (cd "$folder/survey" && "$root/usr/bin/hipsd" export) >"$folder/body" 2>/dev/null || blame "what is installed doesn't run: $(cat "$folder/body")"
-    for file in share/man/man1/hipsd.1 lib/systemd/system/hipsd.service lib/systemd/system/hipsd-backup.service lib/systemd/system/hipsd-backup.timer \
+    for file in share/man/man1/hipsd.1 lib/systemd/system/hipsd@.service lib/systemd/system/hipsd-backup.service lib/systemd/system/hipsd-backup.timer \
         lib/sysusers.d/hipsd.conf share/doc/hipsd/examples/README.md; do
         [ -s "$root/usr/$file" ] || blame "install.sh: there is no $file"
     done
@@ -917,7 +872,7 @@ installs() {
         [ -x "$root/usr/share/doc/hipsd/examples/$script" ] || blame "$script can't be run where it is installed"
     done
     grep -rqE '@(PREFIX|VERSION|REVISION|TOOLCHAIN)@' "$root/usr/share/man" "$root/usr/lib" && blame "install.sh leaves a word unfilled"
-    grep -q '^ExecStart=/usr/bin/hipsd serve 127.0.0.1:' "$root/usr/lib/systemd/system/hipsd.service" || blame "the service starts another program"
+    grep -q '^ExecStart=/usr/bin/hipsd serve 127.0.0.1:%i ' "$root/usr/lib/systemd/system/hipsd@.service" || blame "the service starts another program"
     grep -q '^ExecStart=/usr/share/doc/hipsd/examples/backup.sh ' "$root/usr/lib/systemd/system/hipsd-backup.service" || blame "the backup's service starts another script"
     grep -q '=/usr/bin/hipsd ' "$root/usr/lib/systemd/system/hipsd-backup.service" || blame "the backup's service takes another program"
     if command -v mandoc >/dev/null 2>&1; then
@@ -930,8 +885,8 @@ installs() {
     fi
     if command -v systemd-analyze >/dev/null 2>&1; then
         # It looks for the program where the service says.
-        sed "s#=/usr/bin/hipsd#=$root/usr/bin/hipsd#" "$root/usr/lib/systemd/system/hipsd.service" >"$folder/hipsd.service"
-        service "$folder/hipsd.service"
+        sed "s#=/usr/#=$root/usr/#" "$root/usr/lib/systemd/system/hipsd@.service" >"$folder/hipsd@8081.service"
+        service "$folder/hipsd@8081.service"
         mkdir -p "$root/etc"
         systemd-sysusers --dry-run --root="$root" "$root/usr/lib/sysusers.d/hipsd.conf" 2>&1 | grep -q "Creating user 'hipsd'" || blame "systemd-sysusers makes no user"
     else
@@ -970,9 +925,9 @@ SHELL
 }
 if command -v nft >/dev/null 2>&1; then port_for_the_proxy; else leaves_out nftables; fi
 
-# The scripts that operators and editors run.
+# The scripts that operators and editors run, and those that try them.
 if command -v shellcheck >/dev/null 2>&1; then
-    shellcheck "$examples/edit.sh" "$examples/look-back.sh" "$scripts/install.sh" "$scripts/install-tools.sh" "$scripts/check-operate.sh" || blame "shellcheck"
+    shellcheck -x "$examples"/*.sh "$scripts"/install*.sh "$scripts/check-operate.sh" "$scripts/check-mirror.sh" || blame "shellcheck"
 else
     leaves_out shellcheck
 fi

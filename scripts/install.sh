@@ -3,8 +3,8 @@
 #
 #     scripts/install.sh [--remove] [PREFIX]
 #
-# PREFIX is /usr/local if none is named. It gets bin/hipsd, share/man/man1/hipsd.1, lib/systemd/system/hipsd.service with
-# hipsd-backup.service and hipsd-backup.timer, lib/sysusers.d/hipsd.conf and share/doc/hipsd with the examples and FORMATS.md; systemd finds those of /usr/local and /usr. The
+# PREFIX is /usr/local if none is named. It gets bin/hipsd, share/man/man1/hipsd.1, the units of examples/ in lib/systemd/system,
+# lib/sysusers.d/hipsd.conf and share/doc/hipsd with the examples and FORMATS.md; systemd finds those of /usr/local and /usr. The
 # program is crates/hipsd/out/hipsd, or the one in the environment variable PROGRAM. With DESTDIR all goes below that folder, as a
 # package wants it. Nothing is started, no user is made, and /etc and the survey's folder stay as they are.
 set -eu
@@ -68,16 +68,15 @@ install_all() {
     fi
     work=$(mktemp -d)
     trap 'rm -rf "$work"' EXIT
-    filled examples/hipsd.service >"$work/unit"
-    filled examples/hipsd-backup.service >"$work/backup"
     filled docs/hipsd.1 >"$work/manual"
     [ ! -e "$list" ] || take_away
     mkdir -p "$doc"
     put 755 "$program" bin/hipsd
     put 644 "$work/manual" share/man/man1/hipsd.1
-    put 644 "$work/unit" lib/systemd/system/hipsd.service
-    put 644 "$work/backup" lib/systemd/system/hipsd-backup.service
-    put 644 examples/hipsd-backup.timer lib/systemd/system/hipsd-backup.timer
+    for unit in examples/*.service examples/*.timer; do
+        filled "$unit" >"$work/unit"
+        put 644 "$work/unit" "lib/systemd/system/${unit#*/}"
+    done
     put 644 examples/hipsd.sysusers lib/sysusers.d/hipsd.conf
     put 644 docs/FORMATS.md share/doc/hipsd/FORMATS.md
     for name in $(examples); do
@@ -87,10 +86,10 @@ install_all() {
     done
     [ -z "${DESTDIR:-}" ] || return 0
     case $prefix in
-        /usr | /usr/local) echo "next, as root: systemd-sysusers && systemctl daemon-reload && systemctl enable --now hipsd" ;;
+        /usr | /usr/local) echo "next, as root: systemd-sysusers && systemctl daemon-reload && systemctl enable --now hipsd@8080" ;;
         *)
             echo "next, as root, since systemd doesn't look below $prefix: systemd-sysusers $prefix/lib/sysusers.d/hipsd.conf &&" \
-                "systemctl link $prefix/lib/systemd/system/hipsd.service && systemctl enable --now hipsd"
+                "systemctl link $prefix/lib/systemd/system/hipsd* && systemctl enable --now hipsd@8080"
             ;;
     esac
 }
@@ -109,7 +108,7 @@ remove_all() {
         exit 1
     fi
     take_away
-    echo "hipsd is no more below $into. A service that runs goes on until: systemctl disable --now hipsd && systemctl daemon-reload"
+    echo "hipsd is no more below $into. A service that runs goes on until: systemctl disable --now hipsd@8080 hipsd@8081 && systemctl daemon-reload"
 }
 
 if [ -n "$remove" ]; then remove_all; else install_all; fi

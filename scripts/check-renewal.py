@@ -1,0 +1,321 @@
+#!/usr/bin/python3
+"""Tries what keeps a survey over the days: examples/export.sh, backup.sh and rollover.sh.
+
+    scripts/check-renewal.py [PROGRAM [TEST ..]]
+
+PROGRAM is crates/hipsd/out/hipsd if none is named. What it starts it ends, and nothing is written outside a folder of its own.
+"""
+
+import http.client
+import os
+import re
+import shutil
+import signal
+import socket
+import subprocess
+import sys
+import tempfile
+import time
+import unittest
+from pathlib import Path
+
+TOP = Path(__file__).resolve().parent.parent
+sys.path.insert(0, str(TOP / "scripts"))
+os.environ["PATH"] += ":/usr/sbin"
+from survey_files import Survey, image, tile_path
+
+PROGRAM = str(Path(sys.argv[1] if sys.argv[1:] else TOP / "crates/hipsd/out/hipsd").resolve())
+EXAMPLES = TOP / "examples"
+SURVEY = Survey("renewal", "Survey renewal", top=5, low=3, width=8)
+ROOT = os.geteuid() == 0
+
+
+def free_port():
+    with socket.socket() as probe:
+        probe.bind(("127.0.0.1", 0))
+        return probe.getsockname()[1]
+
+
+def listens(port, process):
+    """Waits until somebody listens there."""
+    for _ in range(600):
+        with socket.socket() as probe:
+            if probe.connect_ex(("127.0.0.1", port)) == 0:
+                return
+        if process.poll() is not None:
+            break
+        time.sleep(0.05)
+    raise AssertionError(f"nobody listens at {port}")
+
+
+def tile(leaf):
+    return image(8, 8, range(leaf, leaf + 64), ("ORDER", 5), ("NPIX", leaf))
+
+
+class Case(unittest.TestCase):
+    """A folder of its own, and servers that end with the test."""
+
+    def setUp(self):
+        self.folder = Path(tempfile.mkdtemp())
+        self.folder.chmod(0o755)
+        self.addCleanup(shutil.rmtree, self.folder)
+
+    def survey(self, name, *leaves):
+        folder = self.folder / name
+        folder.mkdir()
+        (folder / "survey.conf").write_bytes(SURVEY.description())
+        for leaf in leaves:
+            path = folder / tile_path(5, leaf)
+            path.parent.mkdir(parents=True, exist_ok=True)
+            path.write_bytes(tile(leaf))
+        return folder
+
+    def begin(self, *words, **more):
+        process = subprocess.Popen(words, stdout=subprocess.DEVNULL, stderr=subprocess.DEVNULL, **more)
+        self.addCleanup(process.wait)
+        self.addCleanup(process.kill)
+        return process
+
+    def serve(self, folder):
+        """The address of a server over the folder."""
+        port = free_port()
+        server = self.begin(PROGRAM, "serve", f"127.0.0.1:{port}", "65536", "4", cwd=folder)
+        listens(port, server)
+        return f"127.0.0.1:{port}"
+
+    def script(self, status, name, *words, **environment):
+        """What a script of examples/ says, where it ends with this status."""
+        known = {"HIPSD_PROGRAM": PROGRAM, "HIPSD_LOG": "warn", "HIPSD_SERVERS": str(self.folder / "servers"), "HIPSD_UNITS": str(self.folder / "units")}
+        ran = subprocess.run([EXAMPLES / name, *map(str, words)], env={**os.environ, **known, **environment}, stdout=subprocess.PIPE,
+                             stderr=subprocess.STDOUT, text=True, timeout=60, check=False)
+        self.assertEqual(ran.returncode, status, ran.stdout)
+        return ran.stdout
+
+
+class Export(Case):
+    """A survey folder is exported, and nothing goes unasked."""
+
+    def files(self):
+        return {str(path.relative_to(self.shelf)) for path in self.shelf.rglob("*") if path.is_file()}
+
+    def order(self, order):
+        text = (self.shelf / "survey.conf").read_text(encoding="ascii")
+        (self.shelf / "survey.conf").write_text(re.sub("hips_order = .*", f"hips_order = {order}", text), encoding="ascii")
+
+    def test_nothing_goes_unasked(self):
+        self.shelf = self.survey("shelf", 0, 7, 8)
+        leaves = self.files()
+        said = self.script(0, "export.sh", self.shelf)
+        made = self.files() - leaves
+        self.assertEqual(len(made), 7)
+        self.assertIn("3 leaf tiles are there", said)
+        for line in "properties: 1", "Moc.fits: 1", "Norder3/Allsky.fits: 1", "tiles of order 3: 1", "tiles of order 4: 3":
+            self.assertIn(f"        {line}\n", said)
+        self.assertNotIn("would go", said)
+        self.assertEqual(self.script(0, "export.sh", self.shelf), "verified 10\n")
+
+        # A wrong order: all would go, and nothing does. What is no path of a HiPS never goes.
+        for stray in "Norder3/Dir0/Npix05.fits", "Norder3/Dir0/Npix768.fits", "Norder5/Dir10000/Npix8.fits", "Norder12/Dir0/Npix0.fits", "notes/Npix1.fits":
+            (self.shelf / stray).parent.mkdir(parents=True, exist_ok=True)
+            (self.shelf / stray).write_bytes(b"")
+        all_there = self.files()
+        self.order(8)
+        said = self.script(1, "export.sh", self.shelf)
+        self.assertEqual(self.files(), all_there)
+        for line in "Norder3/Allsky.fits: 1", "tiles of order 3: 1", "tiles of order 4: 3", "tiles of order 5: 3", "With hips_order = 5 ":
+            self.assertIn(line, said)
+        self.assertIn("with --remove these files go", said)
+        self.order(12)
+        self.assertIn("nothing is exported, since hipsd verify ended with status 2", self.script(1, "export.sh", self.shelf))
+        self.assertEqual(self.files(), all_there)
+
+        # What it says would go is what goes.
+        self.order(4)
+        said = self.script(1, "export.sh", self.shelf)
+        self.assertIn("3 leaf tiles are there", said)
+        self.assertIn("would go, since this survey doesn't have them:\n        tiles of order 5: 3\n", said)
+        self.assertIn("exported 7\n", self.script(0, "export.sh", "--remove", self.shelf))
+        self.assertEqual(all_there - self.files(), {tile_path(5, leaf) for leaf in (0, 7, 8)})
+
+    def test_the_words(self):
+        self.assertIn("the words are", self.script(2, "export.sh"))
+        self.assertIn("the words are", self.script(2, "export.sh", self.folder, "--remove"))
+        self.script(2, "export.sh", self.folder / "nothing")
+
+
+class Backup(Case):
+    """The copies that stay."""
+
+    def setUp(self):
+        super().setUp()
+        self.address = self.serve(self.survey("survey", 7))
+        self.link = self.folder / "kept"
+
+    def copies(self):
+        return sorted(path for path in self.folder.glob("kept.[0-9]*Z") if path.is_dir())
+
+    def older(self, *days):
+        """Copies of days long ago."""
+        made = [self.folder / f"kept.200001{day:02}T000000Z" for day in days]
+        for copy in made:
+            copy.mkdir()
+        return made
+
+    def test_a_folder_in_use_stays(self):
+        served, named, shown, served_by, free = self.older(1, 2, 3, 4, 5)
+        (served / "survey.conf").write_bytes(SURVEY.description())
+        self.serve(served)
+        (self.folder / "units").mkdir()
+        (self.folder / "units" / "other.service").write_text(f"[Service]\nWorkingDirectory={named}\n", encoding="ascii")
+        (self.folder / "other").symlink_to(shown.name)
+        (self.folder / "servers").mkdir()
+        (self.folder / "servers" / "8081").symlink_to(served_by)
+        for _ in range(2):
+            said = self.script(0, "backup.sh", self.address, self.link, HIPSD_KEEP="1")
+            self.assertEqual(self.copies(), [served, named, shown, served_by, self.link.resolve()])
+            self.assertIn(f"{served} is in use", said)
+        self.assertFalse(free.exists())
+
+    @unittest.skipUnless(ROOT, "only root can be another user")
+    def test_what_cannot_be_seen_stays(self):
+        self.folder.chmod(0o777)
+        old, = self.older(1)
+        os.chown(old, 65534, 65534)
+        nobody = ["setpriv", "--reuid=65534", "--regid=65534", "--clear-groups"]
+        if subprocess.run([*nobody, "test", "-x", PROGRAM], check=False).returncode:
+            self.skipTest("nobody may not run the program where it lies")
+        ran = subprocess.run([*nobody, EXAMPLES / "backup.sh", self.address, self.link], env={**os.environ, "HIPSD_PROGRAM": PROGRAM, "HIPSD_KEEP": "1"},
+                             stdout=subprocess.PIPE, stderr=subprocess.STDOUT, text=True, timeout=60, check=False)
+        self.assertIn("a hipsd of another user runs", ran.stdout)
+        self.assertTrue(old.exists())
+
+
+SYSTEMCTL = """#!/bin/sh
+# systemctl enable or disable --quiet --now hipsd@PORT, in the folder {0}
+echo "$*" >>{0}/calls
+port=${{4#hipsd@}}
+if [ "$1" = enable ]; then
+    : >{0}/enabled.$port
+    cd {0}/servers/$port && {{ {1} serve 127.0.0.1:$port 65536 4 >/dev/null 2>&1 & echo $! >{0}/process.$port; }}
+else
+    rm {0}/enabled.$port
+    process=$(cat {0}/process.$port)
+    rm {0}/process.$port
+    kill "$process"
+    while readlink "/proc/$process/exe" >/dev/null; do sleep 0.05; done
+fi
+"""
+NGINX = """worker_processes 1;
+daemon off;
+pid {0}/nginx.pid;
+error_log {0}/nginx.log;
+events {{ }}
+http {{
+    access_log off;
+    client_body_temp_path {0}/bodies;
+    upstream survey {{ include {0}/port; }}
+    server {{ listen 127.0.0.1:{1}; location / {{ proxy_pass http://survey/; }} }}
+}}
+"""
+
+
+@unittest.skipUnless(shutil.which("nginx") or os.environ.get("CI") == "true", "nginx isn't installed")
+class Rollover(Case):
+    """A server is renewed by the units of systemd, in whose place a script starts and ends the servers; nginx is before it."""
+
+    def setUp(self):
+        super().setUp()
+        self.old, self.new, self.web = free_port(), free_port(), free_port()
+        (self.folder / "servers").mkdir()
+        (self.folder / "servers" / str(self.old)).symlink_to(self.survey("survey", 7))
+        (self.folder / "bin").mkdir()
+        (self.folder / "bin" / "systemctl").write_text(SYSTEMCTL.format(self.folder, PROGRAM), encoding="ascii")
+        (self.folder / "bin" / "systemctl").chmod(0o755)
+        (self.folder / "port").write_text(f"# the port\nserver 127.0.0.1:{self.old} max_conns=9;\n", encoding="ascii")
+        (self.folder / "nginx.conf").write_text(NGINX.format(self.folder, self.web), encoding="ascii")
+        self.addCleanup(self.end_all)
+        self.boot(self.old)
+        self.proxy = self.begin("nginx", "-c", self.folder / "nginx.conf", "-p", self.folder)
+        listens(self.web, self.proxy)
+
+    def boot(self, *ports):
+        """Starts the servers that are enabled, and these."""
+        for port in {*ports, *(int(path.suffix[1:]) for path in self.folder.glob("enabled.*"))}:
+            subprocess.run([self.folder / "bin/systemctl", "enable", "--quiet", "--now", f"hipsd@{port}"], check=True)
+            self.asks("GET", "properties", f"127.0.0.1:{port}")
+        (self.folder / "calls").unlink()
+
+    def end_all(self):
+        for process in self.folder.glob("process.*"):
+            os.kill(int(process.read_text(encoding="ascii")), signal.SIGKILL)
+
+    def asks(self, method, path, address=None, body=None):
+        """Code, fields and body of a reply, from nginx if no address is named; a server that starts is waited for."""
+        for _ in range(200):
+            connection = http.client.HTTPConnection(address or f"127.0.0.1:{self.web}", timeout=20)
+            try:
+                connection.request(method, "/" + path, body)
+                reply = connection.getresponse()
+                return reply.status, reply.headers, reply.read()
+            except ConnectionError:
+                time.sleep(0.05)
+            finally:
+                connection.close()
+        raise AssertionError(f"nobody answers at {address}")
+
+    def edit(self, leaf, address=None):
+        self.assertIn(self.asks("PUT", tile_path(5, leaf), address, tile(leaf))[0], (201, 204))
+
+    def roll(self, status, *words, **environment):
+        return self.script(status, "rollover.sh", *words, **{
+            "PATH": f"{self.folder}/bin:{os.environ['PATH']}", "HIPSD_SITE": str(self.folder / "port"), "HIPSD_PAUSED": str(self.folder / "paused"),
+            "HIPSD_NGINX_PID": str(self.folder / "nginx.pid"), "HIPSD_RELOAD": f"kill -HUP {self.proxy.pid}", **environment})
+
+    def named(self):
+        return (self.folder / "port").read_text(encoding="ascii")
+
+    def test_a_renewed_server_outlives_a_reboot(self):
+        self.edit(8)
+        said = self.roll(0, f"127.0.0.1:{self.old}", f"127.0.0.1:{self.new}")
+        if ROOT:
+            self.assertIn(f"any user of this machine may edit at 127.0.0.1:{self.new}", said)
+        self.assertEqual(self.named(), f"# the port\nserver 127.0.0.1:{self.new} max_conns=9;\n")
+        self.assertEqual((self.folder / "calls").read_text(encoding="ascii"),
+                         f"enable --quiet --now hipsd@{self.new}\ndisable --quiet --now hipsd@{self.old}\n")
+        self.end_all()
+        self.boot()
+        self.assertEqual([path.name for path in self.folder.glob("process.*") if path.suffix == f".{self.old}"], [])
+        self.assertEqual(self.asks("GET", tile_path(5, 8))[0], 200)
+
+        # To and fro, with backups beside it: the folder of the server that runs stays.
+        for one, other in (self.new, self.old), (self.old, self.new):
+            self.edit(one % 100 + 9)
+            self.roll(0, f"127.0.0.1:{one}", f"127.0.0.1:{other}")
+            for _ in range(2):
+                self.script(0, "backup.sh", f"@{self.folder / 'port'}", self.folder / "servers" / "backup", HIPSD_KEEP="1")
+            folder = (self.folder / "servers" / str(other)).resolve()
+            self.assertTrue((folder / "properties").exists())
+            self.assertEqual(Path(f"/proc/{(self.folder / f'process.{other}').read_text(encoding='ascii').strip()}/cwd").resolve(), folder)
+        self.assertLessEqual(len(list((self.folder / "servers").glob("*Z"))), 3)
+
+    def stays(self, said, text):
+        """The first server goes on, as it was."""
+        self.assertIn(text, said)
+        self.assertIn(f"The server at 127.0.0.1:{self.old} goes on", said)
+        self.assertIn(f"server 127.0.0.1:{self.old} max_conns=9;", self.named())
+        self.assertFalse((self.folder / "paused").exists())
+        self.assertEqual([path.suffix for path in self.folder.glob("enabled.*")], [f".{self.old}"])
+        self.assertEqual(self.asks("GET", tile_path(5, 7))[0], 200)
+
+    def test_a_port_that_others_reach(self):
+        words = f"127.0.0.1:{self.old}", f"127.0.0.1:{self.new}"
+        self.stays(self.roll(1, *words, HIPSD_STRANGER=f"[ $PORT = {self.new} ]"), "hipsd.nft has to name both ports")
+        (self.folder / "leaf").write_bytes(tile(9))
+        begin = f'systemctl enable --quiet --now "hipsd@$PORT" && curl -s --retry 9 --retry-connrefused -T {self.folder}/leaf "http://$ADDRESS/{tile_path(5, 9)}"'
+        self.stays(self.roll(1, *words, HIPSD_STRANGER="false", HIPSD_BEGIN=begin), f"somebody has edited at 127.0.0.1:{self.new}")
+        (self.folder / "port").write_text("# nothing\n", encoding="ascii")
+        self.assertIn("doesn't name one server", self.roll(2))
+
+
+if __name__ == "__main__":
+    unittest.main(argv=[sys.argv[0], *sys.argv[2:]])
