@@ -61,13 +61,15 @@ direct=http://127.0.0.1:$port
 
 # ---- nginx
 
-# proxy_starts: nginx with the example, but for ports and folders of this check, in front of $port. With a certificate by TLS too.
+# proxy_starts: nginx with the example, but for ports and folders of this check, in front of $port. With a certificate by TLS too; then
+# edits that come plain from this machine are taken all the same here (check_attacks.py tries that they aren't).
 proxy_starts() {
     plain=$(free_port)
     secure=$(free_port)
-    sed -e "s/127.0.0.1:8080/127.0.0.1:$port/" -e "s/listen 80;/listen 127.0.0.1:$plain;/" -e '/listen \[::\]:/d' \
-        -e "s#/etc/nginx/hipsd.users#$folder/users#" -e "s#/var/cache/nginx-hipsd#$folder/cache#" "$examples/nginx.conf" >"$folder/site"
-    [ -s "$folder/hipsd.pem" ] && sed -i -e 's/^\( *\)#tls /\1/' -e "s/listen 443/listen 127.0.0.1:$secure/" -e '/listen \[::\]:/d' \
+    sed -e "s#include /etc/nginx/hipsd.port.conf;#server 127.0.0.1:$port max_conns=48;#" -e "s/listen 80;/listen 127.0.0.1:$plain;/" \
+        -e '/listen \[::\]:/d' -e "s#/etc/nginx/hipsd.users#$folder/users#" -e "s#/var/cache/nginx-hipsd#$folder/cache#" \
+        -e "s#/var/log/nginx#$folder#" -e "s#/run/hipsd[.]#$folder/#" "$examples/nginx.conf" >"$folder/site"
+    [ -s "$folder/hipsd.pem" ] && sed -i -e '/#tls if /d' -e 's/^\( *\)#tls /\1/' -e "s/listen 443/listen 127.0.0.1:$secure/" -e '/listen \[::\]:/d' \
         -e "s#/etc/ssl/certs/hipsd.pem#$folder/hipsd.pem#" -e "s#/etc/ssl/private/hipsd.key#$folder/hipsd.key#" "$folder/site"
     printf '%s\n' 'worker_processes 1;' 'daemon off;' "pid $folder/nginx.pid;" "error_log $folder/nginx.log;" 'events { }' \
         "http { access_log off; client_body_temp_path $folder/bodies; include $folder/site; }" >"$folder/nginx.conf"
@@ -171,6 +173,7 @@ for place in /var/cache /run /var/log/nginx /etc/ssl/private; do mkdir -p "$plac
 cp -a /etc/ssl/certs "$1/certs"
 mount --bind "$1/certs" /etc/ssl/certs
 sed 's/hips[.]example[.]org/survey.your.org/' "$2/nginx.conf" >/etc/nginx/conf.d/hipsd.conf
+cp "$2/hipsd.port.conf" /etc/nginx
 rm -f /etc/nginx/sites-enabled/default
 install -m 640 -o root -g www-data /dev/null /etc/nginx/hipsd.users
 printf 'editor:%s\n' "$(echo secret | openssl passwd -6 -stdin)" >>/etc/nginx/hipsd.users

@@ -199,9 +199,9 @@ class Proxy:
     def __init__(self, folder, server, connections=512):
         self.folder, self.port = folder, free_port()
         words = [
-            ("127.0.0.1:8080", server.address), ("listen 80;", f"listen 127.0.0.1:{self.port};"), ("listen [::]:80;", ""),
-            ("/etc/nginx/hipsd.users", folder / "users"), ("/var/cache/nginx-hipsd", folder / "cache"), ("/var/log/nginx", folder),
-            ("/run/hipsd.paused", folder / "paused"),
+            ("include /etc/nginx/hipsd.port.conf", f"server {server.address} max_conns=48"), ("127.0.0.1:8080", server.address),
+            ("listen 80;", f"listen 127.0.0.1:{self.port};"), ("listen [::]:80;", ""), ("/etc/nginx/hipsd.users", folder / "users"),
+            ("/var/cache/nginx-hipsd", folder / "cache"), ("/var/log/nginx", folder), ("/run/hipsd.", f"{folder}/"),
         ]
         site = (EXAMPLES / "nginx.conf").read_text()
         for old, new in words:
@@ -215,7 +215,11 @@ class Proxy:
             f"http {{ access_log off; client_body_temp_path {folder}/bodies; include {folder}/site; }}"
         )
         self.process = subprocess.Popen(["nginx", "-c", folder / "nginx.conf", "-p", folder], stderr=subprocess.PIPE)
-        listens(self.port, self.process)
+        try:
+            listens(self.port, self.process)
+        except AssertionError:
+            self.process.kill()
+            raise AssertionError(self.process.communicate()[1].decode()) from None
 
     def cached(self):
         """How many files are in its cache."""
