@@ -12,6 +12,7 @@ import os
 import random
 import shutil
 import socket
+import ssl
 import statistics
 import subprocess
 import sys
@@ -194,16 +195,24 @@ class Journals(Attack):
 
 
 class Proxy:
-    """nginx with examples/nginx.conf before a server, with ports and folders of this check."""
+    """nginx with examples/nginx.conf before a server, with ports and folders of this check; with TLS at a second port if asked."""
 
-    def __init__(self, folder, server, connections=512):
-        self.folder, self.port = folder, free_port()
+    def __init__(self, folder, server, connections=512, tls=False):
+        self.folder, self.port, self.secure, self.connections = folder, free_port(), free_port(), connections
         words = [
             ("include /etc/nginx/hipsd.port.conf", f"server {server.address} max_conns=48"), ("127.0.0.1:8080", server.address),
             ("listen 80;", f"listen 127.0.0.1:{self.port};"), ("listen [::]:80;", ""), ("/etc/nginx/hipsd.users", folder / "users"),
             ("/var/cache/nginx-hipsd", folder / "cache"), ("/var/log/nginx", folder), ("/run/hipsd.", f"{folder}/"),
         ]
         site = (EXAMPLES / "nginx.conf").read_text()
+        if tls:
+            site = site.replace("#tls ", "")
+            words += [("/etc/ssl/certs/hipsd.pem", folder / "hipsd.pem"), ("/etc/ssl/private/hipsd.key", folder / "hipsd.key"),
+                      ("listen 443", f"listen 127.0.0.1:{self.secure}"), ("listen [::]:443 ssl http2;", "")]
+            subprocess.run(
+                ["openssl", "req", "-x509", "-newkey", "rsa:2048", "-nodes", "-days", "2", "-subj", "/CN=hips.example.org",
+                 "-keyout", folder / "hipsd.key", "-out", folder / "hipsd.pem"], check=True, capture_output=True,
+            )
         for old, new in words:
             site = site.replace(old, str(new))
         folder.chmod(0o755)
@@ -220,6 +229,18 @@ class Proxy:
         except AssertionError:
             self.process.kill()
             raise AssertionError(self.process.communicate()[1].decode()) from None
+
+    def ask(self, method, path, fields=(), body=None, tls=False, password="secret"):
+        """A reply: its code, its fields, its body."""
+        unseen = ssl._create_unverified_context()
+        one = (http.client.HTTPSConnection("127.0.0.1", self.secure, timeout=20, context=unseen) if tls
+               else http.client.HTTPConnection("127.0.0.1", self.port, timeout=20))
+        words = {"Authorization": "Basic " + base64.b64encode(f"editor:{password}".encode()).decode()} if password else {}
+        one.request(method, path, body, {**words, **dict(fields)})
+        reply = one.getresponse()
+        answer = reply.status, reply.headers, reply.read().decode("latin-1")
+        one.close()
+        return answer
 
     def cached(self):
         """How many files are in its cache."""
@@ -261,12 +282,13 @@ class Reader(threading.Thread):
         return self
 
 
-def flood(port, seconds, request, threads=4, at_once=20, source="127.0.0.2"):
-    """Sends requests, so many on a connection, and counts the codes that come back."""
+def flood(port, seconds, request, threads=4, at_once=20, sources=1, first=2):
+    """Sends requests, so many on a connection, from some addresses, and counts the codes that come back."""
     until = time.monotonic() + seconds
     codes = Counter()
 
-    def go_on():
+    def go_on(number):
+        source = f"127.0.0.{first + number % sources}"
         while time.monotonic() < until:
             try:
                 with socket.create_connection(("127.0.0.1", port), 20, (source, 0)) as one:
@@ -281,7 +303,7 @@ def flood(port, seconds, request, threads=4, at_once=20, source="127.0.0.2"):
             for part in replies.split(b"HTTP/1.1 ")[1:]:
                 codes[part[:3].decode()] += 1
 
-    attackers = [threading.Thread(target=go_on) for _ in range(threads)]
+    attackers = [threading.Thread(target=go_on, args=(number,)) for number in range(threads)]
     for attacker in attackers:
         attacker.start()
     for attacker in attackers:
@@ -350,16 +372,167 @@ class Readers(Attack):
         print(f"random misses: {cached} files in the cache", flush=True)
         self.assertLess(cached, 100, "misses fill the cache")
 
+    def test_bursts_of_several_addresses(self):
+        """Many requests at the same moment, each from a connection of its own: those that go on at once share connections."""
+        codes = self.attack("bursts", 2, asks(), 1000, threads=24, at_once=2, sources=8)
+        self.assertLess(codes["503"], codes["404"] / 10, "many are told that the server is away")
+
+    def test_half_heads(self):
+        """As many of them as nginx has connections: others are served again once these have had five seconds."""
+        halves = []
+        for number in range(2 * self.proxy.connections):
+            half = socket.socket()
+            half.settimeout(0.2)
+            try:
+                half.bind((f"127.0.0.{2 + number % 8}", 0))
+                half.connect(("127.0.0.1", self.proxy.port))
+                half.sendall(b"GET /survey/properties HTTP/1.1\r\nHost: x\r\n")
+                halves.append(half)
+            except OSError:
+                half.close()
+            if number % 16 == 0:
+                time.sleep(0.01)
+        began = time.monotonic()
+        served, failed = None, 0
+        while served is None and time.monotonic() < began + 12:
+            reader = http.client.HTTPConnection("127.0.0.1", self.proxy.port, timeout=2)
+            try:
+                reader.request("GET", "/survey/properties")
+                self.assertEqual(reader.getresponse().status, 200)
+                served = time.monotonic() - began
+            except (OSError, http.client.HTTPException):
+                failed += 1
+                time.sleep(0.1)
+            reader.close()
+        for half in halves:
+            half.close()
+        print(f"half heads: {len(halves)} at once; a reader is served after {served and round(served, 1)} s, by try {failed + 1}", flush=True)
+        self.assertIsNotNone(served, "no reader is served")
+
     def test_guesses_of_passwords(self):
         """Each costs nginx a hash, for which nobody else is served."""
         words = base64.b64encode(b"editor:wrong")
         guess = asks(b"Authorization: Basic " + words, b"Content-Length: 0", path=lambda: b"/edit/publish", method=b"POST")
-        codes = self.attack("guesses of passwords", 3, guess, 20, source="127.0.0.1")
+        codes = self.attack("guesses of passwords", 3, guess, 20, first=1)
         tried = (self.proxy.folder / "error.log").read_text().count('user "editor": password mismatch')
         print(f"guesses of passwords: {tried} were compared and logged", flush=True)
         self.assertEqual(set(codes) - {"401", "429", "503", "broken"}, set())
         self.assertGreater(tried, 0, "guesses aren't logged")
         self.assertLess(tried, 200, "too many guesses are compared")
+
+
+@unittest.skipUnless(shutil.which("nginx", path=os.environ["PATH"] + ":/usr/sbin") or os.environ.get("CI") == "true", "nginx isn't installed")
+class Editors(Attack):
+    """What stands before edits, once there is TLS."""
+
+    @classmethod
+    def setUpClass(cls):
+        super().setUpClass()
+        cls.proxy = Proxy(cls.folder, cls.server, tls=True)
+        cls.addClassCleanup(cls.proxy.end)
+
+    def test_no_password_in_clear(self):
+        """Not even from this machine; and a browser that came by TLS comes by that alone."""
+        code, fields, body = self.proxy.ask("POST", "/edit/publish")
+        self.assertEqual((code, "https" in body), (403, True), body)
+        code, fields, _ = self.proxy.ask("POST", "/edit/publish", tls=True)
+        self.assertEqual((code, fields["Strict-Transport-Security"]), (200, "max-age=31536000"))
+        code, fields, _ = self.proxy.ask("GET", "/survey/properties", tls=True, password=None)
+        self.assertEqual((code, fields["Strict-Transport-Security"]), (200, "max-age=31536000"))
+        _, fields, _ = self.proxy.ask("GET", "/survey/properties", password=None)
+        self.assertIsNone(fields["Strict-Transport-Security"])
+
+    def test_pages_of_other_origins(self):
+        """A browser says where a request comes from, by Sec-Fetch-Site also where it sends no Origin."""
+        own = {"Origin": "https://hips.example.org"}
+        for code, fields in (
+            (200, {"Sec-Fetch-Site": "same-origin", **own}), (200, {"Sec-Fetch-Site": "none"}), (200, own), (200, {}),
+            (403, {"Sec-Fetch-Site": "cross-site"}), (403, {"Sec-Fetch-Site": "same-site", **own}), (403, {"Origin": "null"}),
+        ):
+            with self.subTest(fields=fields):
+                self.assertEqual(self.proxy.ask("POST", "/edit/publish", fields, tls=True)[0], code)
+
+    def test_preconditions_go_through(self):
+        """Of the fields of an edit these are passed on, and others are not."""
+        for code, fields in (
+            (412, {"If-Match": "*"}), (201, {"If-None-Match": "*"}), (412, {"If-None-Match": "*"}), (204, {"If-Match": "*"}),
+            (412, {"If-Match": '"x"'}), (204, {f"X-{i}": "x" * 200 for i in range(70)}),
+        ):
+            with self.subTest(fields=fields):
+                self.assertEqual(self.proxy.ask("PUT", f"/edit/{LEAF}", fields, TILE, tls=True)[0], code)
+
+    def test_who_edited(self):
+        """A log of its own has each edit and each guess, with its user and the number that it was answered."""
+        self.proxy.ask("POST", "/edit/publish", tls=True)
+        self.proxy.ask("POST", "/edit/publish", tls=True, password="wrong")
+        time.sleep(0.1)
+        log = (self.proxy.folder / "hipsd-edit.log").read_text()
+        self.assertRegex(log, r'(?m)^[0-9T:+-]+ 127\.0\.0\.1 editor "POST /edit/publish HTTP/1\.1" 200 .* published=\d+$')
+        self.assertRegex(log, r'(?m) editor "POST /edit/publish HTTP/1\.1" 401 ')
+
+    def test_types_are_as_they_are_said(self):
+        for path in ("/survey/properties", "/survey/nothing", f"/survey/{LEAF}", "/edit/properties", "/edit/pin"):
+            with self.subTest(path=path):
+                self.assertEqual(self.proxy.ask("GET", path, tls=True)[1]["X-Content-Type-Options"], "nosniff")
+
+
+# ---- the rules of the network
+
+
+def may_filter():
+    """Whether a network with a filter can be made here."""
+    words = ["unshare", "-n", "sh", "-c", "PATH=$PATH:/usr/sbin; ip link set lo up && nft add table inet try"]
+    return os.geteuid() == 0 and subprocess.run(words, capture_output=True).returncode == 0
+
+
+@unittest.skipUnless(may_filter(), "no network with a filter can be made here")
+class Filters(unittest.TestCase):
+    """hipsd.nft, in a network of its own: what is connected to is a socket that listens, and no server."""
+
+    def in_a_network(self, program):
+        """What a program of Python writes there, in which `ports` listen and `reaches` says whether a user reaches one of them."""
+        begin = """
+import os, socket, subprocess
+def listening(port):
+    one = socket.socket()
+    one.bind(("127.0.0.1", port))
+    one.listen(600)
+    return one
+ports = [listening(port) for port in (80, 8080, 8081)]
+def connected(port, source="127.0.0.1"):
+    one = socket.socket()
+    one.settimeout(5)
+    one.bind((source, 0))
+    try:
+        one.connect(("127.0.0.1", port))
+        return one
+    except OSError:
+        one.close()
+def reaches(port, user):
+    child = os.fork()
+    if child == 0:
+        os.setuid(user)
+        os._exit(0 if connected(port) else 1)
+    return os.waitpid(child, 0)[1] == 0
+"""
+        words = ["unshare", "-n", "sh", "-c", 'PATH=$PATH:/usr/sbin; ip link set lo up && nft -f "$1" && exec python3 -c "$2"', "sh",
+                 EXAMPLES / "hipsd.nft", begin + program]
+        answer = subprocess.run(words, capture_output=True, text=True, timeout=60)
+        self.assertEqual(answer.returncode, 0, answer.stderr)
+        return answer.stdout.split()
+
+    def test_both_ports_are_for_the_proxy(self):
+        """That of a server and that of the next one: for root and www-data (33), and not for nobody (65534)."""
+        said = self.in_a_network("print(*(reaches(port, user) for port in (8080, 8081, 80) for user in (0, 33, 65534)))")
+        self.assertEqual(said, ["True", "True", "False", "True", "True", "False", "True", "True", "True"])
+
+    def test_connections_of_one_address(self):
+        """So many at once, and no more; another address has its own."""
+        said = self.in_a_network("""
+held = [connected(80, "127.0.0.2") for _ in range(300)]
+print(sum(one is not None for one in held), connected(80, "127.0.0.3") is not None)
+""")
+        self.assertEqual(said, ["256", "True"])
 
 
 if __name__ == "__main__":
