@@ -29,6 +29,7 @@ sys.path.insert(0, str(TOP / "scripts"))
 from survey_files import Survey, image  # noqa: E402 (it stands beside this)
 
 PROGRAM = TOP / "crates/hipsd/out/hipsd"
+os.environ["PATH"] += ":/usr/sbin"
 LEAF = "Norder5/Dir0/Npix7.fits"
 TILE = image(8, 8, range(64), ("ORDER", 5), ("NPIX", 7))
 
@@ -52,13 +53,15 @@ def listens(port, process, seconds=30):
 
 
 class Server:
-    """hipsd over a survey without leaves. Its log has a line for each connection."""
+    """hipsd over a survey without leaves, or another one. Its log has a line for each connection."""
 
-    def __init__(self, folder):
-        self.folder = folder / "survey"
+    def __init__(self, folder, survey=None):
+        self.folder = survey or folder / "survey"
         self.log = folder / "log"
-        self.folder.mkdir(exist_ok=True)
-        (self.folder / "survey.conf").write_bytes(Survey("attacked", "Attacked", top=5, low=3, width=8).description())
+        folder.mkdir(exist_ok=True)
+        if not survey:
+            self.folder.mkdir(exist_ok=True)
+            (self.folder / "survey.conf").write_bytes(Survey("attacked", "Attacked", top=5, low=3, width=8).description())
         self.port = free_port()
         self.address = f"127.0.0.1:{self.port}"
         with self.log.open("wb") as log:
@@ -323,7 +326,7 @@ def asks(*fields, path=random_leaf, body=b"", method=b"GET"):
     return lambda word: method + b" " + path() + b" HTTP/1.1\r\nHost: x\r\nConnection: " + word + rest
 
 
-@unittest.skipUnless(shutil.which("nginx", path=os.environ["PATH"] + ":/usr/sbin") or os.environ.get("CI") == "true", "nginx isn't installed")
+@unittest.skipUnless(shutil.which("nginx") or os.environ.get("CI") == "true", "nginx isn't installed")
 class Readers(Attack):
     """Outsiders, who may read: what they send costs hipsd few connections, and other readers little time."""
 
@@ -421,7 +424,7 @@ class Readers(Attack):
         self.assertLess(tried, 200, "too many guesses are compared")
 
 
-@unittest.skipUnless(shutil.which("nginx", path=os.environ["PATH"] + ":/usr/sbin") or os.environ.get("CI") == "true", "nginx isn't installed")
+@unittest.skipUnless(shutil.which("nginx") or os.environ.get("CI") == "true", "nginx isn't installed")
 class Editors(Attack):
     """What stands before edits, once there is TLS."""
 
@@ -481,7 +484,7 @@ class Editors(Attack):
 
 def may_filter():
     """Whether a network with a filter can be made here."""
-    words = ["unshare", "-n", "sh", "-c", "PATH=$PATH:/usr/sbin; ip link set lo up && nft add table inet try"]
+    words = ["unshare", "-n", "sh", "-c", "ip link set lo up && nft add table inet try"]
     return os.geteuid() == 0 and subprocess.run(words, capture_output=True).returncode == 0
 
 
@@ -515,7 +518,7 @@ def reaches(port, user):
         os._exit(0 if connected(port) else 1)
     return os.waitpid(child, 0)[1] == 0
 """
-        words = ["unshare", "-n", "sh", "-c", 'PATH=$PATH:/usr/sbin; ip link set lo up && nft -f "$1" && exec python3 -c "$2"', "sh",
+        words = ["unshare", "-n", "sh", "-c", 'ip link set lo up && nft -f "$1" && exec python3 -c "$2"', "sh",
                  EXAMPLES / "hipsd.nft", begin + program]
         answer = subprocess.run(words, capture_output=True, text=True, timeout=60)
         self.assertEqual(answer.returncode, 0, answer.stderr)
@@ -535,8 +538,13 @@ print(sum(one is not None for one in held), connected(80, "127.0.0.3") is not No
         self.assertEqual(said, ["256", "True"])
 
 
-if __name__ == "__main__":
-    os.environ["PATH"] += ":/usr/sbin"
-    if len(sys.argv) > 1 and not sys.argv[1].startswith("-") and Path(sys.argv[1]).is_file():
+def main():
+    """The tests of the script that runs, with the program that is named first."""
+    global PROGRAM
+    if len(sys.argv) > 1 and Path(sys.argv[1]).is_file():
         PROGRAM = Path(sys.argv.pop(1)).resolve()
     unittest.main()
+
+
+if __name__ == "__main__":
+    main()
