@@ -215,6 +215,9 @@ class Again(Day):
         for reply, text in (
             ((507, b"limit 3\n"), "65,536 edits were accepted"), ((507, b"limit 4\n"), "rollover.sh"), ((401, b"who\n"), "~/.netrc"),
             ((422, b"tile refused 3 bitpix -32\n"), "real numbers"), ((422, b"tile refused 9 truncated 12\n"), "12 bytes of its pixels are missing"),
+            ((422, b"batch refused 3 7 zero\n"), "the file of entry 3, from 0, is no tile of this survey: BZERO"),
+            ((422, b"batch refused 3 line\n"), "entry 3, from 0, is no line"), ((412, b"batch 3 precondition failed\n"), "entry 3 of the batch"),
+            ((507, b"batch 3 limit 4\n"), "fill what a server keeps"), ((422, b"tile refused 1 header 4 a[$(exit)]\n"), "no value of its kind"),
         ):
             with self.subTest(reply=reply):
                 self.stub(reply)
