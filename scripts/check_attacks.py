@@ -543,8 +543,8 @@ class Editors(Attack):
         self.proxy.ask("POST", "/edit/publish", tls=True, password="wrong")
         time.sleep(0.1)
         log = (self.proxy.folder / "hipsd-edit.log").read_text()
-        self.assertRegex(log, r'(?m)^[0-9T:+-]+ 127\.0\.0\.1 editor "POST /edit/publish HTTP/1\.1" 200 .* published=\d+$')
-        self.assertRegex(log, r'(?m) editor "POST /edit/publish HTTP/1\.1" 401 ')
+        self.assertRegex(log, r'(?m)^[0-9T:+-]+ 127\.0\.0\.1 "editor" "POST /edit/publish HTTP/1\.1" 200 .* published=\d+$')
+        self.assertRegex(log, r'(?m) "editor" "POST /edit/publish HTTP/1\.1" 401 ')
 
     def test_types_are_as_they_are_said(self):
         for path in ("/survey/properties", "/survey/nothing", f"/survey/{LEAF}", "/edit/properties", "/edit/pin"):
