@@ -537,6 +537,18 @@ class Editors(Attack):
             with self.subTest(fields=fields):
                 self.assertEqual(self.proxy.ask("PUT", f"/edit/{LEAF}", fields, TILE, tls=True)[0], code)
 
+    def test_pauses(self):
+        """While one of these files is there, editors are told to come again; readers too while the server is being stopped."""
+        for name, readers in (("paused", 200), ("away", 503)):
+            with self.subTest(name):
+                (self.folder / name).touch()
+                code, fields, _ = self.proxy.ask("POST", "/edit/publish", tls=True)
+                self.assertEqual((code, fields["Retry-After"]), (503, "5"))
+                code, fields, _ = self.proxy.ask("GET", "/survey/properties")
+                self.assertEqual((code, fields["Access-Control-Allow-Origin"]), (readers, "*"))
+                (self.folder / name).unlink()
+        self.assertEqual(self.proxy.ask("POST", "/edit/publish", tls=True)[0], 200)
+
     def test_who_edited(self):
         """A log of its own has each edit and each guess, with its user and the number that it was answered."""
         self.proxy.ask("POST", "/edit/publish", tls=True)
