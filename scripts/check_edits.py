@@ -183,9 +183,9 @@ class Again(Day):
         port = free_port()
         self.base = f"http://127.0.0.1:{port}"
         late = threading.Timer(1.5, lambda: self.late(port))
+        self.addCleanup(late.join)
         late.start()
         self.put(1, text="Survey-Edits: 1", HIPSD_TRIES="6")
-        late.join()
 
     def late(self, port):
         check_attacks.free_port, kept = lambda: port, check_attacks.free_port
