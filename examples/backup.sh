@@ -13,12 +13,17 @@
 # The newest copies stay, and each that is in use: the folder of a process, or one that a link beside it, a link in HIPSD_SERVERS
 # (rollover.sh) or a unit of systemd names.
 #
-# These variables say more: HIPSD_PROGRAM, the program (hipsd); HIPSD_KEEP, how many copies stay (7); HIPSD_SERVERS, the folder of
-# the servers (/var/lib/hipsd); HIPSD_UNITS, the folders of units (systemd's own). The status is 0 where the link shows a new copy, 2
+# The folder in which the copies stand is that of the user who runs this, or root's, and nobody else may write there: else whoever may
+# could have files of this user overwritten.
+#
+# These variables say more: HIPSD_PROGRAM, the program (hipsd); HIPSD_KEEP, how many copies stay (7); HIPSD_DEADLINE, how many seconds
+# a copy may take (3000); HIPSD_SERVERS, the folder of the servers (/var/lib/hipsd); HIPSD_UNITS, the folders of units (systemd's
+# own). The status is 0 where the link shows a new copy, 2
 # where the words are wrong, and else 1.
 set -eu
 program=${HIPSD_PROGRAM:-hipsd}
 keep=${HIPSD_KEEP:-7}
+deadline=${HIPSD_DEADLINE:-3000}
 servers=${HIPSD_SERVERS:-/var/lib/hipsd}
 units=${HIPSD_UNITS:-/etc/systemd /run/systemd /usr/local/lib/systemd /usr/lib/systemd}
 
@@ -43,12 +48,23 @@ case $address in
 esac
 folder=${2%/}
 case $keep in '' | 0* | *[!0-9]*) refuse "HIPSD_KEEP is '$keep': how many copies stay, 1 or more" ;; esac
+case $deadline in '' | 0* | *[!0-9]*) refuse "HIPSD_DEADLINE is '$deadline': so many seconds, 1 or more" ;; esac
 case $program in */*) program=$(realpath -e "$program") || refuse "there is no program $HIPSD_PROGRAM" ;; esac
 command -v "$program" >/dev/null || refuse "there is no program $program"
 [ -n "$folder" ] || refuse "FOLDER is empty"
 [ -L "$folder" ] || [ ! -e "$folder" ] || refuse "$folder is there, and is no symbolic link"
 place=$(realpath -e "$(dirname "$folder")") || refuse "there is no folder $(dirname "$folder")"
 link=$place/$(basename "$folder")
+
+# Whoever may write a folder may put a link where a file is about to be opened. Above $place a sticky one, as /tmp, will do.
+other=$(find "$place" -maxdepth 0 -perm /022)
+above=$place
+while [ -z "$other" ]; do
+    other=$(find "$above" -maxdepth 0 \( ! -user root ! -user "$(id -u)" -o -perm /022 ! -perm -1000 \))
+    [ "$above" != / ] || break
+    above=$(dirname "$above")
+done
+[ -z "$other" ] || refuse "$other belongs to $(stat -c %U "$other"), mode $(stat -c %a "$other"): run this as that user, and let nobody else write there"
 
 # One at a time. So what an earlier run has left unfinished is nobody's.
 exec 9>"$link.lock"
@@ -65,7 +81,8 @@ mkdir "$new"
 trap 'rm -rf "$new"' EXIT
 cd "$new"
 
-"$program" mirror "$address" 9>&- || fail "hipsd mirror $address ended with status $?; $link stays as it is"
+timeout -k 10 "$deadline" "$program" mirror "$address" 9>&- ||
+    fail "hipsd mirror $address ended with status $? (124: after $deadline seconds); $link stays as it is"
 # Its last line is the number of leaves; all above it is a description.
 sed '$d' properties >survey.conf
 verdict=$("$program" verify 9>&-) || fail "hipsd verify of the copy ended with status $?: $verdict; $link stays as it is"

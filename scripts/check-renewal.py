@@ -177,17 +177,44 @@ class Backup(Case):
         self.assertFalse(free.exists())
 
     @unittest.skipUnless(ROOT, "only root can be another user")
-    def test_what_cannot_be_seen_stays(self):
-        self.folder.chmod(0o777)
-        old, = self.older(1)
-        os.chown(old, 65534, 65534)
+    def test_folders_of_others(self):
         nobody = ["setpriv", "--reuid=65534", "--regid=65534", "--clear-groups"]
         if subprocess.run([*nobody, "test", "-x", PROGRAM], check=False).returncode:
             self.skipTest("nobody may not run the program where it lies")
+        old, = self.older(1)
+        for path in self.folder, old:
+            os.chown(path, 65534, 65534)
+        # Root opens nothing there: here its lock would be another's file, and that file empty.
+        victim = self.folder / "victim"
+        victim.write_text("text", encoding="ascii")
+        (self.folder / "kept.lock").symlink_to(victim)
+        self.assertIn(f"{self.folder} belongs to nobody, mode 755", self.script(2, "backup.sh", self.address, self.link))
+        self.assertEqual(victim.read_text(encoding="ascii"), "text")
+        (self.folder / "kept.lock").unlink()
+        # Its owner does; but he doesn't see the folder of a server of root's.
         ran = subprocess.run([*nobody, EXAMPLES / "backup.sh", self.address, self.link], env={**os.environ, "HIPSD_PROGRAM": PROGRAM, "HIPSD_KEEP": "1"},
                              stdout=subprocess.PIPE, stderr=subprocess.STDOUT, text=True, timeout=60, check=False)
+        self.assertEqual(ran.returncode, 0, ran.stdout)
         self.assertIn("a hipsd of another user runs", ran.stdout)
         self.assertTrue(old.exists())
+
+    def test_folders_that_others_write(self):
+        (self.folder / "open").mkdir()
+        (self.folder / "open").chmod(0o1777)
+        (self.folder / "open" / "mine").mkdir()
+        self.assertIn("mode 1777", self.script(2, "backup.sh", self.address, self.folder / "open" / "kept"))
+        self.script(0, "backup.sh", self.address, self.folder / "open" / "mine" / "kept")
+        (self.folder / "open").chmod(0o777)
+        self.assertIn("mode 777", self.script(2, "backup.sh", self.address, self.folder / "open" / "mine" / "kept"))
+
+    def test_a_deadline(self):
+        """A peer that takes the connection and says next to nothing."""
+        with socket.create_server(("127.0.0.1", 0)) as peer:
+            begun = time.monotonic()
+            said = self.script(1, "backup.sh", f"127.0.0.1:{peer.getsockname()[1]}", self.link, HIPSD_DEADLINE="1")
+        self.assertLess(time.monotonic() - begun, 8)
+        self.assertIn("after 1 seconds", said)
+        self.assertFalse(self.link.exists())
 
 
 SYSTEMCTL = """#!/bin/sh
