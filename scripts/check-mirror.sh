@@ -147,7 +147,7 @@ goes_on() {
     [ ! -e "$folder/paused" ] || blame "edits stay paused after $*"
     (exec 3<>"/dev/tcp/127.0.0.1/$next") 2>/dev/null && blame "the second server runs after $*"
     rm -f "$folder/served"
-    grep -qF "server 127.0.0.1:$port;" "$named" || blame "the proxy is turned away after $*"
+    grep -q "server 127.0.0.1:${port}[ ;]" "$named" || blame "the proxy is turned away after $*"
     kill -0 "$server" 2>/dev/null || blame "the first server has ended after $*"
 }
 # renewed: under readers and an editor.

@@ -885,7 +885,7 @@ installs() {
     fi
     if command -v systemd-analyze >/dev/null 2>&1; then
         # It looks for the program where the service says.
-        sed "s#=/usr/#=$root/usr/#" "$root/usr/lib/systemd/system/hipsd@.service" >"$folder/hipsd@8081.service"
+        sed "s#=\(+*\)/usr/#=\1$root/usr/#" "$root/usr/lib/systemd/system/hipsd@.service" >"$folder/hipsd@8081.service"
         service "$folder/hipsd@8081.service"
         mkdir -p "$root/etc"
         systemd-sysusers --dry-run --root="$root" "$root/usr/lib/sysusers.d/hipsd.conf" 2>&1 | grep -q "Creating user 'hipsd'" || blame "systemd-sysusers makes no user"

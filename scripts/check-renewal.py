@@ -1,5 +1,5 @@
 #!/usr/bin/python3
-"""Tries what keeps a survey over the days: examples/export.sh, backup.sh and rollover.sh.
+"""Tries what keeps a survey over the days: examples/export.sh, backup.sh, rollover.sh and drain.sh.
 
     scripts/check-renewal.py [PROGRAM [TEST ..]]
 
@@ -82,6 +82,23 @@ class Case(unittest.TestCase):
         server = self.begin(PROGRAM, "serve", f"127.0.0.1:{port}", "65536", "4", cwd=folder)
         listens(port, server)
         return f"127.0.0.1:{port}"
+
+    def asks(self, address, method, path, body=None):
+        """Code, fields and body of a reply; a server that starts is waited for."""
+        for _ in range(200):
+            connection = http.client.HTTPConnection(address, timeout=20)
+            try:
+                connection.request(method, "/" + path, body)
+                reply = connection.getresponse()
+                return reply.status, reply.headers, reply.read()
+            except ConnectionError:
+                time.sleep(0.05)
+            finally:
+                connection.close()
+        raise AssertionError(f"nobody answers at {address}")
+
+    def edit(self, address, leaf):
+        self.assertIn(self.asks(address, "PUT", tile_path(5, leaf), tile(leaf))[0], (201, 204))
 
     def script(self, status, name, *words, **environment):
         """What a script of examples/ says, where it ends with this status."""
@@ -217,6 +234,49 @@ class Backup(Case):
         self.assertFalse(self.link.exists())
 
 
+class Drain(Case):
+    """A server ends."""
+
+    def drain(self, address):
+        words = {"HIPSD_SITE": str(self.folder / "port"), "HIPSD_AWAY": str(self.folder / "away")}
+        ran = subprocess.Popen([EXAMPLES / "drain.sh", address], env={**os.environ, **words}, stdout=subprocess.PIPE, stderr=subprocess.STDOUT, text=True)
+        self.addCleanup(ran.kill)
+        return ran
+
+    def ends(self, ran, text):
+        said = ran.communicate(timeout=20)[0]
+        self.assertEqual((ran.returncode, said), (0, text))
+
+    def test_what_is_asked_is_answered(self):
+        address = self.serve(self.survey("survey", 7))
+        (self.folder / "port").write_text(f"server {address} max_conns=9;\n", encoding="ascii")
+        for leaf in 8, 9:
+            self.edit(address, leaf)
+        self.asks(address, "POST", "publish")
+        self.edit(address, 10)
+        with socket.create_connection(address.split(":")) as client:
+            client.sendall(b"GET /Moc.fits HTTP/1.1\r\n")
+            ran = self.drain(address)
+            with self.assertRaises(subprocess.TimeoutExpired):
+                ran.wait(2)
+            self.assertTrue((self.folder / "away").exists())
+            client.sendall(b"Host: hipsd\r\nConnection: close\r\n\r\n")
+            reply = client.makefile("rb").read()
+            self.assertTrue(reply.startswith(b"HTTP/1.1 200 OK"), reply)
+        self.ends(ran, f"drain.sh: {address} ends, and with it the 3 edits since its start, 1 of them never published\n")
+
+    def test_the_proxy_is_elsewhere(self):
+        address = self.serve(self.survey("survey", 7))
+        (self.folder / "port").write_text(f"server {address}0;\n", encoding="ascii")
+        self.ends(self.drain(address), f"drain.sh: {address} ends, and with it the 0 edits since its start, 0 of them never published\n")
+        self.assertFalse((self.folder / "away").exists())
+
+    def test_it_has_ended(self):
+        address = f"127.0.0.1:{free_port()}"
+        (self.folder / "port").write_text("", encoding="ascii")
+        self.ends(self.drain(address), f"drain.sh: {address} ends, and doesn't say how many edits go with it\n")
+
+
 SYSTEMCTL = """#!/bin/sh
 # systemctl enable or disable --quiet --now hipsd@PORT, in the folder {0}
 echo "$*" >>{0}/calls
@@ -252,46 +312,31 @@ class Rollover(Case):
 
     def setUp(self):
         super().setUp()
-        self.old, self.new, self.web = free_port(), free_port(), free_port()
+        self.old, self.new = free_port(), free_port()
         (self.folder / "servers").mkdir()
         (self.folder / "servers" / str(self.old)).symlink_to(self.survey("survey", 7))
         (self.folder / "bin").mkdir()
         (self.folder / "bin" / "systemctl").write_text(SYSTEMCTL.format(self.folder, PROGRAM), encoding="ascii")
         (self.folder / "bin" / "systemctl").chmod(0o755)
         (self.folder / "port").write_text(f"# the port\nserver 127.0.0.1:{self.old} max_conns=9;\n", encoding="ascii")
-        (self.folder / "nginx.conf").write_text(NGINX.format(self.folder, self.web), encoding="ascii")
+        web = free_port()
+        self.web = f"127.0.0.1:{web}"
+        (self.folder / "nginx.conf").write_text(NGINX.format(self.folder, web), encoding="ascii")
         self.addCleanup(self.end_all)
         self.boot(self.old)
         self.proxy = self.begin("nginx", "-c", self.folder / "nginx.conf", "-p", self.folder)
-        listens(self.web, self.proxy)
+        listens(web, self.proxy)
 
     def boot(self, *ports):
         """Starts the servers that are enabled, and these."""
         for port in {*ports, *(int(path.suffix[1:]) for path in self.folder.glob("enabled.*"))}:
             subprocess.run([self.folder / "bin/systemctl", "enable", "--quiet", "--now", f"hipsd@{port}"], check=True)
-            self.asks("GET", "properties", f"127.0.0.1:{port}")
+            self.asks(f"127.0.0.1:{port}", "GET", "properties")
         (self.folder / "calls").unlink()
 
     def end_all(self):
         for process in self.folder.glob("process.*"):
             os.kill(int(process.read_text(encoding="ascii")), signal.SIGKILL)
-
-    def asks(self, method, path, address=None, body=None):
-        """Code, fields and body of a reply, from nginx if no address is named; a server that starts is waited for."""
-        for _ in range(200):
-            connection = http.client.HTTPConnection(address or f"127.0.0.1:{self.web}", timeout=20)
-            try:
-                connection.request(method, "/" + path, body)
-                reply = connection.getresponse()
-                return reply.status, reply.headers, reply.read()
-            except ConnectionError:
-                time.sleep(0.05)
-            finally:
-                connection.close()
-        raise AssertionError(f"nobody answers at {address}")
-
-    def edit(self, leaf, address=None):
-        self.assertIn(self.asks("PUT", tile_path(5, leaf), address, tile(leaf))[0], (201, 204))
 
     def roll(self, status, *words, **environment):
         return self.script(status, "rollover.sh", *words, **{
@@ -302,7 +347,7 @@ class Rollover(Case):
         return (self.folder / "port").read_text(encoding="ascii")
 
     def test_a_renewed_server_outlives_a_reboot(self):
-        self.edit(8)
+        self.edit(self.web, 8)
         said = self.roll(0, f"127.0.0.1:{self.old}", f"127.0.0.1:{self.new}")
         if ROOT:
             self.assertIn(f"any user of this machine may edit at 127.0.0.1:{self.new}", said)
@@ -312,11 +357,11 @@ class Rollover(Case):
         self.end_all()
         self.boot()
         self.assertEqual([path.name for path in self.folder.glob("process.*") if path.suffix == f".{self.old}"], [])
-        self.assertEqual(self.asks("GET", tile_path(5, 8))[0], 200)
+        self.assertEqual(self.asks(self.web, "GET", tile_path(5, 8))[0], 200)
 
         # To and fro, with backups beside it: the folder of the server that runs stays.
         for one, other in (self.new, self.old), (self.old, self.new):
-            self.edit(one % 100 + 9)
+            self.edit(self.web, one % 100 + 9)
             self.roll(0, f"127.0.0.1:{one}", f"127.0.0.1:{other}")
             for _ in range(2):
                 self.script(0, "backup.sh", f"@{self.folder / 'port'}", self.folder / "servers" / "backup", HIPSD_KEEP="1")
@@ -332,7 +377,7 @@ class Rollover(Case):
         self.assertIn(f"server 127.0.0.1:{self.old} max_conns=9;", self.named())
         self.assertFalse((self.folder / "paused").exists())
         self.assertEqual([path.suffix for path in self.folder.glob("enabled.*")], [f".{self.old}"])
-        self.assertEqual(self.asks("GET", tile_path(5, 7))[0], 200)
+        self.assertEqual(self.asks(self.web, "GET", tile_path(5, 7))[0], 200)
 
     def test_a_port_that_others_reach(self):
         words = f"127.0.0.1:{self.old}", f"127.0.0.1:{self.new}"

@@ -53,7 +53,7 @@ named() {
 filled() {
     revision=$(git rev-parse --short HEAD 2>/dev/null) || revision='an unknown revision'
     sed -e "s#@PREFIX@#$prefix#g" -e "s#@VERSION@#$(named VERSION)#g" -e "s#@REVISION@#$revision#g" -e "s#@TOOLCHAIN@#$(named TOOLCHAIN)#g" \
-        -e "s#=/usr/local/\(bin\|share\)/#=$prefix/\1/#g" "$1"
+        -e "s#=\(+\?\)/usr/local/\(bin\|share\)/#=\1$prefix/\2/#g" "$1"
 }
 
 # examples: the files below examples/.
