@@ -301,7 +301,7 @@ http {{
     access_log off;
     client_body_temp_path {0}/bodies;
     upstream survey {{ include {0}/port; }}
-    server {{ listen 127.0.0.1:{1}; location / {{ proxy_pass http://survey/; }} }}
+    server {{ listen 127.0.0.1:{1}; client_max_body_size 9m; location / {{ proxy_pass http://survey/; }} }}
 }}
 """
 
@@ -387,6 +387,20 @@ class Rollover(Case):
         self.stays(self.roll(1, *words, HIPSD_STRANGER="false", HIPSD_BEGIN=begin), f"somebody has edited at 127.0.0.1:{self.new}")
         (self.folder / "port").write_text("# nothing\n", encoding="ascii")
         self.assertIn("doesn't name one server", self.roll(2))
+
+
+    def test_before_it_is_full(self):
+        words = "--when", "1", f"127.0.0.1:{self.old}", f"127.0.0.1:{self.new}"
+        self.assertIn("has taken 0 edits since its start, of 65536 that it can take beside the 1 leaves", self.roll(0, *words))
+        for first in range(0, 656, 41):
+            batch = b"".join(b"put %d %d\n" % (leaf, len(tile(leaf))) + tile(leaf) for leaf in range(first, first + 41))
+            self.assertEqual(self.asks(self.web, "POST", "batch", batch)[2], b"accepted 41\n")
+        self.assertIn("has taken 656 edits", self.roll(0, "--when", "2", *words[2:]))
+        self.assertIn(str(self.old), self.named())
+        self.assertIn(f"127.0.0.1:{self.new} has taken over", self.roll(0, *words))
+        self.assertIn(str(self.new), self.named())
+        self.assertIn("has taken 0 edits since its start, of 65536 that it can take beside the 656 leaves", self.roll(0, *words[:2], words[3], words[2]))
+        self.assertIn("--when wants", self.roll(2, "--when", "0"))
 
 
 if __name__ == "__main__":
