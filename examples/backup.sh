@@ -17,13 +17,15 @@
 # could have files of this user overwritten.
 #
 # These variables say more: HIPSD_PROGRAM, the program (hipsd); HIPSD_KEEP, how many copies stay (7); HIPSD_DEADLINE, how many seconds
-# a copy may take (3000); HIPSD_SERVERS, the folder of the servers (/var/lib/hipsd); HIPSD_UNITS, the folders of units (systemd's
+# a copy may take (3000); HIPSD_TRIES, how often it is tried (6), in pauses of 1, 2, 4 seconds and so on, where nobody listens or the
+# connection ends; HIPSD_SERVERS, the folder of the servers (/var/lib/hipsd); HIPSD_UNITS, the folders of units (systemd's
 # own). The status is 0 where the link shows a new copy, 2
 # where the words are wrong, and else 1.
 set -eu
 program=${HIPSD_PROGRAM:-hipsd}
 keep=${HIPSD_KEEP:-7}
 deadline=${HIPSD_DEADLINE:-3000}
+tries=${HIPSD_TRIES:-6}
 servers=${HIPSD_SERVERS:-/var/lib/hipsd}
 units=${HIPSD_UNITS:-/etc/systemd /run/systemd /usr/local/lib/systemd /usr/lib/systemd}
 
@@ -39,15 +41,18 @@ fail() {
 }
 
 [ $# = 2 ] || refuse "the words are ADDRESS FOLDER"
-address=$1
-case $address in
-    @*)
-        address=$(sed -n 's/^ *server \([^ ;]*\)[ ;].*/\1/p' "${address#@}" | sort -u)
-        case $address in '' | *[!0-9A-Za-z.:-]*) refuse "${1#@} doesn't name one server: '$address'" ;; esac
-        ;;
-esac
+# address WORD: where the server is.
+address() {
+    case $1 in @*) ;; *) echo "$1" && return ;; esac
+    named=$(sed -n 's/^ *server \([^ ;]*\)[ ;].*/\1/p' "${1#@}" | sort -u)
+    case $named in '' | *[!0-9A-Za-z.:-]*) refuse "${1#@} doesn't name one server: '$named'" ;; esac
+    echo "$named"
+}
+server=$1
+address "$server" >/dev/null
 folder=${2%/}
 case $keep in '' | 0* | *[!0-9]*) refuse "HIPSD_KEEP is '$keep': how many copies stay, 1 or more" ;; esac
+case $tries in [1-9] | [1-9][0-9]) ;; *) refuse "HIPSD_TRIES is '$tries': 1 to 99" ;; esac
 case $deadline in '' | 0* | *[!0-9]*) refuse "HIPSD_DEADLINE is '$deadline': so many seconds, 1 or more" ;; esac
 case $program in */*) program=$(realpath -e "$program") || refuse "there is no program $HIPSD_PROGRAM" ;; esac
 command -v "$program" >/dev/null || refuse "there is no program $program"
@@ -81,8 +86,25 @@ mkdir "$new"
 trap 'rm -rf "$new"' EXIT
 cd "$new"
 
-timeout -k 10 "$deadline" "$program" mirror "$address" 9>&- ||
-    fail "hipsd mirror $address ended with status $? (124: after $deadline seconds); $link stays as it is"
+begun=$(date +%s)
+pause=1
+while :; do
+    status=0
+    from=$(address "$server")
+    timeout -k 10 $((begun + deadline - $(date +%s))) "$program" mirror "$from" 9>&- || status=$?
+    case $status in
+        0) break ;;
+        4 | 5 | 6) ;;
+        124) fail "hipsd mirror $from takes more than $deadline seconds; $link stays as it is" ;;
+        *) fail "hipsd mirror $from ended with status $status; $link stays as it is" ;;
+    esac
+    tries=$((tries - 1))
+    { [ "$tries" -gt 0 ] && [ $(($(date +%s) + pause)) -lt $((begun + deadline)) ]; } ||
+        fail "hipsd mirror $from ended with status $status; $link stays as it is"
+    echo "backup.sh: hipsd mirror $from ended with status $status, and is tried again in $pause seconds" >&2
+    sleep "$pause"
+    pause=$((pause * 2))
+done
 # Its last line is the number of leaves; all above it is a description.
 sed '$d' properties >survey.conf
 verdict=$("$program" verify 9>&-) || fail "hipsd verify of the copy ended with status $?: $verdict; $link stays as it is"

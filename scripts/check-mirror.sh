@@ -17,7 +17,7 @@ cd "$(dirname "$0")/.." || exit 1
 . scripts/check-common.sh
 copies=20
 client=$scripts/mirror-client.py
-export HIPSD_PROGRAM=$program HIPSD_LOG=error HIPSD_KEEP=$copies HIPSD_SERVERS=$folder/servers
+export HIPSD_PROGRAM=$program HIPSD_LOG=error HIPSD_KEEP=$copies HIPSD_TRIES=1 HIPSD_SERVERS=$folder/servers
 started=
 # shellcheck disable=SC2317 # it is called by the trap
 end() {

@@ -15,6 +15,7 @@ import socket
 import subprocess
 import sys
 import tempfile
+import threading
 import time
 import unittest
 from pathlib import Path
@@ -224,13 +225,27 @@ class Backup(Case):
         (self.folder / "open").chmod(0o777)
         self.assertIn("mode 777", self.script(2, "backup.sh", self.address, self.folder / "open" / "mine" / "kept"))
 
+    def test_another_try(self):
+        port = free_port()
+        begun = time.monotonic()
+        self.assertEqual(self.script(1, "backup.sh", f"127.0.0.1:{port}", self.link, HIPSD_TRIES="2").count("tried again"), 1)
+        self.assertGreater(time.monotonic() - begun, 1)
+        # It goes where the proxy has been turned to meanwhile.
+        (self.folder / "port").write_text(f"server 127.0.0.1:{port};\n", encoding="ascii")
+        turn = threading.Timer(0.5, lambda: (self.folder / "port").write_text(f"server {self.address};\n", encoding="ascii"))
+        turn.start()
+        said = self.script(0, "backup.sh", f"@{self.folder / 'port'}", self.link)
+        turn.join()
+        self.assertIn(f"hipsd mirror 127.0.0.1:{port} ended with status 6, and is tried again in 1 seconds", said)
+        self.assertIn("doesn't name one server", self.script(2, "backup.sh", f"@{self.folder / 'nothing'}", self.link))
+
     def test_a_deadline(self):
         """A peer that takes the connection and says next to nothing."""
         with socket.create_server(("127.0.0.1", 0)) as peer:
             begun = time.monotonic()
             said = self.script(1, "backup.sh", f"127.0.0.1:{peer.getsockname()[1]}", self.link, HIPSD_DEADLINE="1")
         self.assertLess(time.monotonic() - begun, 8)
-        self.assertIn("after 1 seconds", said)
+        self.assertIn("takes more than 1 seconds", said)
         self.assertFalse(self.link.exists())
 
 
