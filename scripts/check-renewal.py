@@ -1,5 +1,5 @@
 #!/usr/bin/python3
-"""Tries what keeps a survey over the days: examples/export.sh, backup.sh, rollover.sh and drain.sh.
+"""Tries what keeps a survey over the days: examples/export.sh, backup.sh, rollover.sh and drain.sh; scripts/install.sh and sample.sh.
 
     scripts/check-renewal.py [PROGRAM [TEST ..]]
 
@@ -70,6 +70,12 @@ class Case(unittest.TestCase):
             path.parent.mkdir(parents=True, exist_ok=True)
             path.write_bytes(tile(leaf))
         return folder
+
+    def tool(self, name, text):
+        """A program in the folder bin, which a path may begin with."""
+        (self.folder / "bin").mkdir(exist_ok=True)
+        (self.folder / "bin" / name).write_text(text, encoding="ascii")
+        (self.folder / "bin" / name).chmod(0o755)
 
     def begin(self, *words, **more):
         process = subprocess.Popen(words, stdout=subprocess.DEVNULL, stderr=subprocess.DEVNULL, **more)
@@ -330,9 +336,7 @@ class Rollover(Case):
         self.old, self.new = free_port(), free_port()
         (self.folder / "servers").mkdir()
         (self.folder / "servers" / str(self.old)).symlink_to(self.survey("survey", 7))
-        (self.folder / "bin").mkdir()
-        (self.folder / "bin" / "systemctl").write_text(SYSTEMCTL.format(self.folder, PROGRAM), encoding="ascii")
-        (self.folder / "bin" / "systemctl").chmod(0o755)
+        self.tool("systemctl", SYSTEMCTL.format(self.folder, PROGRAM))
         (self.folder / "port").write_text(f"# the port\nserver 127.0.0.1:{self.old} max_conns=9;\n", encoding="ascii")
         web = free_port()
         self.web = f"127.0.0.1:{web}"
@@ -416,6 +420,65 @@ class Rollover(Case):
         self.assertIn(str(self.new), self.named())
         self.assertIn("has taken 0 edits since its start, of 65536 that it can take beside the 656 leaves", self.roll(0, *words[:2], words[3], words[2]))
         self.assertIn("--when wants", self.roll(2, "--when", "0"))
+
+
+class Sample(Case):
+    """scripts/sample.sh, with what stands here in place of rt."""
+
+    def sample(self, status, rt):
+        if rt:
+            self.tool("rt", f"#!/bin/sh\n{rt}\n")
+        begun = time.monotonic()
+        ran = subprocess.run([TOP / "scripts/sample.sh", str(free_port())], env={**os.environ, "PATH": f"{self.folder}/bin:/usr/bin:/bin"},
+                             stdout=subprocess.PIPE, stderr=subprocess.STDOUT, text=True, timeout=60, check=False)
+        self.assertEqual(ran.returncode, status, ran.stdout)
+        self.assertLess(time.monotonic() - begun, 20)
+        return ran.stdout
+
+    @unittest.skipIf(shutil.which("rt", path="/usr/bin:/bin"), "rt is where all programs are")
+    def test_without_rt(self):
+        self.assertIn("there is no rt here", self.sample(1, None))
+
+    def test_a_build_that_fails(self):
+        said = self.sample(1, "echo no such crate >&2; exit 3")
+        self.assertIn("no such crate", said)
+        self.assertIn("rt try with 3", said)
+
+    def test_progress(self):
+        said = self.sample(0, f'sleep 5.5; cp "${{5#*=}}" {self.folder} && cd {self.folder} && shift 6 && exec {PROGRAM} "$@"')
+        self.assertIn("... 5 seconds\n", said)
+        self.assertIn("\n    8000 8000 0003 8000\n", said)
+
+
+class Install(Case):
+    """scripts/install.sh, below a folder."""
+
+    def install(self, *words, **environment):
+        ran = subprocess.run([TOP / "scripts/install.sh", *words], env={**os.environ, "PROGRAM": PROGRAM, **environment}, stdout=subprocess.PIPE,
+                             stderr=subprocess.STDOUT, text=True, timeout=60, check=True)
+        return ran.stdout
+
+    def test_over_a_running_server(self):
+        prefix = str(self.folder / "prefix")
+        self.assertIn("systemctl enable --now hipsd@8080", self.install(prefix))
+        server = self.begin(f"{prefix}/bin/hipsd", "serve", f"127.0.0.1:{free_port()}", "65536", "4", cwd=self.survey("survey"))
+        while not os.readlink(f"/proc/{server.pid}/exe").startswith(prefix):
+            time.sleep(0.01)
+        for _ in range(2):
+            said = self.install(prefix)
+            self.assertIn(f"process {server.pid} goes on with the program that it was started with", said)
+            self.assertIn(f"{prefix}/share/doc/hipsd/examples/rollover.sh", said)
+            self.assertNotIn("enable --now", said)
+
+    def test_what_stays(self):
+        self.install(DESTDIR=str(self.folder))
+        names = ["etc/nginx/hipsd.users", "etc/ssl/private/hipsd.key", "var/lib/hipsd-backup/survey", "etc/systemd/system/hipsd@.service.d/override.conf"]
+        for name in names:
+            (self.folder / name).parent.mkdir(parents=True, exist_ok=True)
+            (self.folder / name).write_text("", encoding="ascii")
+        said = self.install("--remove", DESTDIR=str(self.folder))
+        stays = [line.removeprefix(f"    {self.folder}/") for line in said.splitlines() if line.startswith("    ")]
+        self.assertEqual(stays, ["etc/nginx/hipsd.users", "etc/ssl/private/hipsd.key", "etc/systemd/system/hipsd@.service.d", "var/lib/hipsd-backup"])
 
 
 if __name__ == "__main__":
