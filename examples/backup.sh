@@ -1,7 +1,7 @@
 #!/bin/sh
 # Keeps copies of the survey of a running hipsd: folders that `hipsd serve` could go on with.
 #
-#     examples/backup.sh ADDRESS FOLDER
+#     examples/backup.sh [--release-date] ADDRESS FOLDER
 #
 # ADDRESS is the server's own, as 127.0.0.1:8080 (a proxy keeps no pin); of @FILE it's that in the line `server ADDRESS;` of the file,
 # by which the proxy goes to it. FOLDER is a symbolic link to the last copy, or nothing yet;
@@ -9,6 +9,9 @@
 # meanwhile, into a new folder; its survey.conf is made of its properties; `hipsd verify` reads all files again; and only then the
 # link is turned to it. Until then, whatever fails, the link shows the copy that it showed. Edits that aren't published are no
 # part of a copy.
+#
+# With --release-date hips_release_date becomes the time of the copy, or stays that of the last copy where nothing else has changed: by
+# it mirrors of others see that there is something new.
 #
 # The newest copies stay, and each that is in use: the folder of a process, or one that a link beside it, a link in HIPSD_SERVERS
 # (rollover.sh) or a unit of systemd names.
@@ -40,7 +43,12 @@ fail() {
     exit 1
 }
 
-[ $# = 2 ] || refuse "the words are ADDRESS FOLDER"
+release=
+if [ "${1:-}" = --release-date ]; then
+    release=yes
+    shift
+fi
+[ $# = 2 ] || refuse "the words are [--release-date] ADDRESS FOLDER"
 # address WORD: where the server is.
 address() {
     case $1 in @*) ;; *) echo "$1" && return ;; esac
@@ -105,6 +113,17 @@ while :; do
     sleep "$pause"
     pause=$((pause * 2))
 done
+# undated FOLDER: its properties, without the date.
+undated() {
+    sed '/^hips_release_date = /d' "$1/properties"
+}
+if [ -n "$release" ]; then
+    date=$(date -u +%Y-%m-%dT%H:%MZ)
+    if diff -rq -x properties -x survey.conf "$link/" . >/dev/null 2>&1 && [ "$(undated "$link")" = "$(undated .)" ]; then
+        date=$(sed -n 's/^hips_release_date = //p' "$link/properties")
+    fi
+    sed -i "s/^hips_release_date = .*/hips_release_date = $date/" properties
+fi
 # Its last line is the number of leaves; all above it is a description.
 sed '$d' properties >survey.conf
 verdict=$("$program" verify 9>&-) || fail "hipsd verify of the copy ended with status $?: $verdict; $link stays as it is"

@@ -2,12 +2,13 @@
 # Renews a server without an outage: readers are served all the while, and no edit that was accepted is lost. It goes on from a copy
 # of what the server has published, which is made and checked first (backup.sh).
 #
-#     examples/rollover.sh [--when PERCENT] [OLD NEW]
+#     examples/rollover.sh [--when PERCENT] [--release-date] [OLD NEW]
 #
 # OLD is the address of the server that runs, NEW an address of this machine where nobody listens, as the proxy spells them
 # (127.0.0.1:8080, 127.0.0.1:8081). If they aren't named, OLD is where the proxy goes, and NEW has the port 8081, or 8080 where OLD has
 # that. With --when this is done only if the server has taken so many percent of the edits that it can take since its start: 65,536, and
-# no more tiles, with its leaves at the start, than 536,870,912 bytes hold. An edit that removes a leaf is counted as a tile too.
+# no more tiles, with its leaves at the start, than 536,870,912 bytes hold. An edit that removes a leaf is counted as a tile too. With
+# --release-date the new server has the time of the copy as its hips_release_date.
 #
 # 1. Edits are paused at the proxy: the file HIPSD_PAUSED is there. Those that are on their way end.
 # 2. What was accepted is published, and copied by backup.sh into HIPSD_SERVERS, to which the link is called as the port of NEW. Where
@@ -50,6 +51,11 @@ if [ "${1:-}" = --when ]; then
     case $when in [1-9] | [1-9][0-9] | 100) ;; *) refuse "--when wants a number from 1 to 100" ;; esac
     shift 2
 fi
+release=
+if [ "${1:-}" = --release-date ]; then
+    release=--release-date
+    shift
+fi
 case $# in
     0)
         old=$(sed -n 's/^ *server \([^ ;]*\)[ ;].*/\1/p' "$site" | sort -u)
@@ -58,7 +64,7 @@ case $# in
         [ "$new" != "$old" ] || new=${old%:*}:8080
         ;;
     2) old=$1 new=$2 ;;
-    *) refuse "the words are [--when PERCENT] [OLD NEW]" ;;
+    *) refuse "the words are [--when PERCENT] [--release-date] [OLD NEW]" ;;
 esac
 grep -qE "server ${old//./\\.}[ ;]" "$site" || refuse "$site has no line 'server $old;'"
 work=$(mktemp -d) || exit 1
@@ -136,7 +142,7 @@ copied=
 for _ in 1 2 3; do
     count=$(published "$old")
     [ -n "$count" ] || fail "nothing is published at $old: $(head -c 200 "$work/body")"
-    HIPSD_KEEP=1 "$here/backup.sh" "$old" "$servers/${new##*:}" || fail "there is no copy"
+    HIPSD_KEEP=1 "$here/backup.sh" ${release:+"$release"} "$old" "$servers/${new##*:}" || fail "there is no copy"
     if [ "$(edits "$old")" = "$count" ]; then
         copied=yes
         break
@@ -161,6 +167,7 @@ fi
 for path in properties Moc.fits; do
     curl -s -f -o "$work/old" --max-time 60 "http://$old/$path" || fail "$path can't be read at $old"
     curl -s -f -o "$work/new" --max-time 60 "http://$new/$path" || fail "$path can't be read at $new"
+    [ -z "$release" ] || sed -i '/^hips_release_date = /d' "$work/old" "$work/new"
     cmp -s "$work/old" "$work/new" || fail "the server at $new has another $path"
 done
 [ "$(edits "$new")" = 0 ] || fail "somebody has edited at $new"

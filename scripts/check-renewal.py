@@ -245,6 +245,28 @@ class Backup(Case):
         self.assertIn(f"hipsd mirror 127.0.0.1:{port} ended with status 6, and is tried again in 1 seconds", said)
         self.assertIn("doesn't name one server", self.script(2, "backup.sh", f"@{self.folder / 'nothing'}", self.link))
 
+    def date(self, other=None):
+        """The release date of the last copy, which becomes another one."""
+        text = (self.link / "properties").read_text(encoding="ascii")
+        self.assertEqual(text.rsplit("survey_leaves", 1)[0], (self.link / "survey.conf").read_text(encoding="ascii"))
+        if other:
+            for name in "properties", "survey.conf":
+                path = self.link / name
+                path.write_text(re.sub("hips_release_date = .*", f"hips_release_date = {other}", path.read_text(encoding="ascii")), encoding="ascii")
+        return re.search("hips_release_date = (.*)", text).group(1)
+
+    def test_the_release_date(self):
+        copy = "--release-date", self.address, self.link
+        self.script(0, "backup.sh", *copy[1:])
+        self.assertEqual(self.date("2020-01-02T03:04Z"), "2024-05-01T00:00Z")
+        self.script(0, "backup.sh", *copy)
+        self.assertEqual(self.date(), "2020-01-02T03:04Z")
+        self.edit(self.address, 8)
+        self.asks(self.address, "POST", "publish")
+        before = time.strftime("%Y-%m-%dT%H:%MZ", time.gmtime())
+        self.script(0, "backup.sh", *copy)
+        self.assertTrue(before <= self.date() <= time.strftime("%Y-%m-%dT%H:%MZ", time.gmtime()), self.date())
+
     def test_a_deadline(self):
         """A peer that takes the connection and says next to nothing."""
         with socket.create_server(("127.0.0.1", 0)) as peer:
@@ -381,13 +403,14 @@ class Rollover(Case):
         # To and fro, with backups beside it: the folder of the server that runs stays.
         for one, other in (self.new, self.old), (self.old, self.new):
             self.edit(self.web, one % 100 + 9)
-            self.roll(0, f"127.0.0.1:{one}", f"127.0.0.1:{other}")
+            self.roll(0, "--release-date", f"127.0.0.1:{one}", f"127.0.0.1:{other}")
             for _ in range(2):
                 self.script(0, "backup.sh", f"@{self.folder / 'port'}", self.folder / "servers" / "backup", HIPSD_KEEP="1")
             folder = (self.folder / "servers" / str(other)).resolve()
             self.assertTrue((folder / "properties").exists())
             self.assertEqual(Path(f"/proc/{(self.folder / f'process.{other}').read_text(encoding='ascii').strip()}/cwd").resolve(), folder)
         self.assertLessEqual(len(list((self.folder / "servers").glob("*Z"))), 3)
+        self.assertNotIn(b"hips_release_date = 2024-05", self.asks(self.web, "GET", "properties")[2])
 
     def stays(self, said, text):
         """The first server goes on, as it was."""
