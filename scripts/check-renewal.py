@@ -1,11 +1,13 @@
 #!/usr/bin/python3
-"""Tries what keeps a survey over the days: examples/export.sh, backup.sh, rollover.sh and drain.sh; scripts/install.sh and sample.sh.
+"""Tries what keeps a survey over the days: examples/export.sh, backup.sh, rollover.sh, drain.sh, nginx-copy.conf and
+nginx-readers.conf; scripts/install.sh and sample.sh.
 
     scripts/check-renewal.py [PROGRAM [TEST ..]]
 
 PROGRAM is crates/hipsd/out/hipsd if none is named. What it starts it ends, and nothing is written outside a folder of its own.
 """
 
+import functools
 import http.client
 import os
 import re
@@ -81,6 +83,13 @@ class Case(unittest.TestCase):
         process = subprocess.Popen(words, stdout=subprocess.DEVNULL, stderr=subprocess.DEVNULL, **more)
         self.addCleanup(process.wait)
         self.addCleanup(process.kill)
+        return process
+
+    def nginx(self, folder, port, text):
+        """nginx with these lines, its files in the folder, once it listens at the port."""
+        (folder / "nginx.conf").write_text(NGINX.format(folder, text), encoding="ascii")
+        process = self.begin("nginx", "-c", folder / "nginx.conf", "-p", folder)
+        listens(port, process)
         return process
 
     def serve(self, folder):
@@ -343,9 +352,14 @@ events {{ }}
 http {{
     access_log off;
     client_body_temp_path {0}/bodies;
-    upstream survey {{ include {0}/port; }}
-    server {{ listen 127.0.0.1:{1}; client_max_body_size 9m; location / {{ proxy_pass http://survey/; }} }}
+    proxy_temp_path {0}/replies;
+    {1}
 }}
+"""
+PROXY = """
+    client_max_body_size 9m;
+    upstream survey {{ include {0}/port; }}
+    server {{ listen 127.0.0.1:{1}; location / {{ proxy_pass http://survey/; }} }}
 """
 
 
@@ -362,11 +376,9 @@ class Rollover(Case):
         (self.folder / "port").write_text(f"# the port\nserver 127.0.0.1:{self.old} max_conns=9;\n", encoding="ascii")
         web = free_port()
         self.web = f"127.0.0.1:{web}"
-        (self.folder / "nginx.conf").write_text(NGINX.format(self.folder, web), encoding="ascii")
         self.addCleanup(self.end_all)
         self.boot(self.old)
-        self.proxy = self.begin("nginx", "-c", self.folder / "nginx.conf", "-p", self.folder)
-        listens(web, self.proxy)
+        self.proxy = self.nginx(self.folder, web, PROXY.format(self.folder, web))
 
     def boot(self, *ports):
         """Starts the servers that are enabled, and these."""
@@ -443,6 +455,83 @@ class Rollover(Case):
         self.assertIn(str(self.new), self.named())
         self.assertIn("has taken 0 edits since its start, of 65536 that it can take beside the 656 leaves", self.roll(0, *words[:2], words[3], words[2]))
         self.assertIn("--when wants", self.roll(2, "--when", "0"))
+
+
+@unittest.skipUnless(shutil.which("nginx") or os.environ.get("CI") == "true", "nginx isn't installed")
+class Readers(Case):
+    """Two machines with copies, and nginx before them; each is an address of this machine."""
+
+    def setUp(self):
+        super().setUp()
+        self.leaves = {7: list(range(7, 71))}
+        self.address = self.serve(self.survey("survey", 7))
+        self.machines, front = [self.folder / "one", self.folder / "two"], (EXAMPLES / "nginx-readers.conf").read_text(encoding="ascii")
+        self.copiers = []
+        for number, machine in enumerate(self.machines, 1):
+            port = free_port()
+            machine.mkdir()
+            text = (EXAMPLES / "nginx-copy.conf").read_text(encoding="ascii").replace("/var/lib/hipsd-backup/", f"{machine}/")
+            self.copiers.append(self.nginx(machine, port, self.at(text, port)))
+            front = front.replace(f"copy-{number}.example.org:80", f"127.0.0.1:{port}")
+            self.one = f"127.0.0.1:{port}"
+        port = free_port()
+        (self.folder / "front").mkdir()
+        self.nginx(self.folder / "front", port, self.at(front, port))
+        self.web = f"127.0.0.1:{port}"
+
+    def at(self, text, port):
+        return re.sub(r"listen \[::\]:80;", "", text).replace("listen 80;", f"listen 127.0.0.1:{port};")
+
+    def copy(self, machine):
+        """The time of a new copy, in digits: not that of another one."""
+        time.sleep(1)
+        self.script(0, "backup.sh", self.address, machine / "survey")
+        return int(re.sub("[^0-9]", "", (machine / "survey").resolve().name.split(".")[1]))
+
+    def seen(self, states):
+        """Which copies readers at 32 addresses see, each of them one, and each file that of the copy's state."""
+        seen = set()
+        for reader in range(2, 34):
+            prefixes = set()
+            for path in "properties", "Moc.fits", "Norder3/Allsky.fits", tile_path(3, 0), tile_path(5, 7), tile_path(5, 8):
+                connection = http.client.HTTPConnection(self.web, timeout=20, source_address=(f"127.0.0.{reader}", 0))
+                connection.request("GET", f"/survey/{path}")
+                reply = connection.getresponse()
+                body = reply.read()
+                connection.close()
+                prefix = int(reply.getheader("Survey-Prefix"))
+                wanted = states[prefix](path)
+                self.assertEqual((reply.status, body if wanted else b""), (200, wanted) if wanted else (404, b""), path)
+                self.assertEqual(reply.getheader("Access-Control-Allow-Origin"), "*")
+                prefixes.add(prefix)
+            self.assertEqual(len(prefixes), 1)
+            seen |= prefixes
+        return seen
+
+    def test_each_reader_sees_one_copy(self):
+        one, two = self.machines
+        self.assertEqual(self.asks(self.one, "GET", "survey/properties")[0], 503)
+        states, now = {}, functools.lru_cache(None)(functools.partial(SURVEY.file, dict(self.leaves)))
+        states |= {self.copy(machine): now for machine in self.machines}
+        self.assertEqual(self.seen(states), set(states))
+        self.leaves[8] = list(range(8, 72))
+        self.edit(self.address, 8)
+        self.asks(self.address, "POST", "publish")
+        # The one has the new state before the other has it.
+        now = functools.lru_cache(None)(functools.partial(SURVEY.file, dict(self.leaves)))
+        older = max(states)
+        newer = self.copy(one)
+        states[newer] = now
+        self.assertEqual(self.seen(states), {older, newer})
+        newest = self.copy(two)
+        states[newest] = now
+        self.assertEqual(self.seen(states), {newer, newest})
+        # One machine is away: its readers see the other copy.
+        self.copiers[1].kill()
+        self.copiers[1].wait()
+        self.assertEqual(self.seen(states), {newer})
+        for method, path, code in ("PUT", tile_path(5, 7), 403), ("POST", "publish", 403), ("GET", "survey.conf", 404), ("GET", "../copy/etc/passwd", 404):
+            self.assertEqual(self.asks(self.web, method, f"survey/{path}", b"x" if method != "GET" else None)[0], code, path)
 
 
 class Sample(Case):
