@@ -62,6 +62,7 @@ class Case(unittest.TestCase):
         self.folder = Path(tempfile.mkdtemp())
         self.folder.chmod(0o755)
         self.addCleanup(shutil.rmtree, self.folder)
+        (self.folder / "tmp").mkdir()
 
     def survey(self, name, *leaves):
         folder = self.folder / name
@@ -82,7 +83,7 @@ class Case(unittest.TestCase):
     def begin(self, *words, **more):
         process = subprocess.Popen(words, stdout=subprocess.DEVNULL, stderr=subprocess.DEVNULL, **more)
         self.addCleanup(process.wait)
-        self.addCleanup(process.kill)
+        self.addCleanup(process.terminate)
         return process
 
     def nginx(self, folder, port, text):
@@ -118,10 +119,11 @@ class Case(unittest.TestCase):
 
     def script(self, status, name, *words, **environment):
         """What a script of examples/ says, where it ends with this status."""
-        known = {"HIPSD_PROGRAM": PROGRAM, "HIPSD_LOG": "warn", "HIPSD_SERVERS": str(self.folder / "servers"), "HIPSD_UNITS": str(self.folder / "units")}
+        known = {"TMPDIR": str(self.folder / "tmp"), "HIPSD_PROGRAM": PROGRAM, "HIPSD_LOG": "warn", "HIPSD_SERVERS": str(self.folder / "servers"), "HIPSD_UNITS": str(self.folder / "units")}
         ran = subprocess.run([EXAMPLES / name, *map(str, words)], env={**os.environ, **known, **environment}, stdout=subprocess.PIPE,
                              stderr=subprocess.STDOUT, text=True, timeout=60, check=False)
         self.assertEqual(ran.returncode, status, ran.stdout)
+        self.assertEqual(list((self.folder / "tmp").iterdir()), [])
         return ran.stdout
 
 
@@ -527,7 +529,7 @@ class Readers(Case):
         states[newest] = now
         self.assertEqual(self.seen(states), {newer, newest})
         # One machine is away: its readers see the other copy.
-        self.copiers[1].kill()
+        self.copiers[1].terminate()
         self.copiers[1].wait()
         self.assertEqual(self.seen(states), {newer})
         for method, path, code in ("PUT", tile_path(5, 7), 403), ("POST", "publish", 403), ("GET", "survey.conf", 404), ("GET", "../copy/etc/passwd", 404):
