@@ -3,8 +3,8 @@
 #
 #     examples/backup.sh [--release-date] ADDRESS FOLDER
 #
-# ADDRESS is the server's own, as 127.0.0.1:8080 (a proxy keeps no pin); of @FILE it's that in the line `server ADDRESS;` of the file,
-# by which the proxy goes to it. FOLDER is a symbolic link to the last copy, or nothing yet;
+# ADDRESS is the server's own, as 127.0.0.1:8080 (a proxy keeps no pin); of @FILE it's that in a line `server ADDRESS;` of the file,
+# by which the proxy goes to it; where several are named and one doesn't answer the next one is tried. FOLDER is a symbolic link to the last copy, or nothing yet;
 # the copies stand beside it, FOLDER.20261129T094500Z and so on. One published state is copied, whatever is edited and published
 # meanwhile, into a new folder; its survey.conf is made of its properties; `hipsd verify` reads all files again; and only then the
 # link is turned to it. Until then, whatever fails, the link shows the copy that it showed. Edits that aren't published are no
@@ -49,15 +49,16 @@ if [ "${1:-}" = --release-date ]; then
     shift
 fi
 [ $# = 2 ] || refuse "the words are [--release-date] ADDRESS FOLDER"
-# address WORD: where the server is.
-address() {
+# addresses WORD: where the server is, one in a line.
+addresses() {
     case $1 in @*) ;; *) echo "$1" && return ;; esac
-    named=$(sed -n 's/^ *server \([^ ;]*\)[ ;].*/\1/p' "${1#@}" | sort -u)
-    case $named in '' | *[!0-9A-Za-z.:-]*) refuse "${1#@} doesn't name one server: '$named'" ;; esac
+    named=$(sed -n 's/^ *server \([0-9A-Za-z.:-]*\)[ ;].*/\1/p' "${1#@}" | sort -u)
+    [ -n "$named" ] || refuse "${1#@} names no server"
     echo "$named"
 }
 server=$1
-address "$server" >/dev/null
+case $1 in @*) server=@$(realpath "${1#@}") ;; esac
+addresses "$server" >/dev/null
 folder=${2%/}
 case $keep in '' | 0* | *[!0-9]*) refuse "HIPSD_KEEP is '$keep': how many copies stay, 1 or more" ;; esac
 case $tries in [1-9] | [1-9][0-9]) ;; *) refuse "HIPSD_TRIES is '$tries': 1 to 99" ;; esac
@@ -96,18 +97,21 @@ cd "$new"
 
 begun=$(date +%s)
 pause=1
+turn=0
 while :; do
     status=0
-    from=$(address "$server")
-    timeout -k 10 $((begun + deadline - $(date +%s))) "$program" mirror "$from" 9>&- || status=$?
+    from=$(addresses "$server")
+    from=$(echo "$from" | sed -n "$((turn % $(echo "$from" | wc -l) + 1))p")
+    left=$((begun + deadline - $(date +%s)))
+    timeout -k 10 $((left < 1 ? 1 : left)) "$program" mirror "$from" 9>&- || status=$?
     case $status in
         0) break ;;
         4 | 5 | 6) ;;
         124) fail "hipsd mirror $from takes more than $deadline seconds; $link stays as it is" ;;
         *) fail "hipsd mirror $from ended with status $status; $link stays as it is" ;;
     esac
-    tries=$((tries - 1))
-    { [ "$tries" -gt 0 ] && [ $(($(date +%s) + pause)) -lt $((begun + deadline)) ]; } ||
+    turn=$((turn + 1))
+    { [ "$turn" -lt "$tries" ] && [ $(($(date +%s) + pause)) -lt $((begun + deadline)) ]; } ||
         fail "hipsd mirror $from ended with status $status; $link stays as it is"
     echo "backup.sh: hipsd mirror $from ended with status $status, and is tried again in $pause seconds" >&2
     sleep "$pause"

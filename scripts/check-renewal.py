@@ -254,7 +254,10 @@ class Backup(Case):
         said = self.script(0, "backup.sh", f"@{self.folder / 'port'}", self.link)
         turn.join()
         self.assertIn(f"hipsd mirror 127.0.0.1:{port} ended with status 6, and is tried again in 1 seconds", said)
-        self.assertIn("doesn't name one server", self.script(2, "backup.sh", f"@{self.folder / 'nothing'}", self.link))
+        self.assertIn("names no server", self.script(2, "backup.sh", f"@{self.folder / 'nothing'}", self.link))
+        # Of two that are named, where one is away: that of the later server.
+        (self.folder / "port").write_text(f"server 127.0.0.1:1;\n  server {self.address} max_conns=9;\n", encoding="ascii")
+        self.assertIn("hipsd mirror 127.0.0.1:1 ended with status 6", self.script(0, "backup.sh", f"@{self.folder / 'port'}", self.link, HIPSD_TRIES="2"))
 
     def date(self, other=None):
         """The release date of the last copy, which becomes another one."""
