@@ -123,10 +123,10 @@ fi
 # proxy_starts: nginx with the example, but for ports and folders of this check, in front of $port; two processes.
 proxy_starts() {
     plain=$(free_port)
-    sed -e "s/127.0.0.1:8080/127.0.0.1:$port/" -e "s#/etc/nginx/hipsd.port.conf#$folder/port#" -e "s/listen 80;/listen 127.0.0.1:$plain;/" -e '/listen \[::\]:/d' \
-        -e "s#/etc/nginx/hipsd.users#$folder/users#" -e "s#/var/cache/nginx-hipsd#$folder/cache#" -e "s#/run/hipsd.paused#$folder/paused#" \
-        "$examples/nginx.conf" >"$folder/site"
-    echo "server 127.0.0.1:$port;" >"$folder/port"
+    sed -e "s#/etc/nginx/hipsd.port.conf#$folder/port#" -e "s/listen 80;/listen 127.0.0.1:$plain;/" -e '/listen \[::\]:/d' \
+        -e "s#/etc/nginx/hipsd.users#$folder/users#" -e "s#/var/cache/nginx-hipsd#$folder/cache#" -e "s#/var/log/nginx#$folder#" \
+        -e "s#/run/hipsd[.]#$folder/#" "$examples/nginx.conf" >"$folder/site"
+    sed "s/127.0.0.1:8080/127.0.0.1:$port/" "$examples/hipsd.port.conf" >"$folder/port"
     named=$folder/port
     grep -q "include $named;" "$folder/site" || named=$folder/site
     printf '%s\n' 'worker_processes 2;' 'daemon off;' "pid $folder/nginx.pid;" "error_log $folder/nginx.log;" 'events { }' \
@@ -149,7 +149,7 @@ goes_on() {
     [ ! -e "$folder/paused" ] || blame "edits stay paused after $*"
     (exec 3<>"/dev/tcp/127.0.0.1/$next") 2>/dev/null && blame "the second server runs after $*"
     rm -f "$folder/served"
-    grep -q "server 127.0.0.1:${port}[ ;]" "$named" || blame "the proxy is turned away after $*"
+    grep -qE "server 127[.]0[.]0[.]1:${port}[ ;]" "$named" || blame "the proxy is turned away after $*"
     kill -0 "$server" 2>/dev/null || blame "the first server has ended after $*"
 }
 # renewed: under readers and an editor.

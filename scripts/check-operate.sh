@@ -61,13 +61,15 @@ direct=http://127.0.0.1:$port
 
 # ---- nginx
 
-# proxy_starts: nginx with the example, but for ports and folders of this check, in front of $port. With a certificate by TLS too.
+# proxy_starts: nginx with the example, but for ports and folders of this check, in front of $port. With a certificate by TLS too; then
+# edits that come plain from this machine are taken all the same here (check_attacks.py tries that they aren't).
 proxy_starts() {
     plain=$(free_port)
     secure=$(free_port)
-    sed -e "s/127.0.0.1:8080/127.0.0.1:$port/" -e "s/listen 80;/listen 127.0.0.1:$plain;/" -e '/listen \[::\]:/d' \
-        -e "s#/etc/nginx/hipsd.users#$folder/users#" -e "s#/var/cache/nginx-hipsd#$folder/cache#" "$examples/nginx.conf" >"$folder/site"
-    [ -s "$folder/hipsd.pem" ] && sed -i -e 's/^\( *\)#tls /\1/' -e "s/listen 443/listen 127.0.0.1:$secure/" -e '/listen \[::\]:/d' \
+    sed -e "s#include /etc/nginx/hipsd.port.conf;#server 127.0.0.1:$port max_conns=48;#" -e "s/listen 80;/listen 127.0.0.1:$plain;/" \
+        -e '/listen \[::\]:/d' -e "s#/etc/nginx/hipsd.users#$folder/users#" -e "s#/var/cache/nginx-hipsd#$folder/cache#" \
+        -e "s#/var/log/nginx#$folder#" -e "s#/run/hipsd[.]#$folder/#" "$examples/nginx.conf" >"$folder/site"
+    [ -s "$folder/hipsd.pem" ] && sed -i -e '/#tls if /d' -e 's/^\( *\)#tls /\1/' -e "s/listen 443/listen 127.0.0.1:$secure/" -e '/listen \[::\]:/d' \
         -e "s#/etc/ssl/certs/hipsd.pem#$folder/hipsd.pem#" -e "s#/etc/ssl/private/hipsd.key#$folder/hipsd.key#" "$folder/site"
     printf '%s\n' 'worker_processes 1;' 'daemon off;' "pid $folder/nginx.pid;" "error_log $folder/nginx.log;" 'events { }' \
         "http { access_log off; client_body_temp_path $folder/bodies; include $folder/site; }" >"$folder/nginx.conf"
@@ -171,6 +173,7 @@ for place in /var/cache /run /var/log/nginx /etc/ssl/private; do mkdir -p "$plac
 cp -a /etc/ssl/certs "$1/certs"
 mount --bind "$1/certs" /etc/ssl/certs
 sed 's/hips[.]example[.]org/survey.your.org/' "$2/nginx.conf" >/etc/nginx/conf.d/hipsd.conf
+cp "$2/hipsd.port.conf" /etc/nginx
 rm -f /etc/nginx/sites-enabled/default
 install -m 640 -o root -g www-data /dev/null /etc/nginx/hipsd.users
 printf 'editor:%s\n' "$(echo secret | openssl passwd -6 -stdin)" >>/etc/nginx/hipsd.users
@@ -231,6 +234,8 @@ fi
 
 # ---- edit.sh
 
+# Nothing here gets better by trying again (check_attacks.py has what does).
+export HIPSD_TRIES=1
 # edit WORD ..: edit.sh at $direct, what it writes in $folder/body.
 edit() {
     HIPSD=$direct "$examples/edit.sh" "$@" >"$folder/body" 2>&1
@@ -314,7 +319,7 @@ looked() {
 # looks_back JOURNAL: files of earlier states, by the journal of `journaled`.
 looks_back() {
     looked 0 '' "$1"
-    [ "$(tr '\n' ';' <"$folder/body")" = "1 put Norder5/Dir0/Npix8.fits;2 add $leaf;4 batch;4 published;5 put $leaf;5 published;" ] ||
+    [ "$(sed 's/ [0-9-]*T[0-9:]*Z / /' "$folder/body" | tr '\n' ';')" = "1 put Norder5/Dir0/Npix8.fits;2 add $leaf;4 batch;4 published;5 put $leaf;5 published;" ] ||
         blame "look-back.sh lists the states $(cat "$folder/body")"
     looked 1 "after 1 edits there was no $leaf" "$1" 1 "$leaf"
     for edits in 2 4; do
@@ -363,7 +368,7 @@ journaled() {
     unset HIPSD_JOURNAL
     cmp -s "$folder/leaf" "$journal/00000002.body" || blame "the journal has another tile"
     cmp -s "$folder/batch" "$journal/00000004.body" || blame "the journal has another batch"
-    [ "$(cat "$journal/00000002.edit" "$journal/00000002.answer")" = "add $leaf
+    [ "$(sed 's/ [^ ]*Z$//' "$journal/00000002.edit" "$journal/00000002.answer")" = "add $leaf
 201 2" ] || blame "the second entry of the journal: $(cat "$journal"/00000002.[ea]*)"
     for path in properties "$leaf" Norder3/Dir0/Npix0.fits; do curl -s "$direct/$path"; done >"$folder/before"
     looks_back "$journal"
@@ -432,7 +437,7 @@ journaled() {
 }
 
 cat >"$folder/silent.py" <<'PYTHON'
-"""silent.py PORT SERVER: hands on GET, takes a PUT to the server's own port, and ends the connection without a word."""
+"""silent.py PORT SERVER: hands on GET and POST, takes a PUT to the server's own port, and ends the connection without a word."""
 import sys
 from http.client import HTTPConnection
 from http.server import BaseHTTPRequestHandler, HTTPServer
@@ -441,13 +446,17 @@ from http.server import BaseHTTPRequestHandler, HTTPServer
 class Silent(BaseHTTPRequestHandler):
     def do_GET(self):
         server = HTTPConnection("127.0.0.1", int(sys.argv[2]))
-        server.request("GET", self.path)
+        server.request(self.command, self.path, self.rfile.read(int(self.headers["Content-Length"] or 0)))
         reply = server.getresponse()
         body = reply.read()
         self.send_response(reply.status)
         self.send_header("Content-Length", str(len(body)))
+        if "Survey-Edits" in reply.headers:
+            self.send_header("Survey-Edits", reply.headers["Survey-Edits"])
         self.end_headers()
         self.wfile.write(body)
+
+    do_POST = do_GET
 
     def do_PUT(self):
         server = HTTPConnection("127.0.0.1", int(sys.argv[2]))

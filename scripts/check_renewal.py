@@ -2,7 +2,7 @@
 """Tries what keeps a survey over the days: examples/export.sh, backup.sh, rollover.sh, drain.sh, nginx-copy.conf and
 nginx-readers.conf; scripts/install.sh and sample.sh.
 
-    scripts/check-renewal.py [PROGRAM [TEST ..]]
+    scripts/check_renewal.py [PROGRAM [TEST ..]]
 
 PROGRAM is crates/hipsd/out/hipsd if none is named. What it starts it ends, and nothing is written outside a folder of its own.
 """
