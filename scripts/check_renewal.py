@@ -88,7 +88,7 @@ class Case(unittest.TestCase):
 
     def nginx(self, folder, port, text):
         """nginx with these lines, its files in the folder, once it listens at the port."""
-        (folder / "nginx.conf").write_text(NGINX.format(folder, text), encoding="ascii")
+        (folder / "nginx.conf").write_text(NGINX.format(folder, text, "user www-data; " if ROOT else ""), encoding="ascii")
         process = self.begin("nginx", "-c", folder / "nginx.conf", "-p", folder)
         listens(port, process)
         return process
@@ -349,7 +349,7 @@ else
     while readlink "/proc/$process/exe" >/dev/null; do sleep 0.05; done
 fi
 """
-NGINX = """worker_processes 1;
+NGINX = """{2}worker_processes 1;
 daemon off;
 pid {0}/nginx.pid;
 error_log {0}/nginx.log;
@@ -460,6 +460,31 @@ class Rollover(Case):
         self.assertIn(str(self.new), self.named())
         self.assertIn("has taken 0 edits since its start, of 65536 that it can take beside the 656 leaves", self.roll(0, *words[:2], words[3], words[2]))
         self.assertIn("--when wants", self.roll(2, "--when", "0"))
+
+
+    def behind_the_rule(self):
+        """Called in a network of its own: hipsd.nft closes the ports to others than the proxy and root."""
+        rule = (EXAMPLES / "hipsd.nft").read_text(encoding="ascii")
+        words = f"127.0.0.1:{self.old}", f"127.0.0.1:{self.new}"
+        for ports in str(self.old), f"{self.old}, {self.new}":
+            closed, changes = re.subn("define hipsd_ports = .*", f"define hipsd_ports = {{ {ports} }}", rule)
+            self.assertEqual(changes, 1)
+            subprocess.run(["nft", "-f", "-"], input=closed, text=True, check=True)
+            if str(self.new) not in ports:
+                self.stays(self.roll(1, *words), f"other users of this machine reach 127.0.0.1:{self.new}, and not 127.0.0.1:{self.old}")
+        self.assertNotIn("any user of this machine", self.roll(0, *words))
+
+
+class Rule(unittest.TestCase):
+    """The rule of hipsd.nft, where a network can be made."""
+
+    def test_a_port_that_the_rule_does_not_name(self):
+        network = ["unshare", "-n", "sh", "-c", 'ip link set lo up && nft add table inet try && exec "$@"', "sh"]
+        if subprocess.run([*network, "true"], stderr=subprocess.DEVNULL, check=False).returncode:
+            self.skipTest("no network with a filter can be made here")
+        ran = subprocess.run([*network, __file__, PROGRAM, "Rollover.behind_the_rule"], stdout=subprocess.PIPE, stderr=subprocess.STDOUT, text=True,
+                             timeout=60, check=False)
+        self.assertEqual(ran.returncode, 0, ran.stdout)
 
 
 @unittest.skipUnless(shutil.which("nginx") or os.environ.get("CI") == "true", "nginx isn't installed")
