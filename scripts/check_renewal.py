@@ -294,8 +294,8 @@ class Backup(Case):
 class Drain(Case):
     """A server ends."""
 
-    def drain(self, address):
-        words = {"HIPSD_SITE": str(self.folder / "port"), "HIPSD_AWAY": str(self.folder / "away")}
+    def drain(self, address, away="away"):
+        words = {"HIPSD_SITE": str(self.folder / "port"), "HIPSD_AWAY": str(self.folder / away)}
         ran = subprocess.Popen([EXAMPLES / "drain.sh", address], env={**os.environ, **words}, stdout=subprocess.PIPE, stderr=subprocess.STDOUT, text=True)
         self.addCleanup(ran.kill)
         return ran
@@ -321,6 +321,28 @@ class Drain(Case):
             reply = client.makefile("rb").read()
             self.assertTrue(reply.startswith(b"HTTP/1.1 200 OK"), reply)
         self.ends(ran, f"drain.sh: {address} ends, and with it the 3 edits since its start, 1 of them never published\n")
+
+    @unittest.skipUnless(shutil.which("nginx") or os.environ.get("CI") == "true", "nginx isn't installed")
+    def test_nginx_answers_by_itself(self):
+        address, port = self.serve(self.survey("survey", 7)), free_port()
+        (self.folder / "port").write_text(f"server {address} max_conns=9;\n", encoding="ascii")
+        text = (EXAMPLES / "nginx.conf").read_text(encoding="ascii")
+        for there, here in ("listen [::]:80;", ""), ("listen 80;", f"listen 127.0.0.1:{port};"), ("/etc/nginx/hipsd.port.conf", f"{self.folder}/port"):
+            self.assertIn(there, text)
+            text = text.replace(there, here)
+        self.nginx(self.folder, port, re.sub("/(run|var/cache|var/log/nginx|etc/nginx)/(nginx-)?hipsd", f"{self.folder}/hipsd", text))
+        web = f"127.0.0.1:{port}"
+        self.assertEqual(self.asks(web, "GET", "survey/properties")[0], 200)
+        ran = self.drain(address, "hipsd.away")
+        for method, path in ("GET", "survey/properties"), ("POST", "edit/publish"):
+            while not (self.folder / "hipsd.away").exists():
+                time.sleep(0.01)
+            code, fields, _ = self.asks(web, method, path)
+            self.assertEqual((code, fields["Retry-After"]), (503, "5"))
+        ran.kill()
+        ran.communicate()
+        (self.folder / "hipsd.away").unlink()
+        self.assertEqual(self.asks(web, "GET", "survey/properties")[0], 200)
 
     def test_the_proxy_is_elsewhere(self):
         address = self.serve(self.survey("survey", 7))
