@@ -172,6 +172,7 @@ known() {
 
 # card FILE NUMBER: a card of a header.
 card() {
+    whole "$2" || return 0
     dd if="$1" bs=80 skip=$(($2 - 1)) count=1 2>/dev/null | tr -cd '[:print:]' | sed 's/ *$//'
 }
 
@@ -206,21 +207,33 @@ fault() {
 
 # explain EDIT BODY ANSWER: what a refusal means, and what helps.
 explain() {
-    edit=$1 body=$2
-    # shellcheck disable=SC2086 # the words of the answer
-    case $3 in
+    edit=$1 body=$2 answer=$3
+    number=${answer#* batch }
+    number=${number#refused }
+    number=${number%% *}
+    # shellcheck disable=SC2086 # the words of a fault
+    case $answer in
         *' limit 3') echo "65,536 edits were accepted, and the server takes no more: renew it (rollover.sh)" ;;
-        *' limit 4') echo "the tiles at the start and all that were accepted since fill what a server keeps: renew it (rollover.sh), so that it keeps the present ones alone" ;;
-        '401 '*) echo "a name and a password are needed, in ~/.netrc, or those there are wrong" ;;
+        *' limit 4')
+            echo "the tiles at the start and all that were accepted since fill what a server keeps"
+            echo "renew it (rollover.sh): the next one begins with the present tiles alone"
+            ;;
+        '401 '*) echo "a name and a password are needed in ~/.netrc, or those there are wrong" ;;
         '404 '*' absent') echo "the leaf has no tile" ;;
-        '412 '*' batch '*) set -- ${3#* batch } && echo "entry $1 of the batch, from 0, adds a leaf that has a tile, or replaces or removes one that has none: nothing was changed" ;;
+        '412 '*' batch '*)
+            echo "entry $number of the batch, from 0, adds a leaf that has a tile, or replaces or removes one that has none: nothing was changed"
+            ;;
         '412 '*) if [ "$edit" = add ]; then echo "the leaf has a tile already"; else echo "the leaf has no tile"; fi ;;
         '413 '*) echo "it is too large: a batch has at most 1,024 entries, and four times the bytes of the largest tile" ;;
         '422 '*' many') echo "a batch has at most 1,024 entries" ;;
-        '422 '*' line') set -- ${3#* refused } && echo "entry $1, from 0, is no line 'put LEAF LENGTH', 'add LEAF LENGTH', 'replace LEAF LENGTH' or 'remove LEAF'" ;;
-        '422 '*' short') set -- ${3#* refused } && echo "the file of entry $1, from 0, has fewer bytes than its LENGTH" ;;
-        '422 '*' batch refused '*) set -- ${3#* batch refused } && entry=$1 && shift && echo "the file of entry $entry, from 0, is no tile of this survey: $(fault '' "$@")" ;;
-        '422 '*' tile refused '*) set -- ${3#* tile refused } && echo "the file is no tile of this survey: $(fault "$body" "$@")" ;;
+        '422 '*' line')
+            echo "entry $number, from 0, is no line 'put LEAF LENGTH', 'add LEAF LENGTH', 'replace LEAF LENGTH' or 'remove LEAF'"
+            ;;
+        '422 '*' short') echo "the file of entry $number, from 0, has fewer bytes than its LENGTH" ;;
+        '422 '*' batch refused '*)
+            echo "the file of entry $number, from 0, is no tile of this survey: $(fault '' ${answer#* batch refused "$number" })"
+            ;;
+        '422 '*' tile refused '*) echo "the file is no tile of this survey: $(fault "$body" ${answer#* tile refused })" ;;
         '429 '* | '503 '*) echo "nothing was taken, since the server has no room for it now: send it again later" ;;
     esac | sed 's/^/edit.sh: /' >&2
 }

@@ -247,8 +247,8 @@ survey() {
     look_back "$1" Moc.fits >"$work/moc"
     leaves "$work/moc" >"$work/leaves"
     split -l 20000 "$work/leaves" "$work/part."
+    mkdir "$2.unfinished"
     made=$2.unfinished
-    mkdir "$made"
     cp survey.conf "$made"
     for part in "$work"/part.*; do
         [ -s "$part" ] || continue

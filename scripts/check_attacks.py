@@ -7,6 +7,7 @@ nginx isn't installed this fails if CI=true, and else leaves those out.
 """
 
 import base64
+import gzip
 import http.client
 import os
 import random
@@ -157,8 +158,8 @@ class Journals(Attack):
         (self.journal / "00000001.body").symlink_to(secret)
         self.refused(self.run_script("edit.sh", "replay", "journal", self.base))
         self.refused(self.run_script("look-back.sh", self.journal))
-        (self.journal / "00000001.body").unlink()
-        (self.journal / "00000001.edit").unlink()
+        for path in self.journal.iterdir():
+            path.unlink()
         for name in ("lock", "00000001.edit.new", "00000001.answer.new"):
             (self.journal / name).symlink_to(self.victim)
             with self.subTest(name=name):
@@ -192,6 +193,78 @@ class Journals(Attack):
         self.assertEqual(answer.returncode, 0, answer)
         for path in (journal, *journal.iterdir()):
             self.assertEqual(path.stat().st_mode & 0o077, 0, path)
+
+
+# ---- files of others, which unpack to more than they have
+
+
+class Unpacking(unittest.TestCase):
+    """A small file is refused before it fills the memory."""
+
+    def setUp(self):
+        self.folder = Path(tempfile.mkdtemp())
+        self.addCleanup(shutil.rmtree, self.folder)
+
+    def bomb(self, path, first, gigabytes):
+        """A file that unpacks to so much: first some bytes, then digits."""
+        path.parent.mkdir(parents=True, exist_ok=True)
+        path.write_bytes(gzip.compress(first) + gzip.compress(b"1" * 2**24) * (64 * gigabytes))
+
+    def refused(self, text, *words):
+        """The script ends with status 1 and this text, and took less than two gigabytes."""
+        held = 'ulimit -v 2097152; exec "$@"'
+        answer = subprocess.run(["bash", "-c", held, "bash", *words], cwd=self.folder, capture_output=True, text=True, timeout=60)
+        self.assertEqual(answer.returncode, 1, answer.stderr[-400:])
+        self.assertIn(text, answer.stderr)
+
+    def test_tile_of_a_hips(self):
+        hips = self.folder / "hips"
+        self.bomb(hips / LEAF, TILE, 3)
+        (hips / "properties").write_text("hips_order = 5\n")
+        self.refused("more than the 2206080 bytes that a tile can have", EXAMPLES / "import-hipsgen.py", hips, self.folder / "new")
+        self.assertFalse((self.folder / "new").exists())
+        (hips / LEAF).unlink()
+        os.mkfifo(hips / LEAF)
+        self.refused("this is no file", EXAMPLES / "import-hipsgen.py", hips, self.folder / "new")
+        (hips / "properties").unlink()
+        os.mkfifo(hips / "properties")
+        self.refused("is no HiPS", EXAMPLES / "import-hipsgen.py", hips, self.folder / "new")
+
+    def test_table_of_sources(self):
+        self.bomb(self.folder / "sources.csv.gz", b"id,ra,dec,mag\n", 2)
+        rows = [EXAMPLES / "catalog-rows.py", "--order", "3", "--format", "ascii.csv", "sources.csv.gz"]
+        self.refused("unpacks to more than 1 GB", *rows)
+        (self.folder / "sources.csv.gz").write_bytes(gzip.compress(b"id,ra,dec,mag\nA,1,2,3\n")[:-9])
+        self.refused("can't be read", *rows)
+
+
+# ---- the page's server
+
+
+class Looking(Attack):
+    """look.py, at which a page from elsewhere may have led its own name."""
+
+    def test_names(self):
+        sys.path.insert(0, str(EXAMPLES / "atlas"))
+        from look import page_server
+
+        with page_server(self.server.address) as page:
+            threading.Thread(target=page.serve_forever, args=(0.02,), daemon=True).start()
+            port = page.server_port
+            for code, host in (
+                (200, f"127.0.0.1:{port}"), (200, f"localhost:{port}"), (421, f"evil.example:{port}"), (421, "evil.example"),
+                (421, f"127.0.0.1.evil.example:{port}"), (421, f"127.0.0.1:{port + 1}"), (421, None),
+            ):
+                for path in ("/survey/properties", "/atlas/"):
+                    with self.subTest(host=host, path=path):
+                        one = http.client.HTTPConnection("127.0.0.1", port, timeout=10)
+                        one.putrequest("GET", path, skip_host=True)
+                        if host:
+                            one.putheader("Host", host)
+                        one.endheaders()
+                        self.assertEqual(one.getresponse().status, code)
+                        one.close()
+            page.shutdown()
 
 
 # ---- nginx
@@ -370,7 +443,7 @@ class Readers(Attack):
 
     def test_random_misses(self):
         """Paths of tiles that aren't there."""
-        self.attack("random misses", 3, asks(), 100)
+        self.attack("random misses", 2, asks(), 100)
         cached = self.proxy.cached()
         print(f"random misses: {cached} files in the cache", flush=True)
         self.assertLess(cached, 100, "misses fill the cache")
@@ -470,8 +543,8 @@ class Editors(Attack):
         self.proxy.ask("POST", "/edit/publish", tls=True, password="wrong")
         time.sleep(0.1)
         log = (self.proxy.folder / "hipsd-edit.log").read_text()
-        self.assertRegex(log, r'(?m)^[0-9T:+-]+ 127\.0\.0\.1 editor "POST /edit/publish HTTP/1\.1" 200 .* published=\d+$')
-        self.assertRegex(log, r'(?m) editor "POST /edit/publish HTTP/1\.1" 401 ')
+        self.assertRegex(log, r'(?m)^[0-9T:+-]+ 127\.0\.0\.1 "editor" "POST /edit/publish HTTP/1\.1" 200 .* published=\d+$')
+        self.assertRegex(log, r'(?m) "editor" "POST /edit/publish HTTP/1\.1" 401 ')
 
     def test_types_are_as_they_are_said(self):
         for path in ("/survey/properties", "/survey/nothing", f"/survey/{LEAF}", "/edit/properties", "/edit/pin"):

@@ -193,16 +193,16 @@ class Again(Day):
         check_attacks.free_port = kept
 
     def test_no_room_at_the_moment(self):
-        for code in (503, 429):
-            with self.subTest(code=code):
-                server = self.stub(*[(code, b"later\n")] * 2)
+        for codes in ((503, 503), (429,)):
+            with self.subTest(codes=codes):
+                server = self.stub(*((code, b"later\n") for code in codes))
                 began = time.monotonic()
-                self.put(1, text="sent again in 2 seconds", HIPSD_TRIES="3", HIPSD_JOURNAL="")
-                self.assertGreater(time.monotonic() - began, 2.9)
-                self.assertEqual(server.seen, ["PUT"] * 3)
-                server = self.stub((code, b"later\n"))
-                self.put(1, status=1, text="nothing was taken", HIPSD_TRIES="1", HIPSD_JOURNAL="")
-                self.assertEqual(server.seen, ["PUT"])
+                self.put(1, text=f"sent again in {len(codes)} seconds", HIPSD_TRIES="3", HIPSD_JOURNAL="")
+                self.assertGreater(time.monotonic() - began, 0.9 * (2 ** len(codes) - 1), "the pauses are shorter than they are said")
+                self.assertEqual(server.seen, ["PUT"] * (1 + len(codes)))
+        server = self.stub((503, b"later\n"))
+        self.put(1, status=1, text="nothing was taken", HIPSD_JOURNAL="")
+        self.assertEqual(server.seen, ["PUT"])
 
     def test_a_fate_that_is_not_known(self):
         for code in (None, 502, 504):
@@ -215,6 +215,9 @@ class Again(Day):
         for reply, text in (
             ((507, b"limit 3\n"), "65,536 edits were accepted"), ((507, b"limit 4\n"), "rollover.sh"), ((401, b"who\n"), "~/.netrc"),
             ((422, b"tile refused 3 bitpix -32\n"), "real numbers"), ((422, b"tile refused 9 truncated 12\n"), "12 bytes of its pixels are missing"),
+            ((422, b"batch refused 3 7 zero\n"), "the file of entry 3, from 0, is no tile of this survey: BZERO"),
+            ((422, b"batch refused 3 line\n"), "entry 3, from 0, is no line"), ((412, b"batch 3 precondition failed\n"), "entry 3 of the batch"),
+            ((507, b"batch 3 limit 4\n"), "fill what a server keeps"), ((422, b"tile refused 1 header 4 a[$(exit)]\n"), "no value of its kind"),
         ):
             with self.subTest(reply=reply):
                 self.stub(reply)
@@ -262,11 +265,11 @@ class Back(Day):
     def test_a_folder_of_a_state(self):
         """It is served as the survey was then: whole cells, single ones, and one that was changed since."""
         self.serve()
-        for leaf in (*range(16, 32), 7, 12287):
+        for leaf in (*range(16, 20), 7, 12287):
             self.put(leaf, tile=leaf % 4)
         self.edit("publish")
-        paths = ["properties", "Moc.fits", "Norder3/Allsky.fits", path_of(16), path_of(31), path_of(7), "Norder5/Dir10000/Npix12287.fits",
-                 "Norder4/Dir0/Npix5.fits", "Norder3/Dir0/Npix1.fits", path_of(8)]
+        paths = ["properties", "Moc.fits", "Norder3/Allsky.fits", path_of(16), path_of(19), path_of(7), "Norder5/Dir10000/Npix12287.fits",
+                 "Norder4/Dir0/Npix4.fits", "Norder3/Dir0/Npix1.fits", path_of(8)]
         then = [self.served(path) for path in paths]
         self.put(7, tile=3)
         self.edit("remove", 12287)
@@ -274,11 +277,11 @@ class Back(Day):
         self.edit("publish")
         self.assertNotEqual([self.served(path) for path in paths], then)
         past = self.folder / "past"
-        self.look(18, "--folder", past, text="18 leaf tiles")
+        self.look(6, "--folder", past, text="6 leaf tiles")
         other = Server(self.folder / "beside", survey=past)
         self.addCleanup(other.end)
         self.assertEqual([self.served(path, f"http://{other.address}") for path in paths], then)
-        self.look(18, "--folder", past, status=2, text="is there already")
+        self.look(6, "--folder", past, status=2, text="is there already")
         self.look(99, "--folder", self.folder / "none", status=1, text="fewer than 99 edits")
         self.assertFalse(list(self.folder.glob("none*")), "something of a state that there wasn't is left")
         self.look(0, "--folder", self.folder / "begin", text="0 leaf tiles")

@@ -34,6 +34,16 @@ class Handler(SimpleHTTPRequestHandler):
         self.server_of_survey = None
         super().__init__(*words, directory=PAGE, **more)
 
+    def parse_request(self):
+        """A request under another name is refused: a page from elsewhere may have led its name to this address (DNS rebinding)."""
+        if not super().parse_request():
+            return False
+        if self.headers.get("Host") in self.server.names:
+            return True
+        self.close_connection = True
+        self.send_error(421)
+        return False
+
     def do_GET(self):
         if self.path == "/":
             self.send_response(302)
@@ -102,6 +112,8 @@ def page_server(survey, port=0, handler=Handler):
     server = ThreadingHTTPServer(("127.0.0.1", port), handler)
     server.daemon_threads = True
     server.survey = survey
+    hosts = ("127.0.0.1", "localhost")
+    server.names = {f"{host}:{server.server_port}" for host in hosts} | (set(hosts) if server.server_port == 80 else set())
     return server
 
 
