@@ -83,13 +83,19 @@ if grep -q '^come ' "$work"; then
     echo "    would come:"
     told come
 fi
-grep -q '^go ' "$work" || exec "$program" export
+if ! grep -q '^go ' "$work"; then
+    "$program" export
+    exit
+fi
 echo "    would go, since this survey doesn't have them:"
 told go
 deepest=$(sed -n 's/^go tiles of order \([0-9]*\):.*/\1/p' "$work" | tail -n 1)
 if [ "$leaves" = 0 ] && [ "${deepest:-0}" -ge 3 ]; then
     echo "    With hips_order = $deepest the tiles of order $deepest would be the leaves."
 fi
-[ -z "$remove" ] || exec "$program" export
+if [ -n "$remove" ]; then
+    "$program" export
+    exit
+fi
 echo "export.sh: nothing is exported; with --remove these files go" >&2
 exit 1

@@ -2,11 +2,13 @@
 # Renews a server without an outage: readers are served all the while, and no edit that was accepted is lost. It goes on from a copy
 # of what the server has published, which is made and checked first (backup.sh).
 #
-#     examples/rollover.sh [OLD NEW]
+#     examples/rollover.sh [--when PERCENT] [--release-date] [OLD NEW]
 #
 # OLD is the address of the server that runs, NEW an address of this machine where nobody listens, as the proxy spells them
 # (127.0.0.1:8080, 127.0.0.1:8081). If they aren't named, OLD is where the proxy goes, and NEW has the port 8081, or 8080 where OLD has
-# that.
+# that. With --when this is done only if the server has taken so many percent of the edits that it can take since its start: 65,536, and
+# no more tiles, with its leaves at the start, than 536,870,912 bytes hold. An edit that removes a leaf is counted as a tile too. With
+# --release-date the new server has the time of the copy as its hips_release_date.
 #
 # 1. Edits are paused at the proxy: the file HIPSD_PAUSED is there. Those that are on their way end.
 # 2. What was accepted is published, and copied by backup.sh into HIPSD_SERVERS, to which the link is called as the port of NEW. Where
@@ -43,6 +45,17 @@ refuse() {
     say "$*"
     exit 2
 }
+when=
+if [ "${1:-}" = --when ]; then
+    when=${2:-}
+    case $when in [1-9] | [1-9][0-9] | 100) ;; *) refuse "--when wants a number from 1 to 100" ;; esac
+    shift 2
+fi
+release=
+if [ "${1:-}" = --release-date ]; then
+    release=--release-date
+    shift
+fi
 case $# in
     0)
         old=$(sed -n 's/^ *server \([^ ;]*\)[ ;].*/\1/p' "$site" | sort -u)
@@ -51,14 +64,35 @@ case $# in
         [ "$new" != "$old" ] || new=${old%:*}:8080
         ;;
     2) old=$1 new=$2 ;;
-    *) refuse "the words are OLD NEW" ;;
+    *) refuse "the words are [--when PERCENT] [--release-date] [OLD NEW]" ;;
 esac
 grep -qE "server ${old//./\\.}[ ;]" "$site" || refuse "$site has no line 'server $old;'"
-[ ! -e "$paused" ] || refuse "$paused is there: edits are paused already"
-(exec 3<>"/dev/tcp/${new%:*}/${new##*:}") 2>/dev/null && refuse "somebody listens at $new already"
 work=$(mktemp -d) || exit 1
 started=
 
+# edits ADDRESS: how many edits the server has accepted. No leaf can be removed twice in one batch: so this one is refused in any state.
+edits() {
+    printf 'remove 0\nremove 0\n' | curl -s -D - -o "$work/body" --max-time 60 -H 'Content-Type:' --data-binary @- "http://$1/batch" |
+        tr -d '\r' | sed -n 's/^survey-edits: \([0-9]*\)$/\1/Ip'
+}
+# property KEY: a number in the properties of the server at OLD.
+property() {
+    sed -n "s/^$1 = \([0-9]\{1,9\}\)$/\1/p" "$work/old"
+}
+# full: whether the server has taken $when percent of the edits that it can take.
+full() {
+    curl -s -f -o "$work/old" --max-time 60 "http://$old/properties" || refuse "$old doesn't answer"
+    count=$(edits "$old")
+    [ -n "$count" ] || refuse "$old doesn't say how many edits it has taken"
+    leaves=$(find -L "$servers/${old##*:}/Norder$(property hips_order)" -name 'Npix*.fits' 2>/dev/null | wc -l)
+    [ -d "$servers/${old##*:}" ] || leaves=$(property survey_leaves)
+    width=$(property hips_tile_width)
+    tile=$((width * width * $(property survey_bitpix) / 8))
+    room=$((536870912 / (tile < 1024 ? 1024 : tile) - leaves))
+    [ "$room" -le 65536 ] || room=65536
+    say "$old has taken $count edits since its start, of $room that it can take beside the $leaves leaves it had then"
+    [ $((count * 100)) -ge $((room * when)) ]
+}
 # at ADDRESS COMMAND: a command that was said.
 at() {
     ADDRESS=$1 PORT=${1##*:} FOLDER=$servers/${1##*:} bash -c "$2"
@@ -69,8 +103,12 @@ undo() {
     rm -f "$paused"
     rm -rf "$work"
 }
-trap undo EXIT
+trap 'rm -rf "$work"' EXIT
 trap 'exit 1' INT TERM
+[ -z "$when" ] || full || exit 0
+[ ! -e "$paused" ] || refuse "$paused is there: edits are paused already"
+(exec 3<>"/dev/tcp/${new%:*}/${new##*:}") 2>/dev/null && refuse "somebody listens at $new already"
+trap undo EXIT
 fail() {
     say "$*. The server at $old goes on."
     exit 1
@@ -88,11 +126,6 @@ turned() {
     done
     return 1
 }
-# edits ADDRESS: how many edits the server has accepted. No leaf can be removed twice in one batch: so this one is refused in any state.
-edits() {
-    printf 'remove 0\nremove 0\n' | curl -s -D - -o "$work/body" --max-time 60 -H 'Content-Type:' --data-binary @- "http://$1/batch" |
-        tr -d '\r' | sed -n 's/^survey-edits: \([0-9]*\)$/\1/Ip'
-}
 # published ADDRESS: has the accepted edits published, and says how many they are.
 published() {
     curl -s -D - -o "$work/body" --max-time 600 -X POST "http://$1/publish" | tr -d '\r' | sed -n 's/^survey-prefix: \([0-9]*\)$/\1/Ip'
@@ -109,7 +142,7 @@ copied=
 for _ in 1 2 3; do
     count=$(published "$old")
     [ -n "$count" ] || fail "nothing is published at $old: $(head -c 200 "$work/body")"
-    HIPSD_KEEP=1 "$here/backup.sh" "$old" "$servers/${new##*:}" || fail "there is no copy"
+    HIPSD_KEEP=1 "$here/backup.sh" ${release:+"$release"} "$old" "$servers/${new##*:}" || fail "there is no copy"
     if [ "$(edits "$old")" = "$count" ]; then
         copied=yes
         break
@@ -134,6 +167,7 @@ fi
 for path in properties Moc.fits; do
     curl -s -f -o "$work/old" --max-time 60 "http://$old/$path" || fail "$path can't be read at $old"
     curl -s -f -o "$work/new" --max-time 60 "http://$new/$path" || fail "$path can't be read at $new"
+    [ -z "$release" ] || sed -i '/^hips_release_date = /d' "$work/old" "$work/new"
     cmp -s "$work/old" "$work/new" || fail "the server at $new has another $path"
 done
 [ "$(edits "$new")" = 0 ] || fail "somebody has edited at $new"

@@ -17,7 +17,7 @@ cd "$(dirname "$0")/.." || exit 1
 . scripts/check-common.sh
 copies=20
 client=$scripts/mirror-client.py
-export HIPSD_PROGRAM=$program HIPSD_LOG=error HIPSD_KEEP=$copies HIPSD_SERVERS=$folder/servers
+export HIPSD_PROGRAM=$program HIPSD_LOG=error HIPSD_KEEP=$copies HIPSD_TRIES=1 HIPSD_SERVERS=$folder/servers
 started=
 # shellcheck disable=SC2317 # it is called by the trap
 end() {
@@ -106,11 +106,13 @@ kept=$(find "$folder" -maxdepth 1 -type d -name 'kept.[0-9]*Z' | wc -l)
 # A server over a copy goes on with it.
 (cd "$folder/kept/" && "$program" verify) >"$folder/body" 2>/dev/null || blame "a copy: $(cat "$folder/body")"
 
-# ---- the service and the timer
+# ---- the services and their timers
 if command -v systemd-analyze >/dev/null 2>&1; then
-    sed "s#=/usr/local/share/doc/hipsd/examples/#=$examples/#" "$examples/hipsd-backup.service" >"$folder/hipsd-backup.service"
-    cp "$examples/hipsd-backup.timer" "$folder"
-    systemd-analyze verify --man=no "$folder/hipsd-backup.service" "$folder/hipsd-backup.timer" >"$folder/body" 2>&1 || blame "systemd-analyze verify: $(cat "$folder/body")"
+    for unit in hipsd-backup hipsd-renew; do
+        sed "s#=/usr/local/share/doc/hipsd/examples/#=$examples/#" "$examples/$unit.service" >"$folder/$unit.service"
+        cp "$examples/$unit.timer" "$folder"
+    done
+    systemd-analyze verify --man=no "$folder"/hipsd-*.service "$folder"/hipsd-*.timer >"$folder/body" 2>&1 || blame "systemd-analyze verify: $(cat "$folder/body")"
     [ ! -s "$folder/body" ] || blame "systemd-analyze verify: $(cat "$folder/body")"
 else
     leaves_out systemd

@@ -864,6 +864,7 @@ service() {
     exposure=$(systemd-analyze security --offline=true "$1" 2>/dev/null | sed -n 's/.*exposure level for .*: \([0-9]*\)\.\([0-9]\).*/\1\2/p')
     [ "${exposure:-100}" -le 11 ] || blame "systemd-analyze security: ${exposure:-nothing} tenths in place of 11"
     grep -q '^RestartPreventExitStatus=1 2 3$' "$1" || blame "the service starts again where its folder is wrong"
+    for limit in TasksMax= MemoryMax= MemorySwapMax=0 SocketBindDeny=any SocketBindAllow=tcp:8080-8081; do grep -q "^$limit" "$1" || blame "the service has no $limit"; done
     grep -q '^Description=.*not with the edits' "$1" || blame "the service doesn't say what a restart goes on with"
 }
 
@@ -894,7 +895,7 @@ installs() {
     fi
     if command -v systemd-analyze >/dev/null 2>&1; then
         # It looks for the program where the service says.
-        sed "s#=/usr/#=$root/usr/#" "$root/usr/lib/systemd/system/hipsd@.service" >"$folder/hipsd@8081.service"
+        sed "s#=\(+*\)/usr/#=\1$root/usr/#" "$root/usr/lib/systemd/system/hipsd@.service" >"$folder/hipsd@8081.service"
         service "$folder/hipsd@8081.service"
         mkdir -p "$root/etc"
         systemd-sysusers --dry-run --root="$root" "$root/usr/lib/sysusers.d/hipsd.conf" 2>&1 | grep -q "Creating user 'hipsd'" || blame "systemd-sysusers makes no user"
