@@ -38,7 +38,7 @@ class Handler(SimpleHTTPRequestHandler):
         """A request under another name is refused: a page from elsewhere may have led its name to this address (DNS rebinding)."""
         if not super().parse_request():
             return False
-        if self.headers.get("Host") in self.server.names:
+        if self.headers.get("Host", "").partition(":")[0] in ("127.0.0.1", "localhost"):
             return True
         self.close_connection = True
         self.send_error(421)
@@ -112,8 +112,6 @@ def page_server(survey, port=0, handler=Handler):
     server = ThreadingHTTPServer(("127.0.0.1", port), handler)
     server.daemon_threads = True
     server.survey = survey
-    hosts = ("127.0.0.1", "localhost")
-    server.names = {f"{host}:{server.server_port}" for host in hosts} | (set(hosts) if server.server_port == 80 else set())
     return server
 
 
