@@ -2,8 +2,8 @@
 """Attacks what stands around the program, as an outsider or a foreign journal would: check_attacks.py [PROGRAM].
 
 PROGRAM is crates/hipsd/out/hipsd if none is named. What it starts it ends, and nothing is written outside a folder of its own.
-Attackers of nginx come from 127.0.0.2, beside a reader at 127.0.0.1. Each attack prints what it did and what the reader saw. Where
-nginx isn't installed this fails if CI=true, and else leaves those out.
+Attackers of nginx come from 127.0.0.2, beside a reader at 127.0.0.1. Each attack prints what it did and what the reader saw. What
+wants a tool that isn't installed fails if CI=true, and is left out else.
 """
 
 import base64
@@ -22,6 +22,7 @@ import threading
 import time
 import unittest
 from collections import Counter
+from importlib.util import find_spec
 from pathlib import Path
 
 TOP = Path(__file__).resolve().parent.parent
@@ -230,6 +231,7 @@ class Unpacking(unittest.TestCase):
         os.mkfifo(hips / "properties")
         self.refused("is no HiPS", EXAMPLES / "import-hipsgen.py", hips, self.folder / "new")
 
+    @unittest.skipUnless(find_spec("astropy") or os.environ.get("CI") == "true", "astropy isn't installed")
     def test_table_of_sources(self):
         self.bomb(self.folder / "sources.csv.gz", b"id,ra,dec,mag\n", 2)
         rows = [EXAMPLES / "catalog-rows.py", "--order", "3", "--format", "ascii.csv", "sources.csv.gz"]
