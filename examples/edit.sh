@@ -300,6 +300,7 @@ same_history() {
 
 # locked FOLDER: one at a time, so that the journal has the edits in the order in which the server has accepted them.
 locked() {
+    [ -w "$1" ] || fail "nothing was sent: $1 can't be written"
     (set -C && : >"$1/lock") 2>/dev/null || file "$1/lock" || fail "$1/lock is no file"
     exec 9>>"$1/lock"
     flock 9

@@ -57,14 +57,14 @@ def listens(port, process, seconds=30):
 class Server:
     """hipsd over a survey without leaves, or another one. Its log has a line for each connection."""
 
-    def __init__(self, folder, survey=None):
+    def __init__(self, folder, survey=None, port=None):
         self.folder = survey or folder / "survey"
         self.log = folder / "log"
         folder.mkdir(exist_ok=True)
         if not survey:
             self.folder.mkdir(exist_ok=True)
             (self.folder / "survey.conf").write_bytes(Survey("attacked", "Attacked", top=5, low=3, width=8).description())
-        self.port = free_port()
+        self.port = port or free_port()
         self.address = f"127.0.0.1:{self.port}"
         with self.log.open("wb") as log:
             self.process = subprocess.Popen(
@@ -559,6 +559,11 @@ class Editors(Attack):
         log = (self.proxy.folder / "hipsd-edit.log").read_text()
         self.assertRegex(log, r'(?m)^[0-9T:+-]+ 127\.0\.0\.1 "editor" "POST /edit/publish HTTP/1\.1" 200 .* published=\d+$')
         self.assertRegex(log, r'(?m) "editor" "POST /edit/publish HTTP/1\.1" 401 ')
+        self.server.end()
+        self.assertEqual(self.proxy.ask("POST", "/edit/publish", tls=True)[0], 502)
+        type(self).server = Server(self.folder, port=self.server.port)
+        time.sleep(0.1)
+        self.assertIn('"editor" "POST /edit/publish HTTP/1.1" 502 ', (self.proxy.folder / "hipsd-edit.log").read_text())
 
     def test_types_are_as_they_are_said(self):
         for path in ("/survey/properties", "/survey/nothing", f"/survey/{LEAF}", "/edit/properties", "/edit/pin"):

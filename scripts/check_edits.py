@@ -65,8 +65,8 @@ class Day(unittest.TestCase):
         for number, tile in enumerate(TILES):
             (self.folder / f"tile{number}").write_bytes(tile)
 
-    def serve(self):
-        self.server = Server(self.folder)
+    def serve(self, port=None):
+        self.server = Server(self.folder, port=port)
         self.addCleanup(self.server.end)
         self.base = f"http://{self.server.address}"
 
@@ -182,15 +182,10 @@ class Again(Day):
     def test_a_server_that_comes(self):
         port = free_port()
         self.base = f"http://127.0.0.1:{port}"
-        late = threading.Timer(1.5, lambda: self.late(port))
+        late = threading.Timer(1.5, self.serve, (port,))
         self.addCleanup(late.join)
         late.start()
         self.put(1, text="Survey-Edits: 1", HIPSD_TRIES="6")
-
-    def late(self, port):
-        check_attacks.free_port, kept = lambda: port, check_attacks.free_port
-        self.serve()
-        check_attacks.free_port = kept
 
     def test_no_room_at_the_moment(self):
         for codes in ((503, 503), (429,)):
