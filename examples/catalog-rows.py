@@ -14,6 +14,9 @@ which sources are ranked, and `id`, where no others are named.
 """
 
 import argparse
+import bz2
+import gzip
+import lzma
 import sys
 
 import numpy
@@ -21,6 +24,22 @@ from astropy.table import Table
 
 LAST_RANK = 2**64 - 1
 MOST_REST = 256
+
+
+def table_of(path, form):
+    """The table. astropy unpacks a packed file whole, to whatever size; so it is measured first, and a file that isn't whole is refused."""
+    most = 2**30
+    openers = {b"\x1f\x8b": gzip.open, b"BZ": bz2.open, b"\xfd7": lzma.open}
+    with open(path, "rb") as file:
+        opener = openers.get(file.read(2))
+    if opener:
+        with opener(path) as unpacked:
+            left = most
+            while left >= 0 and (part := unpacked.read(2**20)):
+                left -= len(part)
+        if left < 0:
+            sys.exit(f"catalog-rows.py: {path} unpacks to more than {most >> 30} GB")
+    return Table.read(path, format=form)
 
 
 def cells(order, ra, dec):
@@ -85,7 +104,10 @@ def main():
     parser.add_argument("--id", default="id")
     parser.add_argument("--format", default=None, help="as astropy names it, where the name of the file doesn't tell it")
     words = parser.parse_args()
-    table = Table.read(words.table, format=words.format)
+    try:
+        table = table_of(words.table, words.format)
+    except (OSError, EOFError, lzma.LZMAError) as fault:
+        sys.exit(f"catalog-rows.py: {words.table} can't be read: {fault}")
     for name in (words.ra, words.dec, words.mag, words.id):
         if name not in table.colnames:
             sys.exit(f"catalog-rows.py: there is no column {name}; there are {', '.join(table.colnames)}")
