@@ -179,8 +179,8 @@ class Export(Case):
         self.assertEqual(all_there - self.files(), {tile_path(5, leaf) for leaf in (0, 7, 8)})
 
     def test_the_words(self):
-        self.assertIn("the words are", self.script(2, "export.sh"))
-        self.assertIn("the words are", self.script(2, "export.sh", self.folder, "--remove"))
+        self.assertIn("usage: export.sh", self.script(2, "export.sh"))
+        self.assertIn("usage: export.sh", self.script(2, "export.sh", self.folder, "--remove"))
         self.script(2, "export.sh", self.folder / "nothing")
 
 
@@ -484,7 +484,7 @@ class Rollover(Case):
         self.assertIn(f"127.0.0.1:{self.new} has taken over", self.roll(0, *words))
         self.assertIn(str(self.new), self.named())
         self.assertIn("has taken 0 edits since its start, of 65536 that it can take beside the 656 leaves", self.roll(0, *words[:2], words[3], words[2]))
-        self.assertIn("--when wants", self.roll(2, "--when", "0"))
+        self.assertIn("--when takes", self.roll(2, "--when", "0"))
 
 
     def behind_the_rule(self):
