@@ -15,7 +15,7 @@ wait=${HIPSD_WAIT:-45}
 address=$1
 port=${address##*:}
 
-if sed -n 's/^ *server \([^ ;]*\)[ ;].*/\1/p' "$site" | grep -qxF "$address"; then
+if sed -n 's/^ *server \([^ ;]*\)[ ;].*/\1/p' "$site" 2>/dev/null | grep -qxF "$address"; then
     : >"$away" || echo "drain.sh: $away can't be written, so the proxy goes on"
 fi
 

@@ -355,7 +355,6 @@ class Drain(Case):
 
     def test_it_has_ended(self):
         address = f"127.0.0.1:{free_port()}"
-        (self.folder / "port").write_text("", encoding="ascii")
         self.ends(self.drain(address), f"drain.sh: {address} ends, and doesn't say how many edits go with it\n")
 
 
@@ -639,6 +638,8 @@ class Install(Case):
 
     def test_what_stays(self):
         self.install(DESTDIR=str(self.folder))
+        units = [path.name for path in EXAMPLES.iterdir() if path.suffix in (".service", ".timer")]
+        self.assertEqual(sorted(os.listdir(self.folder / "usr/local/lib/systemd/system")), sorted(units))
         names = ["etc/nginx/hipsd.users", "etc/ssl/private/hipsd.key", "var/lib/hipsd-backup/survey", "etc/systemd/system/hipsd@.service.d/override.conf"]
         for name in names:
             (self.folder / name).parent.mkdir(parents=True, exist_ok=True)
