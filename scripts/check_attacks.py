@@ -441,7 +441,7 @@ class Readers(Attack):
             ("a body of chunks", asks(b"Transfer-Encoding: chunked", body=b"7a120\r\n" + large + b"\r\n0\r\n\r\n")),
         ):
             with self.subTest(name):
-                self.attack(name, 1, request, 60, at_once=4 if "body" in name else 20)
+                self.attack(name, 0.7, request, 60, at_once=4 if "body" in name else 20)
 
     def test_random_misses(self):
         """Paths of tiles that aren't there."""
@@ -491,7 +491,7 @@ class Readers(Attack):
         """Each costs nginx a hash, for which nobody else is served."""
         words = base64.b64encode(b"editor:wrong")
         guess = asks(b"Authorization: Basic " + words, b"Content-Length: 0", path=lambda: b"/edit/publish", method=b"POST")
-        codes = self.attack("guesses of passwords", 3, guess, 20, first=1)
+        codes = self.attack("guesses of passwords", 2, guess, 20, first=1)
         tried = (self.proxy.folder / "error.log").read_text().count('user "editor": password mismatch')
         print(f"guesses of passwords: {tried} were compared and logged", flush=True)
         self.assertEqual(set(codes) - {"401", "429", "503", "broken"}, set())
