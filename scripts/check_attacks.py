@@ -2,8 +2,8 @@
 """Attacks what stands around the program, as an outsider or a foreign journal would: check_attacks.py [PROGRAM].
 
 PROGRAM is crates/hipsd/out/hipsd if none is named. What it starts it ends, and nothing is written outside a folder of its own.
-Attackers of nginx come from 127.0.0.2, beside a reader at 127.0.0.1. Each attack prints what it did and what the reader saw. What
-wants a tool that isn't installed fails if CI=true, and is left out else.
+Attackers of nginx come from 127.0.0.2, beside a reader at 127.0.0.1. Each attack prints what it did and what the reader saw. A
+test whose tool isn't installed fails if CI=true, and is skipped otherwise.
 """
 
 import base64
