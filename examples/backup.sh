@@ -1,29 +1,28 @@
 #!/bin/sh
-# Keeps copies of the survey of a running hipsd: folders that `hipsd serve` could go on with.
+# Keeps copies of what a running hipsd has published, each a folder that `hipsd serve` can go on with.
 #
 #     examples/backup.sh [--release-date] ADDRESS FOLDER
 #
-# ADDRESS is the server's own, as 127.0.0.1:8080 (a proxy keeps no pin); of @FILE it's that in a line `server ADDRESS;` of the file,
-# by which the proxy goes to it; where several are named and one doesn't answer the next one is tried. FOLDER is a symbolic link to the last copy, or nothing yet;
-# the copies stand beside it, FOLDER.20261129T094500Z and so on. One published state is copied, whatever is edited and published
-# meanwhile, into a new folder; its survey.conf is made of its properties; `hipsd verify` reads all files again; and only then the
-# link is turned to it. Until then, whatever fails, the link shows the copy that it showed. Edits that aren't published are no
-# part of a copy.
+# ADDRESS is the server's own, such as 127.0.0.1:8080: a proxy keeps no pin. With @FILE it is read from the lines `server ADDRESS;` of
+# the file, by which nginx goes to the server; if there are several, a server that doesn't answer is followed by the next. FOLDER is a
+# symbolic link to the last copy, or nothing yet. The copies stand beside it: FOLDER.20261129T094500Z.
 #
-# With --release-date hips_release_date becomes the time of the copy, or stays that of the last copy where nothing else has changed: by
-# it mirrors of others see that there is something new.
+# One published state is copied into a new folder, whatever is edited and published meanwhile. Its survey.conf is made from its
+# properties, and `hipsd verify` reads all files again. Only then does the link point to it; if a step fails, the link stays as it was.
+# Edits that aren't published aren't copied.
 #
-# The newest copies stay, and each that is in use: the folder of a process, or one that a link beside it, a link in HIPSD_SERVERS
-# (rollover.sh) or a unit of systemd names.
+# --release-date sets hips_release_date to the time of the copy, or keeps that of the last copy if nothing else has changed. Mirrors of
+# others go by this date.
 #
-# The folder in which the copies stand is that of the user who runs this, or root's, and nobody else may write there: else whoever may
-# could have files of this user overwritten.
+# The newest copies stay, and so does every copy in use: one that is the folder of a process, or that a link beside it, a link in
+# HIPSD_SERVERS or a unit of systemd names.
 #
-# These variables say more: HIPSD_PROGRAM, the program (hipsd); HIPSD_KEEP, how many copies stay (7); HIPSD_DEADLINE, how many seconds
-# a copy may take (3000); HIPSD_TRIES, how often it is tried (6), in pauses of 1, 2, 4 seconds and so on, where nobody listens or the
-# connection ends; HIPSD_SERVERS, the folder of the servers (/var/lib/hipsd); HIPSD_UNITS, the folders of units (systemd's
-# own). The status is 0 where the link shows a new copy, 2
-# where the words are wrong, and else 1.
+# The folder in which the copies stand must belong to root or to the user who runs this, and nobody else may write there. Otherwise
+# others could have files of this user overwritten.
+#
+# Variables, with their defaults below: the program; how many copies stay; how many seconds a copy may take; how often it is tried, after
+# pauses of 1, 2, 4 seconds and so on, if nobody listens or the connection breaks; the folder of the servers (rollover.sh); the folders
+# of units. The status is 0 if the link shows a new copy, 2 if the command line is invalid, and 1 otherwise.
 set -eu
 program=${HIPSD_PROGRAM:-hipsd}
 keep=${HIPSD_KEEP:-7}
@@ -32,7 +31,7 @@ tries=${HIPSD_TRIES:-6}
 servers=${HIPSD_SERVERS:-/var/lib/hipsd}
 units=${HIPSD_UNITS:-/etc/systemd /run/systemd /usr/local/lib/systemd /usr/lib/systemd}
 
-# refuse TEXT: the words are wrong.
+# refuse TEXT: the command line is invalid.
 refuse() {
     echo "backup.sh: $*" >&2
     exit 2
@@ -48,8 +47,8 @@ if [ "${1:-}" = --release-date ]; then
     release=yes
     shift
 fi
-[ $# = 2 ] || refuse "the words are [--release-date] ADDRESS FOLDER"
-# addresses WORD: where the server is, one in a line.
+[ $# = 2 ] || refuse "usage: backup.sh [--release-date] ADDRESS FOLDER"
+# addresses WORD: the server's addresses, one a line.
 addresses() {
     case $1 in @*) ;; *) echo "$1" && return ;; esac
     named=$(sed -n 's/^ *server \([0-9A-Za-z.:-]*\)[ ;].*/\1/p' "${1#@}" | sort -u)
@@ -140,7 +139,7 @@ mv -T "$link.turned" "$link"
 sync "$place"
 echo "$link is $(basename "$name"): $verdict"
 
-# hidden: whether a hipsd runs whose folder this user may not see.
+# hidden: whether there is a hipsd whose folder this user can't see.
 hidden() {
     for process in /proc/[0-9]*; do
         name=
@@ -160,7 +159,7 @@ in_use() {
 # The names sort by their times.
 find "$place" -mindepth 1 -maxdepth 1 -type d -name "$(basename "$link").[0-9]*Z" | sort -r | tail -n +$((keep + 1)) | while read -r old; do
     if hidden; then
-        echo "backup.sh: all older copies stay, since a hipsd of another user runs: nobody but root sees which folder it has" >&2
+        echo "backup.sh: all older copies stay: a hipsd of another user runs, and only root sees in which folder" >&2
         break
     fi
     if in_use "$old"; then

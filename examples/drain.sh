@@ -1,25 +1,25 @@
 #!/bin/sh
-# Before a server ends: lets the proxy send it nothing more, waits until no request is open, and says which edits go with it. The unit
+# Prepares the end of a server: nginx sends it nothing more, requests in progress are answered, and the log says how many edits are lost.
 # hipsd@.service calls it as ExecStop.
 #
 #     examples/drain.sh ADDRESS
 #
-# Where the proxy goes to ADDRESS (the line `server ADDRESS;` of HIPSD_SITE), the file HIPSD_AWAY is made: while it is there nginx
-# answers 503 by itself. hipsd ends a connection without a request after 10 seconds; so once none is left, or after HIPSD_WAIT
-# seconds, it may end. A server from which the proxy has been turned away (rollover.sh) ends as soon as nobody is there.
+# If nginx goes to ADDRESS (the line `server ADDRESS;` of HIPSD_SITE), it makes the file HIPSD_AWAY; while that exists, nginx answers 503.
+# Then it waits until no connection to the server is open, at most HIPSD_WAIT seconds; hipsd closes idle ones after 10. The unit removes
+# the file once the server has ended. If nginx goes elsewhere, as after rollover.sh, readers notice nothing.
 #
-# Whatever happens the status is 0, since the server ends anyway. The file is taken away once it has ended, by the unit.
+# The status is 0, since the server ends anyway.
 site=${HIPSD_SITE:-/etc/nginx/hipsd.port.conf}
 away=${HIPSD_AWAY:-/run/hipsd.away}
 wait=${HIPSD_WAIT:-45}
 address=$1
 port=${address##*:}
 
-if sed -n 's/^ *server \([^ ;]*\)[ ;].*/\1/p' "$site" | grep -qxF "$address"; then
+if sed -n 's/^ *server \([^ ;]*\)[ ;].*/\1/p' "$site" 2>/dev/null | grep -qxF "$address"; then
     : >"$away" || echo "drain.sh: $away can't be written, so the proxy goes on"
 fi
 
-# open: how many connections the server has: those of its port that are established.
+# open: how many connections to the server's port are established.
 open() {
     awk -v port="$(printf ':%04X' "$port")" 'substr($2, length($2) - 4) == port && $4 == "01"' /proc/self/net/tcp /proc/self/net/tcp6 2>/dev/null | wc -l
 }
@@ -31,7 +31,7 @@ done
 left=$(open)
 [ "$left" = 0 ] || echo "drain.sh: $left connections to $address are open after $seconds seconds, and end with the server"
 
-# No leaf can be removed twice in one batch: so this one is refused in any state, and says how many edits there are.
+# A batch that removes a leaf twice is refused in any state, and says how many edits there are.
 edits=$(printf 'remove 0\nremove 0\n' | curl -s -D - -o /dev/null --max-time 5 -H 'Content-Type:' --data-binary @- "http://$address/batch" |
     tr -d '\r' | sed -n 's/^survey-edits: \([0-9]*\)$/\1/Ip')
 published=$(curl -s -I --max-time 5 "http://$address/properties" | tr -d '\r' | sed -n 's/^survey-prefix: \([0-9]*\)$/\1/Ip')

@@ -1,17 +1,17 @@
 #!/bin/sh
-# Exports a survey folder, and removes nothing unasked. `hipsd export` removes every file at a path of a HiPS that the survey of
-# survey.conf doesn't have: with a wrong hips_order these are all its tiles.
+# Exports a survey folder, and removes nothing unasked. `hipsd export` removes every file at a HiPS path that the survey doesn't have;
+# if hips_order is wrong, these are all tiles.
 #
 #     examples/export.sh [--remove] FOLDER
 #
-# It says which files would go and which would come, and ends there where any would go. With --remove they go.
+# It says which files would go and which would come, and exports if none would go. With --remove they go.
 #
-# HIPSD_PROGRAM is the program, hipsd if it isn't set. The status is 0 where the folder is right in the end, 1 where not, and 2 where
-# the words are wrong.
+# HIPSD_PROGRAM is the program, hipsd by default. The status is 0 if the folder is right in the end, 2 if the command line is invalid,
+# and 1 otherwise.
 set -eu
 program=${HIPSD_PROGRAM:-hipsd}
 
-# refuse TEXT: the words are wrong.
+# refuse TEXT: the command line is invalid.
 refuse() {
     echo "export.sh: $*" >&2
     exit 2
@@ -21,7 +21,7 @@ if [ "${1:-}" = --remove ]; then
     remove=yes
     shift
 fi
-[ $# = 1 ] || refuse "the words are [--remove] FOLDER"
+[ $# = 1 ] || refuse "usage: export.sh [--remove] FOLDER"
 case $program in */*) program=$(realpath -e "$program") || refuse "there is no program $HIPSD_PROGRAM" ;; esac
 command -v "$program" >/dev/null || refuse "there is no program $program"
 cd "$1" || exit 2
@@ -37,7 +37,7 @@ case $status in
         ;;
 esac
 
-# number KEY: a number of the description, which verify has read.
+# number KEY: a number in survey.conf, which verify has accepted.
 number() {
     awk -F = -v key="$1" '{ gsub(/[ \t\r]/, "") } $1 == key { print $2 + 0 }' survey.conf
 }
@@ -73,7 +73,7 @@ find -L . -type f | awk -v top="$order" -v low="${lowest:-3}" '
         print "leaves " leaves + 0
     }' | sort -V >"$work"
 
-# told WORD: what it says of the files that go or come.
+# told WORD: the kinds of files that go, or come, and how many.
 told() {
     sed -n "s/^$1 /        /p" "$work"
 }

@@ -1,27 +1,28 @@
 #!/bin/bash
-# Renews a server without an outage: readers are served all the while, and no edit that was accepted is lost. It goes on from a copy
-# of what the server has published, which is made and checked first (backup.sh).
+# Renews a server without an outage: readers are served throughout, and no accepted edit is lost. The new server goes on from a checked
+# copy of what the old one has published (backup.sh).
 #
 #     examples/rollover.sh [--when PERCENT] [--release-date] [OLD NEW]
 #
-# OLD is the address of the server that runs, NEW an address of this machine where nobody listens, as the proxy spells them
-# (127.0.0.1:8080, 127.0.0.1:8081). If they aren't named, OLD is where the proxy goes, and NEW has the port 8081, or 8080 where OLD has
-# that. With --when this is done only if the server has taken so many percent of the edits that it can take since its start: 65,536, and
-# no more tiles, with its leaves at the start, than 536,870,912 bytes hold. An edit that removes a leaf is counted as a tile too. With
-# --release-date the new server has the time of the copy as its hips_release_date.
+# OLD is the address of the running server, NEW an address of this machine where nobody listens, as nginx spells them (127.0.0.1:8080,
+# 127.0.0.1:8081). Without them OLD is where nginx goes, and NEW the same with port 8081, or with 8080 if OLD has 8081.
 #
-# 1. Edits are paused at the proxy: the file HIPSD_PAUSED is there. Those that are on their way end.
-# 2. What was accepted is published, and copied by backup.sh into HIPSD_SERVERS, to which the link is called as the port of NEW. Where
-#    an edit came past the proxy meanwhile, this is done again.
-# 3. A second server is started over the copy. It has to serve the same properties and coverage, and must have no edits. Where the
-#    port of OLD is closed to other users of this machine (hipsd.nft), that of NEW has to be.
-# 4. The proxy is turned to it: NEW stands in place of OLD in HIPSD_SITE. The first one is ended. Edits go on.
+# --when renews the server only if it has taken that percentage of the edits that it can take. It can take 65,536, and its leaves at the
+# start and the tiles of its edits may be 536,870,912 bytes; an edit that removes a leaf is counted as a tile too.
+# --release-date sets hips_release_date of the new server to the time of the copy.
 #
-# Where a step fails the server that runs goes on, edits go on, and the status is 1. The new server begins with no edits: its
-# Survey-Prefix is 0, and a journal of edits (edit.sh) begins anew. It is the one that starts after a reboot.
+# 1. Edits are paused at the proxy by the file HIPSD_PAUSED. Edits in progress end.
+# 2. What was accepted is published, and backup.sh copies it into HIPSD_SERVERS, where a link with the port of NEW points to it. If an
+#    edit came past the proxy meanwhile, this is repeated.
+# 3. A second server starts over the copy. It must serve the same properties and coverage, and have no edits. If other users of this
+#    machine can't reach OLD (hipsd.nft), they must not reach NEW.
+# 4. NEW replaces OLD in HIPSD_SITE, and nginx reloads. The first server ends. Edits go on.
 #
-# These variables say how, with what stands here where nothing is said. The last four are commands, in which ADDRESS and PORT are set,
-# and FOLDER in the first. HIPSD_STRANGER succeeds where a user who has nothing to do here reaches the address.
+# If a step fails, the first server and edits go on, and the status is 1. The new server has no edits: its Survey-Prefix is 0, and a
+# journal of edits (edit.sh) begins anew. After a reboot the new one starts.
+#
+# Variables, with their defaults. The last four are commands, which find ADDRESS, PORT and FOLDER set; HIPSD_STRANGER succeeds if an
+# ordinary user reaches the address.
 site=${HIPSD_SITE:-/etc/nginx/hipsd.port.conf}
 servers=${HIPSD_SERVERS:-/var/lib/hipsd}
 paused=${HIPSD_PAUSED:-/run/hipsd.paused}
@@ -48,7 +49,7 @@ refuse() {
 when=
 if [ "${1:-}" = --when ]; then
     when=${2:-}
-    case $when in [1-9] | [1-9][0-9] | 100) ;; *) refuse "--when wants a number from 1 to 100" ;; esac
+    case $when in [1-9] | [1-9][0-9] | 100) ;; *) refuse "--when takes a number from 1 to 100" ;; esac
     shift 2
 fi
 release=
@@ -64,13 +65,13 @@ case $# in
         [ "$new" != "$old" ] || new=${old%:*}:8080
         ;;
     2) old=$1 new=$2 ;;
-    *) refuse "the words are [--when PERCENT] [--release-date] [OLD NEW]" ;;
+    *) refuse "usage: rollover.sh [--when PERCENT] [--release-date] [OLD NEW]" ;;
 esac
 grep -qE "server ${old//./\\.}[ ;]" "$site" || refuse "$site has no line 'server $old;'"
 work=$(mktemp -d) || exit 1
 started=
 
-# edits ADDRESS: how many edits the server has accepted. No leaf can be removed twice in one batch: so this one is refused in any state.
+# edits ADDRESS: how many edits the server has accepted. A batch that removes a leaf twice is refused in any state, and says so.
 edits() {
     printf 'remove 0\nremove 0\n' | curl -s -D - -o "$work/body" --max-time 60 -H 'Content-Type:' --data-binary @- "http://$1/batch" |
         tr -d '\r' | sed -n 's/^survey-edits: \([0-9]*\)$/\1/Ip'
@@ -93,7 +94,7 @@ full() {
     say "$old has taken $count edits since its start, of $room that it can take beside the $leaves leaves it had then"
     [ $((count * 100)) -ge $((room * when)) ]
 }
-# at ADDRESS COMMAND: a command that was said.
+# at ADDRESS COMMAND: one of the commands above.
 at() {
     ADDRESS=$1 PORT=${1##*:} FOLDER=$servers/${1##*:} bash -c "$2"
 }
@@ -114,7 +115,7 @@ fail() {
     exit 1
 }
 
-# turned: nginx reads its configuration anew, and what it has begun by the one before has ended.
+# turned: nginx has reloaded, and requests under its old configuration have ended.
 turned() {
     before=$(ps -o pid= --ppid "$(cat "$nginx_pid")") || return
     bash -c "$reload" || return
@@ -126,7 +127,7 @@ turned() {
     done
     return 1
 }
-# published ADDRESS: has the accepted edits published, and says how many they are.
+# published ADDRESS: publishes the accepted edits, and says how many they are.
 published() {
     curl -s -D - -o "$work/body" --max-time 600 -X POST "http://$1/publish" | tr -d '\r' | sed -n 's/^survey-prefix: \([0-9]*\)$/\1/Ip'
 }
@@ -135,8 +136,8 @@ published() {
 : >"$paused" || fail "$paused can't be written"
 turned || fail "nginx can't be told that edits are paused"
 
-# 2. A copy is made after the publication, so it has at least these edits; and no more where there are no more. The copy that the server
-# at OLD was started over is in use, so one copy of each port is enough.
+# 2. The copy is made after the publication, so it has at least these edits; it has no more if there are no more. One copy for each port
+# is enough: the one of OLD is in use, and stays.
 mkdir -p "$servers" || fail "$servers can't be made"
 copied=
 for _ in 1 2 3; do
@@ -174,7 +175,7 @@ done
 
 # 4.
 cp -p "$site" "$work/site" || fail "$site can't be read"
-# back: the proxy is turned to the old one again.
+# back: nginx goes to the old server again.
 back() {
     cp -p "$work/site" "$site" && turned
     fail "$1"

@@ -1,6 +1,6 @@
 #!/bin/bash
-# Tries copies of a running server: `hipsd mirror`, examples/backup.sh with its service and timer of systemd, and examples/rollover.sh
-# with nginx. What it starts it ends, and nothing is written outside a folder of its own.
+# Tries copies of a running server: `hipsd mirror`, examples/backup.sh, examples/rollover.sh with nginx, and their services and timers
+# of systemd. What it starts it ends, and nothing is written outside a folder of its own.
 #
 # - Twenty copies of a server that two editors edit and publish all the while, each of which `hipsd verify` reads again; each is of
 #   one published state, whose files survey_files.py makes of the edits, and all its files are these.

@@ -17,7 +17,6 @@ import socket
 import subprocess
 import sys
 import tempfile
-import threading
 import time
 import unittest
 from pathlib import Path
@@ -73,6 +72,13 @@ class Case(unittest.TestCase):
             path.parent.mkdir(parents=True, exist_ok=True)
             path.write_bytes(tile(leaf))
         return folder
+
+    def appears(self, path):
+        for _ in range(600):
+            if path.exists():
+                return
+            time.sleep(0.05)
+        self.fail(f"{path} doesn't appear")
 
     def tool(self, name, text):
         """A program in the folder bin, which a path may begin with."""
@@ -173,8 +179,8 @@ class Export(Case):
         self.assertEqual(all_there - self.files(), {tile_path(5, leaf) for leaf in (0, 7, 8)})
 
     def test_the_words(self):
-        self.assertIn("the words are", self.script(2, "export.sh"))
-        self.assertIn("the words are", self.script(2, "export.sh", self.folder, "--remove"))
+        self.assertIn("usage: export.sh", self.script(2, "export.sh"))
+        self.assertIn("usage: export.sh", self.script(2, "export.sh", self.folder, "--remove"))
         self.script(2, "export.sh", self.folder / "nothing")
 
 
@@ -249,10 +255,8 @@ class Backup(Case):
         self.assertGreater(time.monotonic() - begun, 1)
         # It goes where the proxy has been turned to meanwhile.
         (self.folder / "port").write_text(f"server 127.0.0.1:{port};\n", encoding="ascii")
-        turn = threading.Timer(0.5, lambda: (self.folder / "port").write_text(f"server {self.address};\n", encoding="ascii"))
-        turn.start()
-        said = self.script(0, "backup.sh", f"@{self.folder / 'port'}", self.link)
-        turn.join()
+        self.tool("turning", f'#!/bin/sh\n{PROGRAM} "$@" || {{ status=$?; echo "server {self.address};" >{self.folder}/port; exit $status; }}\n')
+        said = self.script(0, "backup.sh", f"@{self.folder / 'port'}", self.link, HIPSD_PROGRAM=str(self.folder / "bin" / "turning"))
         self.assertIn(f"hipsd mirror 127.0.0.1:{port} ended with status 6, and is tried again in 1 seconds", said)
         self.assertIn("names no server", self.script(2, "backup.sh", f"@{self.folder / 'nothing'}", self.link))
         # Of two that are named, where one is away: that of the later server.
@@ -286,7 +290,7 @@ class Backup(Case):
         with socket.create_server(("127.0.0.1", 0)) as peer:
             begun = time.monotonic()
             said = self.script(1, "backup.sh", f"127.0.0.1:{peer.getsockname()[1]}", self.link, HIPSD_DEADLINE="1")
-        self.assertLess(time.monotonic() - begun, 8)
+        self.assertLess(time.monotonic() - begun, 9)
         self.assertIn("takes more than 1 seconds", said)
         self.assertFalse(self.link.exists())
 
@@ -314,9 +318,9 @@ class Drain(Case):
         with socket.create_connection(address.split(":")) as client:
             client.sendall(b"GET /Moc.fits HTTP/1.1\r\n")
             ran = self.drain(address)
+            self.appears(self.folder / "away")
             with self.assertRaises(subprocess.TimeoutExpired):
                 ran.wait(2)
-            self.assertTrue((self.folder / "away").exists())
             client.sendall(b"Host: hipsd\r\nConnection: close\r\n\r\n")
             reply = client.makefile("rb").read()
             self.assertTrue(reply.startswith(b"HTTP/1.1 200 OK"), reply)
@@ -334,9 +338,8 @@ class Drain(Case):
         web = f"127.0.0.1:{port}"
         self.assertEqual(self.asks(web, "GET", "survey/properties")[0], 200)
         ran = self.drain(address, "hipsd.away")
+        self.appears(self.folder / "hipsd.away")
         for method, path in ("GET", "survey/properties"), ("POST", "edit/publish"):
-            while not (self.folder / "hipsd.away").exists():
-                time.sleep(0.01)
             code, fields, _ = self.asks(web, method, path)
             self.assertEqual((code, fields["Retry-After"]), (503, "5"))
         ran.kill()
@@ -352,7 +355,6 @@ class Drain(Case):
 
     def test_it_has_ended(self):
         address = f"127.0.0.1:{free_port()}"
-        (self.folder / "port").write_text("", encoding="ascii")
         self.ends(self.drain(address), f"drain.sh: {address} ends, and doesn't say how many edits go with it\n")
 
 
@@ -481,7 +483,7 @@ class Rollover(Case):
         self.assertIn(f"127.0.0.1:{self.new} has taken over", self.roll(0, *words))
         self.assertIn(str(self.new), self.named())
         self.assertIn("has taken 0 edits since its start, of 65536 that it can take beside the 656 leaves", self.roll(0, *words[:2], words[3], words[2]))
-        self.assertIn("--when wants", self.roll(2, "--when", "0"))
+        self.assertIn("--when takes", self.roll(2, "--when", "0"))
 
 
     def behind_the_rule(self):
@@ -636,6 +638,8 @@ class Install(Case):
 
     def test_what_stays(self):
         self.install(DESTDIR=str(self.folder))
+        units = [path.name for path in EXAMPLES.iterdir() if path.suffix in (".service", ".timer")]
+        self.assertEqual(sorted(os.listdir(self.folder / "usr/local/lib/systemd/system")), sorted(units))
         names = ["etc/nginx/hipsd.users", "etc/ssl/private/hipsd.key", "var/lib/hipsd-backup/survey", "etc/systemd/system/hipsd@.service.d/override.conf"]
         for name in names:
             (self.folder / name).parent.mkdir(parents=True, exist_ok=True)
