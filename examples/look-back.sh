@@ -260,7 +260,7 @@ survey() {
     done
     mv -T "$made" "$2"
     made=
-    echo "$(wc -l <"$work/leaves") leaf tiles after $1 edits; next: cd $2 && hipsd serve 127.0.0.1:8089 1000 8"
+    echo "$(wc -l <"$work/leaves") leaf tiles after $1 edits; next: cd ${2#./} && hipsd serve 127.0.0.1:8089 1000 8"
 }
 
 usage() {

@@ -15,6 +15,7 @@ import shutil
 import socket
 import ssl
 import statistics
+import struct
 import subprocess
 import sys
 import tempfile
@@ -389,6 +390,30 @@ def flood(port, seconds, request, threads=4, at_once=20, sources=1, first=2):
     return codes
 
 
+def leave(port, seconds, request, threads=8):
+    """Sends requests and leaves at once, from four addresses, and no faster than these are let in."""
+    until = time.monotonic() + seconds
+    codes = Counter()
+
+    def go_on(number):
+        while time.monotonic() < until:
+            one = socket.socket()
+            one.bind((f"127.0.0.{2 + number % 4}", 0))
+            one.connect(("127.0.0.1", port))
+            one.sendall(request(b"keep-alive"))
+            one.setsockopt(socket.SOL_SOCKET, socket.SO_LINGER, struct.pack("ii", 1, 0))
+            one.close()
+            codes["left"] += 1
+            time.sleep(0.004)
+
+    attackers = [threading.Thread(target=go_on, args=(number,)) for number in range(threads)]
+    for attacker in attackers:
+        attacker.start()
+    for attacker in attackers:
+        attacker.join()
+    return codes
+
+
 def random_leaf():
     """The path of a leaf; few of them are there, and few in nginx's cache."""
     leaf = random.randrange(12288)
@@ -411,11 +436,11 @@ class Readers(Attack):
         cls.proxy = Proxy(cls.folder, cls.server)
         cls.addClassCleanup(cls.proxy.end)
 
-    def attack(self, name, seconds, request, connections, worst=2000, median=100, **more):
+    def attack(self, name, seconds, request, connections, worst=2000, median=100, by=flood, **more):
         """Runs one beside a reader, and judges both."""
         before = self.server.taken()
         reader = Reader(self.proxy.port)
-        codes = flood(self.proxy.port, seconds, request, **more)
+        codes = by(self.proxy.port, seconds, request, **more)
         reader.end()
         taken = self.server.taken() - before
         middle, most = statistics.median(reader.times), max(reader.times)
@@ -454,6 +479,10 @@ class Readers(Attack):
         """Many requests at the same moment, each from a connection of its own: those that go on at once share connections."""
         codes = self.attack("bursts", 2, asks(), 1000, threads=24, at_once=2, sources=8)
         self.assertLess(codes["503"], codes["404"] / 10, "many are told that the server is away")
+
+    def test_readers_who_leave(self):
+        """nginx would close its connection to hipsd with theirs."""
+        self.attack("readers who leave", 2, asks(), 100, by=leave)
 
     def test_half_heads(self):
         """As many of them as nginx has connections: others are served again once these have had five seconds."""
