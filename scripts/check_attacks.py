@@ -287,7 +287,7 @@ class Proxy:
         if tls:
             site = site.replace("#tls ", "")
             words += [("/etc/ssl/certs/hipsd.pem", folder / "hipsd.pem"), ("/etc/ssl/private/hipsd.key", folder / "hipsd.key"),
-                      ("listen 443", f"listen 127.0.0.1:{self.secure}"), ("listen [::]:443 ssl http2;", "")]
+                      ("listen 443", f"listen 127.0.0.1:{self.secure}"), ("listen [::]:443 ssl;", "")]
             subprocess.run(
                 ["openssl", "req", "-x509", "-newkey", "rsa:2048", "-nodes", "-days", "2", "-subj", "/CN=hips.example.org",
                  "-keyout", folder / "hipsd.key", "-out", folder / "hipsd.pem"], check=True, capture_output=True,
@@ -548,6 +548,13 @@ class Editors(Attack):
         self.assertEqual((code, fields["Strict-Transport-Security"]), (200, "max-age=31536000"))
         _, fields, _ = self.proxy.ask("GET", "/survey/properties", password=None)
         self.assertIsNone(fields["Strict-Transport-Security"])
+
+    def test_no_http2(self):
+        """There each request that is cancelled would take a connection of hipsd along, whatever nginx is told."""
+        unseen = ssl._create_unverified_context()
+        unseen.set_alpn_protocols(["h2", "http/1.1"])
+        with socket.create_connection(("127.0.0.1", self.proxy.secure)) as plain, unseen.wrap_socket(plain) as one:
+            self.assertNotEqual(one.selected_alpn_protocol(), "h2")
 
     def test_pages_of_other_origins(self):
         """A browser says where a request comes from, by Sec-Fetch-Site also where it sends no Origin."""
