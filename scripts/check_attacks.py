@@ -462,6 +462,10 @@ class Readers(Attack):
             ("a long query", asks(path=lambda: b"/survey/properties?" + b"q" * 8145)),
             ("a long path", asks(path=lambda: b"/survey/" + b"p" * 8165)),
             ("bytes that are spelled longer", asks(path=lambda: b"/survey/" + b"\xff" * 3000)),
+            ("a condition", asks(b'If-Match: "x"', path=lambda: b"/survey/properties")),
+            ("a date", asks(b"If-Unmodified-Since: Sat, 01 Jan 2000 00:00:00 GMT", path=lambda: b"/survey/Moc.fits")),
+            ("no body, of what isn't there", asks(method=b"HEAD")),
+            ("no body", asks(b"If-None-Match: *", path=lambda: b"/survey/Moc.fits", method=b"HEAD")),
             ("a large body", asks(b"Content-Length: 500000", body=large)),
             ("a body of chunks", asks(b"Transfer-Encoding: chunked", body=b"7a120\r\n" + large + b"\r\n0\r\n\r\n")),
         ):
