@@ -2,8 +2,8 @@
 """Attacks what stands around the program, as an outsider or a foreign journal would: check_attacks.py [PROGRAM].
 
 PROGRAM is crates/hipsd/out/hipsd if none is named. What it starts it ends, and nothing is written outside a folder of its own.
-Attackers of nginx come from 127.0.0.2, beside a reader at 127.0.0.1. Each attack prints what it did and what the reader saw. What
-wants a tool that isn't installed fails if CI=true, and is left out else.
+Attackers of nginx come from 127.0.0.2, beside a reader at 127.0.0.1. Each attack prints what it did and what the reader saw. A
+test whose tool isn't installed fails if CI=true, and is skipped otherwise.
 """
 
 import base64
@@ -15,6 +15,7 @@ import shutil
 import socket
 import ssl
 import statistics
+import struct
 import subprocess
 import sys
 import tempfile
@@ -286,7 +287,7 @@ class Proxy:
         if tls:
             site = site.replace("#tls ", "")
             words += [("/etc/ssl/certs/hipsd.pem", folder / "hipsd.pem"), ("/etc/ssl/private/hipsd.key", folder / "hipsd.key"),
-                      ("listen 443", f"listen 127.0.0.1:{self.secure}"), ("listen [::]:443 ssl http2;", "")]
+                      ("listen 443", f"listen 127.0.0.1:{self.secure}"), ("listen [::]:443 ssl;", "")]
             subprocess.run(
                 ["openssl", "req", "-x509", "-newkey", "rsa:2048", "-nodes", "-days", "2", "-subj", "/CN=hips.example.org",
                  "-keyout", folder / "hipsd.key", "-out", folder / "hipsd.pem"], check=True, capture_output=True,
@@ -389,6 +390,30 @@ def flood(port, seconds, request, threads=4, at_once=20, sources=1, first=2):
     return codes
 
 
+def leave(port, seconds, request, threads=8):
+    """Sends requests and leaves at once, from four addresses, and no faster than these are let in."""
+    until = time.monotonic() + seconds
+    codes = Counter()
+
+    def go_on(number):
+        while time.monotonic() < until:
+            one = socket.socket()
+            one.bind((f"127.0.0.{2 + number % 4}", 0))
+            one.connect(("127.0.0.1", port))
+            one.sendall(request(b"keep-alive"))
+            one.setsockopt(socket.SOL_SOCKET, socket.SO_LINGER, struct.pack("ii", 1, 0))
+            one.close()
+            codes["left"] += 1
+            time.sleep(0.004)
+
+    attackers = [threading.Thread(target=go_on, args=(number,)) for number in range(threads)]
+    for attacker in attackers:
+        attacker.start()
+    for attacker in attackers:
+        attacker.join()
+    return codes
+
+
 def random_leaf():
     """The path of a leaf; few of them are there, and few in nginx's cache."""
     leaf = random.randrange(12288)
@@ -411,11 +436,11 @@ class Readers(Attack):
         cls.proxy = Proxy(cls.folder, cls.server)
         cls.addClassCleanup(cls.proxy.end)
 
-    def attack(self, name, seconds, request, connections, worst=2000, median=100, **more):
+    def attack(self, name, seconds, request, connections, worst=2000, median=100, by=flood, **more):
         """Runs one beside a reader, and judges both."""
         before = self.server.taken()
         reader = Reader(self.proxy.port)
-        codes = flood(self.proxy.port, seconds, request, **more)
+        codes = by(self.proxy.port, seconds, request, **more)
         reader.end()
         taken = self.server.taken() - before
         middle, most = statistics.median(reader.times), max(reader.times)
@@ -437,11 +462,15 @@ class Readers(Attack):
             ("a long query", asks(path=lambda: b"/survey/properties?" + b"q" * 8145)),
             ("a long path", asks(path=lambda: b"/survey/" + b"p" * 8165)),
             ("bytes that are spelled longer", asks(path=lambda: b"/survey/" + b"\xff" * 3000)),
+            ("a condition", asks(b'If-Match: "x"', path=lambda: b"/survey/properties")),
+            ("a date", asks(b"If-Unmodified-Since: Sat, 01 Jan 2000 00:00:00 GMT", path=lambda: b"/survey/Moc.fits")),
+            ("no body, of what isn't there", asks(method=b"HEAD")),
+            ("no body", asks(b"If-None-Match: *", path=lambda: b"/survey/Moc.fits", method=b"HEAD")),
             ("a large body", asks(b"Content-Length: 500000", body=large)),
             ("a body of chunks", asks(b"Transfer-Encoding: chunked", body=b"7a120\r\n" + large + b"\r\n0\r\n\r\n")),
         ):
             with self.subTest(name):
-                self.attack(name, 1, request, 60, at_once=4 if "body" in name else 20)
+                self.attack(name, 0.7, request, 60, at_once=4 if "body" in name else 20)
 
     def test_random_misses(self):
         """Paths of tiles that aren't there."""
@@ -454,6 +483,10 @@ class Readers(Attack):
         """Many requests at the same moment, each from a connection of its own: those that go on at once share connections."""
         codes = self.attack("bursts", 2, asks(), 1000, threads=24, at_once=2, sources=8)
         self.assertLess(codes["503"], codes["404"] / 10, "many are told that the server is away")
+
+    def test_readers_who_leave(self):
+        """nginx would close its connection to hipsd with theirs."""
+        self.attack("readers who leave", 2, asks(), 100, by=leave)
 
     def test_half_heads(self):
         """As many of them as nginx has connections: others are served again once these have had five seconds."""
@@ -491,7 +524,7 @@ class Readers(Attack):
         """Each costs nginx a hash, for which nobody else is served."""
         words = base64.b64encode(b"editor:wrong")
         guess = asks(b"Authorization: Basic " + words, b"Content-Length: 0", path=lambda: b"/edit/publish", method=b"POST")
-        codes = self.attack("guesses of passwords", 3, guess, 20, first=1)
+        codes = self.attack("guesses of passwords", 2, guess, 20, first=1)
         tried = (self.proxy.folder / "error.log").read_text().count('user "editor": password mismatch')
         print(f"guesses of passwords: {tried} were compared and logged", flush=True)
         self.assertEqual(set(codes) - {"401", "429", "503", "broken"}, set())
@@ -519,6 +552,13 @@ class Editors(Attack):
         self.assertEqual((code, fields["Strict-Transport-Security"]), (200, "max-age=31536000"))
         _, fields, _ = self.proxy.ask("GET", "/survey/properties", password=None)
         self.assertIsNone(fields["Strict-Transport-Security"])
+
+    def test_no_http2(self):
+        """There each request that is cancelled would take a connection of hipsd along, whatever nginx is told."""
+        unseen = ssl._create_unverified_context()
+        unseen.set_alpn_protocols(["h2", "http/1.1"])
+        with socket.create_connection(("127.0.0.1", self.proxy.secure)) as plain, unseen.wrap_socket(plain) as one:
+            self.assertNotEqual(one.selected_alpn_protocol(), "h2")
 
     def test_pages_of_other_origins(self):
         """A browser says where a request comes from, by Sec-Fetch-Site also where it sends no Origin."""
