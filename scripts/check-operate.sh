@@ -937,7 +937,7 @@ if command -v nft >/dev/null 2>&1; then port_for_the_proxy; else leaves_out nfta
 
 # The scripts that operators and editors run, and those that try them.
 if command -v shellcheck >/dev/null 2>&1; then
-    shellcheck -x "$examples"/*.sh "$scripts"/install*.sh "$scripts/sample.sh" "$scripts/check-operate.sh" "$scripts/check-mirror.sh" || blame "shellcheck"
+    shellcheck -x "$examples"/*.sh "$scripts"/install*.sh "$scripts/sample.sh" "$scripts/check-operate.sh" "$scripts/check-mirror.sh" "$scripts/check-units.sh" || blame "shellcheck"
 else
     leaves_out shellcheck
 fi
