@@ -1,6 +1,7 @@
 #!/bin/bash
 # The quick check: every test, and the programs with their stored input and output, compiled by `rt try` without a proof; and the
-# checks that need no built program. Prints a line for each and a total. The status is 1 if one failed.
+# checks that need no built program. Prints a line for each and a total. The status is 1 if one failed. size_run and one test are left
+# out: unproved code isn't optimized, and they would take many minutes.
 #
 #     scripts/test.sh [JOBS]
 #
@@ -13,7 +14,7 @@ jobs=${1:-$(nproc)}
 work=$(mktemp -d) || exit 1
 trap 'rm -rf "$work"' EXIT
 
-# tests CRATE: its tests. One makes thousands of connections, and isn't waited for: unproved code is some ten times slower.
+# tests CRATE: its tests. One of connection_tests makes thousands of connections, and isn't waited for.
 tests() {
     seconds=300 slow=' '
     [ "$1" != connection_tests ] || seconds=60 slow='broken::a_cut_input_is_answered_up_to_its_last_whole_request'
