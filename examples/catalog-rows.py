@@ -27,7 +27,7 @@ MOST_REST = 256
 
 
 def table_of(path, form):
-    """The table. astropy unpacks a packed file whole, to whatever size; so it is measured first, and a file that isn't whole is refused."""
+    """The table. astropy unpacks a compressed file to whatever size it has, so that is measured first."""
     most = 2**30
     openers = {b"\x1f\x8b": gzip.open, b"BZ": bz2.open, b"\xfd7": lzma.open}
     with open(path, "rb") as file:

@@ -14,10 +14,10 @@
 #
 # HIPSD is the server's address, http://127.0.0.1:8080 if it isn't set; curl takes a password from ~/.netrc.
 # With a folder in HIPSD_JOURNAL each edit, batch and publication is written there and is on the disk before it is sent, and is marked
-# once it is answered. So a server that ended can have its edits again, by `replay`, over the folder that it was started with. A server
-# that began anew since the journal's last edit is told by its number of edits: then nothing is sent.
-# Where nobody listens, or the answer is 429 or 503, nothing was taken: it is sent again after 1, 2, 4, 8 and 16 seconds, six times in
-# all, or HIPSD_TRIES times. What may have been taken is never sent again.
+# once it is answered. So a server that ended can have its edits again, by `replay`, over the folder that it was started with. If the
+# server has started again since the journal's last edit, its number of edits shows it: then nothing is sent.
+# If nobody listens, or the reply is 429 or 503, nothing was changed: the edit is sent again after 1, 2, 4, 8 and 16 seconds, six times in
+# all, or HIPSD_TRIES times. An edit that may have been accepted is never sent again.
 # The status is 0 where the server did what was asked, and its reply is written as it came; 1 where not; 2 where the words are wrong,
 # and then nothing was sent.
 set -eu
@@ -129,8 +129,8 @@ answer() {
         END { print code " " number text }'
 }
 
-# sends EDIT PATH BODY ADDRESS: the same, and again where nothing was taken. $reply is the answer; `unsent` where nobody listens, and
-# empty where none came.
+# sends EDIT PATH BODY ADDRESS: the same, and again while nothing was changed. $reply is the answer, `unsent` if nobody listens, and empty
+# if none came.
 sends() {
     try=1 pause=1
     while :; do
@@ -143,7 +143,7 @@ sends() {
         esac
         case $reply in unsent | '429 '* | '503 '*) ;; *) return 0 ;; esac
         [ "$try" -lt "$tries" ] || return 0
-        echo "edit.sh: nothing was taken at $4 ($reply); it is sent again in $pause seconds" >&2
+        echo "edit.sh: nothing was changed at $4 ($reply); trying again in $pause seconds" >&2
         sleep "$pause"
         try=$((try + 1)) pause=$((pause * 2))
     done
@@ -188,7 +188,7 @@ fault() {
             text=$(card "${file:-/dev/null}" "$4")
             if [ "$3" = 5 ]; then echo "card $4 has the keyword of an earlier card${text:+: $text}"; else
                 echo "card $4 has no value of its kind${text:+: $text}"
-                case $text in BLANK*) echo "(a whole number is wanted there: import-hipsgen.py mends what HipsGen wrote)" ;; esac
+                case $text in BLANK*) echo "(it must be a whole number: import-hipsgen.py mends what HipsGen wrote)" ;; esac
             fi
             ;;
         '2 simple') echo "its first card isn't SIMPLE = T" ;;
@@ -215,8 +215,8 @@ explain() {
     case $answer in
         *' limit 3') echo "65,536 edits were accepted, and the server takes no more: renew it (rollover.sh)" ;;
         *' limit 4')
-            echo "the tiles at the start and all that were accepted since fill what a server keeps"
-            echo "renew it (rollover.sh): the next one begins with the present tiles alone"
+            echo "the tiles at the start and all accepted since fill the memory that a server has for them"
+            echo "renew it (rollover.sh): the next one starts with the present tiles alone"
             ;;
         '401 '*) echo "a name and a password are needed in ~/.netrc, or those there are wrong" ;;
         '404 '*' absent') echo "the leaf has no tile" ;;
@@ -234,7 +234,7 @@ explain() {
             echo "the file of entry $number, from 0, is no tile of this survey: $(fault '' ${answer#* batch refused "$number" })"
             ;;
         '422 '*' tile refused '*) echo "the file is no tile of this survey: $(fault "$body" ${answer#* tile refused })" ;;
-        '429 '* | '503 '*) echo "nothing was taken, since the server has no room for it now: send it again later" ;;
+        '429 '* | '503 '*) echo "nothing was changed, since the server is busy or paused: try again later" ;;
     esac | sed 's/^/edit.sh: /' >&2
 }
 
@@ -279,7 +279,7 @@ answered() {
     done
 }
 
-# same_history: ends this where the server has fewer edits than it had behind the journal's last entry, $behind.
+# same_history: ends this if the server has fewer edits than after the journal's last entry, $behind.
 same_history() {
     behind=0
     names "$journal" | sort -r >"$work/names"
@@ -293,13 +293,14 @@ same_history() {
     [ "$behind" -gt 0 ] || return 0
     count_edits "$base"
     [ "$count" -lt "$behind" ] || return 0
-    fail "nothing was sent: $base has accepted $count edits, and had $behind behind the last one of $journal. So it began anew, from its folder.
-    If that has these edits (a server that rollover.sh renewed): begin a new journal, another folder in HIPSD_JOURNAL.
+    fail "nothing was sent: $base has $count edits, and had $behind after the last one of $journal. So it has started again, from its folder.
+    If the folder has these edits (rollover.sh renewed the server): start a new journal, another folder in HIPSD_JOURNAL.
     If not: 'edit.sh replay $journal $base' sends them again, in order."
 }
 
 # locked FOLDER: one at a time, so that the journal has the edits in the order in which the server has accepted them.
 locked() {
+    [ -w "$1" ] || fail "nothing was sent: $1 can't be written"
     (set -C && : >"$1/lock") 2>/dev/null || file "$1/lock" || fail "$1/lock is no file"
     exec 9>>"$1/lock"
     flock 9
@@ -384,9 +385,9 @@ replay() {
     while read -r name <&8; do entry "$journal" "$name"; done 8<"$work/names"
     count_edits "${2%/}"
     [ "$count" = "$others" ] || fail "nothing was sent: the server at $2 is no fresh one: it has accepted $count edits.
-    If they are those of this journal, it has them. If they are others, there are two ways:
-    - start it again over its folder, by which they are gone, and replay then;
-    - 'edit.sh replay $1 $2 $count' sends the journal's behind them, which then stand where both change a leaf."
+    If they are those of this journal, nothing is missing. If they are others, there are two ways:
+    - start it again over its folder, which loses them, and replay then;
+    - 'edit.sh replay $1 $2 $count' sends the journal's edits after them; if both change a leaf, the journal's tile stays."
     sent=0 differing=0
     : >"$work/again"
     while read -r name <&8; do again "$name" "${2%/}"; done 8<"$work/names"

@@ -1,11 +1,11 @@
 #!/bin/sh
 # Looks at earlier states of a survey, by the journal that edit.sh has kept of its edits (HIPSD_JOURNAL).
 #
-#     examples/look-back.sh JOURNAL                             the states that there were: numbers of edits, when, and what came then
+#     examples/look-back.sh JOURNAL                             the states that there were: number of edits, time, and the last edit
 #     examples/look-back.sh JOURNAL EDITS PATH                  a file as it was after the first EDITS edits, to standard output
 #     examples/look-back.sh JOURNAL EDITS --folder FOLDER       the survey as it was then, in a new folder, for hipsd serve or export
-#     examples/look-back.sh JOURNAL --at TIME PATH              the same by the time in place of the number: the last state that
-#     examples/look-back.sh JOURNAL --at TIME --folder FOLDER   there was then, in UTC: 2026-11-30T12:00, or 2026-11-30 for its begin
+#     examples/look-back.sh JOURNAL --at TIME PATH              the same, for the last state at that time, in UTC: 2026-11-30T12:00,
+#     examples/look-back.sh JOURNAL --at TIME --folder FOLDER   or 2026-11-30 for the beginning of that day
 #
 # It is run in the folder that the server was started over, with the description and the leaves that this had then, and wants no
 # server. What was published then or not makes no difference. Of a journal that was replayed the states are those of the last replay.
@@ -109,10 +109,10 @@ plan() {
                 own=$(own "$answer")
                 whole "$own" || fail "$journal/$name.answer has no number of edits: $answer"
                 if [ $((number - own)) -gt "$count" ]; then
-                    [ -n "$doubtful" ] || echo "look-back.sh: before $name others have edited, or this journal doesn't have all: there are no states from $number on" >&2
+                    [ -n "$doubtful" ] || echo "look-back.sh: before $name others have edited, or entries are missing: states of $number edits and more can't be made" >&2
                     for entry in $doubtful; do echo "$entry - $(line "$entry")"; done
                 elif [ $((number - own)) -lt "$count" ]; then
-                    echo "look-back.sh: before $name the server began anew, and the journal wasn't replayed: there are no states from there on" >&2
+                    echo "look-back.sh: before $name the server started again, and the journal wasn't replayed: later states can't be made" >&2
                 fi
                 doubtful=
                 echo "$name $number $line"
@@ -260,7 +260,7 @@ survey() {
     done
     mv -T "$made" "$2"
     made=
-    echo "$(wc -l <"$work/leaves") leaf tiles after $1 edits; next: cd $2 && hipsd serve 127.0.0.1:8089 1000 8"
+    echo "$(wc -l <"$work/leaves") leaf tiles after $1 edits; next: cd ${2#./} && hipsd serve 127.0.0.1:8089 1000 8"
 }
 
 usage() {

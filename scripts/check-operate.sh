@@ -97,7 +97,7 @@ by_tls() {
     asks 200 --interface "$own" $tls -u editor:secret -X POST "https://hips.example.org:$secure/edit/publish"
 }
 
-# edits_by_tls: edit.sh through the proxy, by HTTP/2, with a password from ~/.netrc.
+# edits_by_tls: edit.sh through the proxy, with a password from ~/.netrc.
 edits_by_tls() {
     printf 'resolve = hips.example.org:%s:127.0.0.1\ncacert = "%s/hipsd.pem"\n' "$secure" "$folder" >"$folder/.curlrc"
     echo 'machine hips.example.org login editor password secret' >"$folder/.netrc"

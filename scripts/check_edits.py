@@ -1,8 +1,8 @@
 #!/usr/bin/python3
 """Tries edit.sh and look-back.sh on a bad day: check_edits.py [PROGRAM].
 
-A server that began anew, one that has edits of others, one that isn't there yet or takes nothing at the moment; refusals in words;
-earlier states by their times, and as a folder. PROGRAM is crates/hipsd/out/hipsd if none is named. What it starts it ends, and nothing
+A server that has started again, one that has edits of others, one that isn't there yet or is busy; refusals in words; earlier states by
+their times, and as a folder. PROGRAM is crates/hipsd/out/hipsd if none is named. What it starts it ends, and nothing
 is written outside a folder of its own.
 """
 
@@ -65,8 +65,8 @@ class Day(unittest.TestCase):
         for number, tile in enumerate(TILES):
             (self.folder / f"tile{number}").write_bytes(tile)
 
-    def serve(self):
-        self.server = Server(self.folder)
+    def serve(self, port=None):
+        self.server = Server(self.folder, port=port)
         self.addCleanup(self.server.end)
         self.base = f"http://{self.server.address}"
 
@@ -113,7 +113,7 @@ class Day(unittest.TestCase):
 
 
 class Anew(Day):
-    """A server that began anew has none of the edits, and counts from one again."""
+    """A server that has started again has none of the edits, and counts from one again."""
 
     def test_nothing_is_sent(self):
         self.serve()
@@ -121,7 +121,7 @@ class Anew(Day):
         self.put(2)
         self.edit("publish")
         self.again()
-        self.put(3, status=1, text="began anew")
+        self.put(3, status=1, text="has started again")
         self.edit("publish", status=1, text="edit.sh replay")
         self.assertEqual(len(self.entries()), 3, "an entry was made of what wasn't sent")
         self.edit("replay", self.journal, self.base, text="3 entries: 3 sent again")
@@ -168,7 +168,7 @@ class Anew(Day):
 
 
 class Again(Day):
-    """What wasn't taken is sent again, and nothing else is."""
+    """An edit that changed nothing is sent again, and no other."""
 
     def stub(self, *replies):
         server = HTTPServer(("127.0.0.1", free_port()), Replies)
@@ -182,26 +182,21 @@ class Again(Day):
     def test_a_server_that_comes(self):
         port = free_port()
         self.base = f"http://127.0.0.1:{port}"
-        late = threading.Timer(1.5, lambda: self.late(port))
+        late = threading.Timer(1.5, self.serve, (port,))
+        self.addCleanup(late.join)
         late.start()
         self.put(1, text="Survey-Edits: 1", HIPSD_TRIES="6")
-        late.join()
-
-    def late(self, port):
-        check_attacks.free_port, kept = lambda: port, check_attacks.free_port
-        self.serve()
-        check_attacks.free_port = kept
 
     def test_no_room_at_the_moment(self):
         for codes in ((503, 503), (429,)):
             with self.subTest(codes=codes):
                 server = self.stub(*((code, b"later\n") for code in codes))
                 began = time.monotonic()
-                self.put(1, text=f"sent again in {len(codes)} seconds", HIPSD_TRIES="3", HIPSD_JOURNAL="")
+                self.put(1, text=f"trying again in {len(codes)} seconds", HIPSD_TRIES="3", HIPSD_JOURNAL="")
                 self.assertGreater(time.monotonic() - began, 0.9 * (2 ** len(codes) - 1), "the pauses are shorter than they are said")
                 self.assertEqual(server.seen, ["PUT"] * (1 + len(codes)))
         server = self.stub((503, b"later\n"))
-        self.put(1, status=1, text="nothing was taken", HIPSD_JOURNAL="")
+        self.put(1, status=1, text="the server is busy or paused", HIPSD_JOURNAL="")
         self.assertEqual(server.seen, ["PUT"])
 
     def test_a_fate_that_is_not_known(self):
@@ -217,7 +212,7 @@ class Again(Day):
             ((422, b"tile refused 3 bitpix -32\n"), "real numbers"), ((422, b"tile refused 9 truncated 12\n"), "12 bytes of its pixels are missing"),
             ((422, b"batch refused 3 7 zero\n"), "the file of entry 3, from 0, is no tile of this survey: BZERO"),
             ((422, b"batch refused 3 line\n"), "entry 3, from 0, is no line"), ((412, b"batch 3 precondition failed\n"), "entry 3 of the batch"),
-            ((507, b"batch 3 limit 4\n"), "fill what a server keeps"), ((422, b"tile refused 1 header 4 a[$(exit)]\n"), "no value of its kind"),
+            ((507, b"batch 3 limit 4\n"), "fill the memory that a server has"), ((422, b"tile refused 1 header 4 a[$(exit)]\n"), "no value of its kind"),
         ):
             with self.subTest(reply=reply):
                 self.stub(reply)

@@ -34,18 +34,11 @@ class Handler(SimpleHTTPRequestHandler):
         self.server_of_survey = None
         super().__init__(*words, directory=PAGE, **more)
 
-    def parse_request(self):
-        """A request under another name is refused: a page from elsewhere may have led its name to this address (DNS rebinding)."""
-        if not super().parse_request():
-            return False
-        if self.headers.get("Host") in self.server.names:
-            return True
-        self.close_connection = True
-        self.send_error(421)
-        return False
-
     def do_GET(self):
-        if self.path == "/":
+        if self.headers.get("Host", "").partition(":")[0] not in ("127.0.0.1", "localhost"):
+            # A page from elsewhere may have led its own name to this address (DNS rebinding).
+            self.send_error(421)
+        elif self.path == "/":
             self.send_response(302)
             self.send_header("Location", "/atlas/")
             self.send_header("Content-Length", "0")
@@ -112,8 +105,6 @@ def page_server(survey, port=0, handler=Handler):
     server = ThreadingHTTPServer(("127.0.0.1", port), handler)
     server.daemon_threads = True
     server.survey = survey
-    hosts = ("127.0.0.1", "localhost")
-    server.names = {f"{host}:{server.server_port}" for host in hosts} | (set(hosts) if server.server_port == 80 else set())
     return server
 
 
