@@ -36,6 +36,8 @@ from astropy.table import Column, Table
 HEAD = "rank\tnpix\tid\trest"
 TILE = re.compile(r"Norder(\d+)/Dir\d+/Npix(\d+)\.tsv")
 DEEPEST = 11
+# Where the id of a row stands among its fields: no name of a rest is empty.
+ID = ""
 # A position that was rounded to seven digits may lie so far from its cell, in degrees.
 ROUNDED = 0.0001
 
@@ -65,7 +67,7 @@ class Sources:
                 self.orders.append(order)
                 self.tiles.append(tile)
                 self.npix.append(int(npix))
-                self.fields.append({"id": name, **dict(field.partition("=")[::2] for field in rest.split(" ") if field)})
+                self.fields.append({ID: name, **dict(field.partition("=")[::2] for field in rest.split(" ") if field)})
         if not self.fields:
             raise Refused(f"{folder} has no source")
         self.orders, self.tiles, self.npix = (numpy.array(numbers) for numbers in (self.orders, self.tiles, self.npix))
@@ -74,7 +76,7 @@ class Sources:
         """Says where the sources are, which have to be in the cells of their rows; and drops order 0."""
         self.order, is_wrong = min(self.orders_that_fit(ra, dec), key=lambda found: found[1].sum())
         if is_wrong.any():
-            first = self.fields[int(numpy.flatnonzero(is_wrong)[0])]["id"]
+            first = self.fields[int(numpy.flatnonzero(is_wrong)[0])][ID]
             raise Refused(f"{is_wrong.sum():,} of {len(is_wrong):,} sources don't lie in the cells of their rows, as {first}: "
                           f"the rows weren't made for order {self.order}, which hipsd catalog was told")
         if self.order == 0:
@@ -115,21 +117,26 @@ def tile_paths(folder):
 
 
 def columns_of(sources, words):
-    """A table of the sources' columns, with `ra` and `dec` first: numbers or texts, masked where absent; and their names in the rests."""
+    """A table of the sources' columns, with `ra` and `dec` first: numbers or texts, masked where absent; and their keys."""
     told = Table.read(words.columns, format="votable") if words.columns else None
-    names = list(told.colnames) if told is not None else list(dict.fromkeys(name for fields in sources.fields for name in fields))
-    if told is not None and words.ra == "ra" and words.dec == "dec":
+    if told is None:
+        keys = list(dict.fromkeys(key for fields in sources.fields for key in fields))
+    else:
+        # The first of them is that of the ids.
+        keys = [ID, *told.colnames[1:]]
         words.ra, words.dec = (by_ucd(told, f"pos.eq.{axis};meta.main") or axis for axis in ("ra", "dec"))
     for name in (words.ra, words.dec):
-        if name not in names:
-            raise Refused(f"there is no column {name} in the rests of the tiles; there are {', '.join(names)}")
+        if name not in keys:
+            raise Refused(f"there is no column {name} in the rests of the tiles; there are {', '.join(filter(None, keys))}")
     table = Table()
-    names = [words.ra, words.dec, *(name for name in names if name not in (words.ra, words.dec))]
-    for name in names:
-        column = read_column([fields.get(name, "") for fields in sources.fields], told[name] if told is not None else None)
+    keys = [words.ra, words.dec, *(key for key in keys if key not in (words.ra, words.dec))]
+    for key in keys:
+        name = {ID: told.colnames[0] if told is not None else "id", words.ra: "ra", words.dec: "dec"}.get(key, key)
         # Another column that is called so keeps its name with a mark.
-        shown = {words.ra: "ra", words.dec: "dec"}.get(name, f"{name}_" if name.lower() in ("ra", "dec") else name)
-        table[shown] = column
+        while name in table.colnames or (name.lower() in ("ra", "dec") and key not in (words.ra, words.dec)):
+            name += "_"
+        said = None if told is None else told.columns[0] if key == ID else told[key]
+        table[name] = read_column([fields.get(key, "") for fields in sources.fields], said)
     for name, ucd in (("ra", "pos.eq.ra;meta.main"), ("dec", "pos.eq.dec;meta.main"), ("id", "meta.id;meta.main"), ("mag", "phot.mag")):
         if name in table.colnames:
             table[name].meta.setdefault("ucd", ucd)
@@ -138,7 +145,7 @@ def columns_of(sources, words):
             raise Refused(f"a source has no {name} in degrees")
         table[name] = table[name].astype(float)
         table[name].unit = "deg"
-    return table, names
+    return table, keys
 
 
 def say_units(table, units):
@@ -176,10 +183,10 @@ def read_column(texts, told):
     return made
 
 
-def lines_of(ra, names, sources):
+def lines_of(ra, keys, sources):
     """The line of each source: the texts that its row had, with right ascensions from 0 to 360."""
     for place, fields in enumerate(sources.fields):
-        values = [fields.get(name, "") for name in names]
+        values = [fields.get(key, "") for key in keys]
         if not 0 <= ra[place] < 360:
             values[0] = repr(ra[place] % 360)
         yield "\t".join("" if value == "nan" else value for value in values)
@@ -268,11 +275,11 @@ def properties(words, sources, share, ra, dec):
 def make(words, tell):
     sources = Sources(Path(words.folder))
     tell(f"{len(sources.fields):,} sources read")
-    table, names = columns_of(sources, words)
+    table, keys = columns_of(sources, words)
     say_units(table, words.unit)
     sources.place(table["ra"] % 360, numpy.asarray(table["dec"]))
     tell(f"all of them lie in their cells of order {sources.order}")
-    lines = list(lines_of(table["ra"].tolist(), names, sources))
+    lines = list(lines_of(table["ra"].tolist(), keys, sources))
     place = Path(words.hips)
     beside = Path(tempfile.mkdtemp(prefix=".catalogue.", dir=place.resolve().parent))
     try:
