@@ -1,6 +1,7 @@
 // What is drawn over the pixels: the equatorial grid and its numbers, the borders of cells, and those that changed.
 
-import { border, centre, fromDegrees } from "./healpix.js";
+import { border, centre, fromDegrees, toDegrees } from "./healpix.js";
+import { fromGalactic, toGalactic } from "./position.js";
 
 const INK = "rgba(255, 255, 255, 0.45)";
 const SHADE = "rgba(16, 19, 28, 0.22)";
@@ -22,18 +23,30 @@ export class Lines {
 
     /** Clears the picture's lines; widths and letters are for a screen with so many pixels to a point. */
     begin(projection, width, height, density) {
-        this.canvas.width = width;
-        this.canvas.height = height;
+        if (this.canvas.width !== width || this.canvas.height !== height) Object.assign(this.canvas, { width, height });
+        else this.brush.clearRect(0, 0, width, height);
         Object.assign(this, { projection, width, height, density });
         this.brush.font = `${11 * density}px system-ui, "DejaVu Sans", sans-serif`;
         this.brush.lineJoin = "round";
     }
 
     /** Meridians and parallels, with their degrees. */
-    grid(view) {
+    grid(view, isGalactic) {
         const step = this.projection.isWhole ? 30 : STEPS.find((degrees) => view.width / degrees >= LINES_WANTED) ?? STEPS.at(-1);
-        if (this.projection.isWhole) this.wholeGrid(step);
-        else this.partGrid(view, step);
+        this.isGalactic = isGalactic;
+        if (this.projection.isWhole && isGalactic) this.wholeGalacticGrid(step);
+        else if (this.projection.isWhole) this.wholeGrid(step);
+        else this.partGrid(isGalactic ? galacticView(view) : view, step);
+    }
+
+    wholeGalacticGrid(step) {
+        for (let l = 0; l < 360; l += step) {
+            this.gridLine(range(-90, 90, 2).map((b) => this.point(l, b)));
+            const at = this.point(l, 0);
+            this.number(`${l}°`, ...shifted(at, 3, -7, this.density), "left", NUMBERS);
+        }
+        for (let b = -90 + step; b < 90; b += step) this.gridLine(range(0, 360, 2).map((l) => this.point(l, b)));
+        this.edge();
     }
 
     wholeGrid(step) {
@@ -91,7 +104,8 @@ export class Lines {
     }
 
     point(ra, dec) {
-        return this.projection.toScreen(fromDegrees(ra, dec));
+        const direction = fromDegrees(ra, dec);
+        return this.projection.toScreen(this.isGalactic ? fromGalactic(direction) : direction);
     }
 
     /** A number where a line crosses the left or the bottom edge of the picture. */
@@ -122,12 +136,9 @@ export class Lines {
         }
     }
 
-    /** The cells that the last publication changed; those of order 3 only where it isn't known which of their parts did. */
-    changed({ ofSky, order, inView }, shownOrder) {
-        const isFiner = order !== null && order === shownOrder;
-        const known = new Set(isFiner ? inView.map((cell) => Math.floor(cell / 4 ** (order - 3))) : []);
-        if (isFiner) for (const cell of inView) this.cell(order, cell, CHANGED, 2.5);
-        for (const cell of ofSky) if (!known.has(cell)) this.cell(3, cell, CHANGED, shownOrder === null ? 2.5 : 1);
+    /** The cells that the last publication changed. */
+    changed({ order, cells }) {
+        for (const cell of cells) this.cell(order, cell, CHANGED, 2.5);
     }
 
     cell(order, cell, colour, width) {
@@ -160,6 +171,12 @@ export class Lines {
         this.brush.fillStyle = colour;
         this.brush.fillText(text, column, line);
     }
+}
+
+/** A view whose middle is told in galactic coordinates. */
+function galacticView(view) {
+    const [ra, dec] = toDegrees(toGalactic(fromDegrees(view.ra, view.dec)));
+    return { ...view, ra, dec };
 }
 
 function range(first, last, step) {
