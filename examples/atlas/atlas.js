@@ -22,10 +22,11 @@ const DEGREES_OF_A_FACE = 58.63;
 const GO_TO_WIDTH = 30;
 const RULER = 120;
 const SWITCHES = ["grid", "galactic", "coverage", "cells", "changes", "catalogue"];
-// While the view moves without WebGL, squares of so many pixels are drawn; fewer where a frame takes this long, in milliseconds.
-const SQUARES = { least: 2, first: 3, most: 8 };
-const SLOW_FRAME = 18;
-const QUICK_FRAME = 7;
+// While the view moves without WebGL, squares of so many pixels are drawn; larger ones where frames take so many milliseconds, and
+// smaller ones where their drawing takes so few.
+const SQUARES = { least: 2, first: 4, most: 8 };
+const SLOW_FRAME = 24;
+const QUICK_DRAWING = 6;
 // With WebGL, places are known this coarsely while it moves: enough to tell which tiles are in view.
 const COARSE = 8;
 
@@ -189,13 +190,14 @@ class Atlas {
         if (this.switches.grid) this.lines.grid(this.view, this.switches.galactic);
         if (this.switches.catalogue) this.catalogue.draw(this.lines.brush, this.view.projection, ...this.view.size, this.density);
         this.tell(generation);
-        if (this.isMoving && !this.byGpu) this.pace(performance.now() - begun);
+        if (this.isMoving && !this.byGpu) this.pace(performance.now() - begun, begun - (this.drawn ?? begun));
+        this.drawn = this.isMoving ? begun : undefined;
     }
 
-    /** Larger squares where frames are slow, smaller ones where they are quick. */
-    pace(milliseconds) {
-        if (milliseconds > SLOW_FRAME) this.squares = Math.min(SQUARES.most, this.squares + 1);
-        else if (milliseconds < QUICK_FRAME) this.squares = Math.max(SQUARES.least, this.squares - 1);
+    /** Larger squares where frames are slow and their drawing is much of it, smaller ones where it is quick. */
+    pace(drawing, frame) {
+        if (frame > SLOW_FRAME && drawing > QUICK_DRAWING) this.squares = Math.min(SQUARES.most, this.squares + 1);
+        else if (drawing < QUICK_DRAWING / 2) this.squares = Math.max(SQUARES.least, this.squares - 1);
     }
 
     drawSurvey(generation) {

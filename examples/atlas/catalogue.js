@@ -1,10 +1,11 @@
 // A catalogue HiPS over the sky, where there is one beside the survey (examples/catalog.sh): its sources as rings, those of the coarse
 // orders first and larger, and the row of one that is picked.
 
-import { fromDegrees } from "./healpix.js";
+import { cellOf, fromDegrees, locate } from "./healpix.js";
 import { tilePath } from "./survey.js";
 
 const MOST_TILES = 60;
+const MOST_MARKS = 700;
 const FETCHES_AT_ONCE = 4;
 const ALL_SKY_ORDERS = 2;
 const REACH = 12;
@@ -76,15 +77,17 @@ export class Catalogue {
         return null;
     }
 
-    /** The sources in view and where they stand, those of the coarse orders first. */
+    /** Some sources in view and where they stand, the best of each cell first. */
     *inView(projection, width, height) {
-        const isWide = projection.isWhole || projection.pixel * width > 60;
+        let left = MOST_MARKS;
         for (const [order, tiles] of [...this.orders].sort(([one], [other]) => one - other)) {
-            if (isWide && order > ALL_SKY_ORDERS) return;
+            if (order > ALL_SKY_ORDERS && this.cellsOf(order).length > MOST_TILES) return;
             for (const rows of tiles.values()) {
                 for (const row of rows) {
                     const at = projection.toScreen(row.direction);
-                    if (at && at[0] >= 0 && at[1] >= 0 && at[0] < width && at[1] < height) yield [row, at];
+                    if (!at || at[0] < 0 || at[1] < 0 || at[0] >= width || at[1] >= height) continue;
+                    if (left-- === 0) return;
+                    yield [row, at];
                 }
             }
         }
@@ -124,13 +127,18 @@ function radiusOf({ order }) {
     return Math.max(2.5, 6.5 - order);
 }
 
-/** The rows of a tile: its columns by their names, and the direction. */
+/** The rows of a tile: its columns by their names, and the direction; of several cells the best ones of each come first. */
 function readRows(text, order) {
     const [head, ...lines] = text.split("\n").filter((line) => line !== "" && !line.startsWith("#"));
     const names = head.split("\t");
     const [ra, dec] = ["ra", "dec"].map((name) => names.indexOf(name));
-    return lines.map((line) => {
+    const counts = new Map();
+    const rows = lines.map((line) => {
         const values = line.split("\t");
-        return { order, names, values, direction: fromDegrees(Number(values[ra]), Number(values[dec])) };
+        const direction = fromDegrees(Number(values[ra]), Number(values[dec]));
+        const cell = cellOf(order, locate(direction, {}));
+        counts.set(cell, (counts.get(cell) ?? -1) + 1);
+        return { order, names, values, direction, place: counts.get(cell) };
     });
+    return rows.sort((one, other) => one.place - other.place);
 }

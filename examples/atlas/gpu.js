@@ -87,11 +87,18 @@ void main() {
 /** A drawer into a canvas, or null where the browser has no such thing in hardware; with `isForced` also in software. */
 export function gpuOf(canvas, isForced) {
     const gl = canvas.getContext("webgl2", { antialias: false, failIfMajorPerformanceCaveat: !isForced });
+    if (!gl || (!isForced && isSoftware(gl))) return null;
     try {
-        return gl && new Gpu(canvas, gl);
+        return new Gpu(canvas, gl);
     } catch {
         return null;
     }
+}
+
+/** Some browsers don't count a processor's own drawing among what is slow. */
+function isSoftware(gl) {
+    const told = gl.getExtension("WEBGL_debug_renderer_info");
+    return /swiftshader|llvmpipe|softpipe|software|basic render/i.test(gl.getParameter(told ? told.UNMASKED_RENDERER_WEBGL : gl.RENDERER));
 }
 
 class Gpu {

@@ -8,11 +8,12 @@ export const GROUND = "#171b26";
 export const OUTLINE = "#59d6c7";
 const GROUND_PIXEL = packed(channels(GROUND));
 const OUTLINE_PIXEL = packed(channels(OUTLINE));
-// Within a block of pixels places are interpolated where that is exact to this part of a pixel; else within its quarters.
+// Within a block of pixels places are interpolated, by squares, where that is exact to this part of a pixel; else within its quarters.
 const EXACT = 0.001;
-const EXACT_WHILE_MOVING = 0.05;
+const EXACT_WHILE_MOVING = 0.3;
 const BLOCK = 16;
 const LEAST_BLOCK = 4;
+const MOST_SIZES = 8;
 
 /** Finds the stored numbers of a layer; those beside each other are mostly of one tile, which it remembers. */
 export class Reader {
@@ -51,6 +52,7 @@ export class Picture {
         this.canvas = canvas;
         this.brush = canvas.getContext("2d");
         this.width = this.height = 0;
+        this.sizes = new Map();
     }
 
     /** Finds where each pixel stands, or each square of so many pixels. */
@@ -60,32 +62,37 @@ export class Picture {
         this.covered = null;
         this.sky = (column, line) => projection.toSky((column + 0.5) * step, (line + 0.5) * step);
         this.exact = step === 1 ? EXACT : EXACT_WHILE_MOVING;
-        const columns = Math.ceil(this.width / BLOCK);
-        let above = this.nodes(columns, 0);
+        const half = BLOCK / 2;
+        const columns = 2 * Math.ceil(this.width / BLOCK) + 1;
+        let top = this.nodes(columns, 0);
         for (let line = 0; line < this.height; line += BLOCK) {
-            const below = this.nodes(columns, line + BLOCK);
-            for (let block = 0; block < columns; block++) {
-                this.placeBlock(block * BLOCK, line, BLOCK, [above[block], above[block + 1], below[block], below[block + 1]]);
+            const [middle, bottom] = [this.nodes(columns, line + half), this.nodes(columns, line + BLOCK)];
+            for (let at = 0; at + 2 < columns; at += 2) {
+                const nodes = [top, middle, bottom].flatMap((some) => [some[at], some[at + 1], some[at + 2]]);
+                this.placeBlock(at * half, line, BLOCK, nodes);
             }
-            above = below;
+            top = bottom;
         }
     }
 
+    /** Takes the arrays of a size, of which some are kept: a view that moves is drawn in another size than one that rests. */
     resize(width, height) {
         if (width === this.width && height === this.height) return;
         this.width = this.canvas.width = width;
         this.height = this.canvas.height = height;
-        const count = width * height;
-        this.faces = new Uint8Array(count);
-        this.xs = new Int32Array(count);
-        this.ys = new Int32Array(count);
-        this.values = new Float64Array(count);
-        this.image = this.brush.createImageData(width, height);
+        const key = `${width} ${height}`;
+        if (!this.sizes.has(key)) {
+            if (this.sizes.size >= MOST_SIZES) this.sizes.clear();
+            const count = width * height;
+            const [faces, xs, ys, values] = [new Uint8Array(count), new Int32Array(count), new Int32Array(count), new Float64Array(count)];
+            this.sizes.set(key, { faces, xs, ys, values, image: this.brush.createImageData(width, height) });
+        }
+        Object.assign(this, this.sizes.get(key));
     }
 
-    /** Where the corners of the blocks of a line stand. */
+    /** Where points of a line stand, half a block from one another. */
     nodes(columns, line) {
-        return Array.from({ length: columns + 1 }, (_, block) => this.node(block * BLOCK, line));
+        return Array.from({ length: columns }, (_, at) => this.node((at * BLOCK) / 2, line));
     }
 
     node(column, line) {
@@ -93,48 +100,54 @@ export class Picture {
         return sky && find(sky, {});
     }
 
-    placeBlock(column, line, side, corners) {
+    /** Places the pixels of a block, of which three times three nodes are known, or of its quarters. */
+    placeBlock(column, line, side, nodes) {
         if (column >= this.width || line >= this.height) return;
         const right = Math.min(side, this.width - column);
         const down = Math.min(side, this.height - line);
-        const half = side / 2;
-        const middle = this.node(column + half, line + half);
-        if (this.isPlane(side, corners, middle)) this.interpolate(column, line, side, right, down, corners);
+        if (this.isSmooth(column, line, side, nodes)) this.interpolate(column, line, side, right, down, nodes);
         else if (side <= LEAST_BLOCK) this.placeEach(column, line, right, down);
         else {
-            const [one, two, three, four] = corners;
-            const [top, left] = [this.node(column + half, line), this.node(column, line + half)];
-            const [end, bottom] = [this.node(column + side, line + half), this.node(column + half, line + side)];
-            this.placeBlock(column, line, half, [one, top, left, middle]);
-            this.placeBlock(column + half, line, half, [top, two, middle, end]);
-            this.placeBlock(column, line + half, half, [left, middle, three, bottom]);
-            this.placeBlock(column + half, line + half, half, [middle, end, bottom, four]);
+            const [half, quarter] = [side / 2, side / 4];
+            for (const [left, above] of [[0, 0], [half, 0], [0, half], [half, half]]) {
+                const places = [0, 1, 2].flatMap((y) => [0, 1, 2].map((x) => [column + left + x * quarter, line + above + y * quarter]));
+                this.placeBlock(column + left, line + above, half, places.map((place) => this.node(...place)));
+            }
         }
     }
 
-    /** Whether places between the corners of a block lie where they are interpolated. */
-    isPlane(side, [one, two, three, four], middle) {
-        if (!one || !two || !three || !four || !middle) return false;
-        if (one.face !== two.face || one.face !== three.face || one.face !== four.face || one.face !== middle.face) return false;
-        if (one.isBelt !== two.isBelt || one.isBelt !== three.isBelt || one.isBelt !== four.isBelt) return false;
-        const wrong = Math.abs((one.u + two.u + three.u + four.u) / 4 - middle.u) + Math.abs((one.v + two.v + three.v + four.v) / 4 - middle.v);
-        const pixel = (Math.abs(four.u - one.u) + Math.abs(four.v - one.v) + Math.abs(two.u - three.u) + Math.abs(two.v - three.v)) / (4 * side);
-        return wrong <= this.exact * pixel;
+    /** Whether places between the nodes lie where they are interpolated. */
+    isSmooth(column, line, side, nodes) {
+        const [first] = nodes;
+        if (!first || !nodes.every((node) => node && node.face === first.face && node.isBelt === first.isBelt)) return false;
+        const found = this.node(column + side / 4, line + side / 4);
+        if (!found || found.face !== first.face) return false;
+        const weights = [0.375, 0.75, -0.125];
+        const expected = (axis) => nodes.reduce((sum, node, at) => sum + node[axis] * weights[at % 3] * weights[Math.floor(at / 3)], 0);
+        const across = (axis) => Math.abs(nodes[8][axis] - first[axis]) + Math.abs(nodes[2][axis] - nodes[6][axis]);
+        const pixel = (across("u") + across("v")) / (4 * side);
+        return Math.abs(expected("u") - found.u) + Math.abs(expected("v") - found.v) <= this.exact * pixel;
     }
 
-    interpolate(column, line, side, right, down, [one, two, three, four]) {
-        const { face } = one;
+    interpolate(column, line, side, right, down, nodes) {
+        const { face } = nodes[0];
+        const half = side / 2;
         for (let y = 0; y < down; y++) {
             const part = y / side;
-            const fromU = one.u + (three.u - one.u) * part;
-            const fromV = one.v + (three.v - one.v) * part;
-            const stepU = (two.u + (four.u - two.u) * part - fromU) / side;
-            const stepV = (two.v + (four.v - two.v) * part - fromV) / side;
+            const [one, two, three] = [(1 - 2 * part) * (1 - part), 4 * part * (1 - part), part * (2 * part - 1)];
+            const u0 = nodes[0].u * one + nodes[3].u * two + nodes[6].u * three;
+            const u1 = nodes[1].u * one + nodes[4].u * two + nodes[7].u * three;
+            const u2 = nodes[2].u * one + nodes[5].u * two + nodes[8].u * three;
+            const v0 = nodes[0].v * one + nodes[3].v * two + nodes[6].v * three;
+            const v1 = nodes[1].v * one + nodes[4].v * two + nodes[7].v * three;
+            const v2 = nodes[2].v * one + nodes[5].v * two + nodes[8].v * three;
+            const [bendU, bendV] = [(u2 - 2 * u1 + u0) / (2 * half * half), (v2 - 2 * v1 + v0) / (2 * half * half)];
+            const [riseU, riseV] = [(u1 - u0) / half - bendU * half, (v1 - v0) / half - bendV * half];
             let at = (line + y) * this.width + column;
             for (let x = 0; x < right; x++, at++) {
                 this.faces[at] = face;
-                this.xs[at] = whole(fromU + stepU * x);
-                this.ys[at] = whole(fromV + stepV * x);
+                this.xs[at] = whole(u0 + x * (riseU + x * bendU));
+                this.ys[at] = whole(v0 + x * (riseV + x * bendV));
             }
         }
     }
