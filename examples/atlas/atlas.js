@@ -145,6 +145,7 @@ class Atlas {
     opened(generation) {
         const [ra, dec, fov] = ["hips_initial_ra", "hips_initial_dec", "hips_initial_fov"].map((key) => generation.number(key));
         if (!this.isTold && ra !== null && dec !== null) this.moveTo({ ra, dec, width: fov ?? this.view.width });
+        else this.written ??= this.viewKey();
         const cuts = (generation.properties.get("hips_pixel_cut") ?? "").split(/\s+/).map(Number);
         if (this.scale.low === null && cuts.length === 2 && cuts[0] < cuts[1]) Object.assign(this.scale, { low: cuts[0], high: cuts[1] });
         this.showScale();
@@ -466,14 +467,18 @@ class Atlas {
         for (const name of SWITCHES) if (words.has(name)) this.switches[name] = words.get(name) === "1";
     }
 
+    viewKey() {
+        const { ra, dec, width } = this.view;
+        return [ra.toFixed(6), dec.toFixed(6), width.toPrecision(6)].join();
+    }
+
     /** Writes the view into the page's address; another view is one to go back from. */
     writeHash(isOther = false) {
         const { ra, dec, width } = this.view;
-        const view = { ra: ra.toFixed(6), dec: dec.toFixed(6), width: width.toPrecision(6) };
-        const words = { ...view, bend: this.scale.bend, colours: this.scale.colours };
+        const words = { ra: ra.toFixed(6), dec: dec.toFixed(6), width: width.toPrecision(6), bend: this.scale.bend, colours: this.scale.colours };
         for (const name of ["low", "high"]) if (this.scale[name] !== null) words[name] = this.scale[name];
         for (const name of SWITCHES) words[name] = this.switches[name] ? "1" : "0";
-        const key = Object.values(view).join();
+        const key = this.viewKey();
         const isPushed = isOther && this.written !== undefined && this.written !== key;
         window.history[isPushed ? "pushState" : "replaceState"](null, "", `#${new URLSearchParams(words)}`);
         this.written = key;

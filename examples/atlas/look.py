@@ -8,6 +8,7 @@ PORT is where the page is then, 8000 if it isn't said. CATALOGUE is a folder tha
 The program is crates/hipsd/out/hipsd, or the one that HIPSD_PROGRAM names.
 """
 
+import contextlib
 import http.client
 import os
 import signal
@@ -73,7 +74,9 @@ class Handler(SimpleHTTPRequestHandler):
         self.send_header("Content-Length", str(len(body)))
         self.end_headers()
         if self.command == "GET":
-            self.wfile.write(body)
+            # A browser that goes to another page breaks off.
+            with contextlib.suppress(ConnectionError):
+                self.wfile.write(body)
 
     def ask(self, path):
         """A connection that was kept may have been closed meanwhile: then a new one is made."""
