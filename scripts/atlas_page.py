@@ -30,7 +30,7 @@ from survey_files import tile_path
 SIZES = {"1280 by 800": (1280, 800, False), "1920 by 1080": (1920, 1080, False), "390 by 844": (390, 844, True)}
 VIEW = (80, 20, 30)
 # What a busy machine of two processors meets; a page that fetches or draws too much is far beyond.
-MOST_MILLISECONDS_A_FRAME = 40
+MOST_MILLISECONDS_A_FRAME = 33
 MOST_FIRST, MOST_FIRST_ON_A_SLOW_LINE = 8, 12
 MOST_BYTES_OF_A_PUBLICATION = 250_000
 LEAST_FINGER = 40
