@@ -3,7 +3,7 @@
 
     examples/edit-tile.py http://127.0.0.1:8080 Norder3/Dir0/Npix7.fits 100
 
-Nothing is seen of it before `examples/edit.sh publish`.
+It fetches the tile as it was last published, and nothing is seen of the change before `examples/edit.sh publish`.
 """
 
 import io
