@@ -148,13 +148,14 @@ class Atlas {
         else this.written ??= this.viewKey();
         const cuts = (generation.properties.get("hips_pixel_cut") ?? "").split(/\s+/).map(Number);
         if (this.scale.low === null && cuts.length === 2 && cuts[0] < cuts[1]) Object.assign(this.scale, { low: cuts[0], high: cuts[1] });
+        this.isCut = this.scale.low !== null;
         this.showScale();
     }
 
     /** The survey is another, or more of it is here. */
     changed() {
         const generation = this.live.shown;
-        if (generation && this.scale.low === null) this.fit();
+        if (generation && !this.isCut) this.cut(generation);
         if (generation) this.view.least = (DEGREES_OF_A_FACE / 2 ** generation.order / generation.width) * LEAST_PIXELS_ACROSS;
         this.isRead = false;
         this.draw();
@@ -165,11 +166,20 @@ class Atlas {
         return generation.shownBy(this.orderFor(generation));
     }
 
+    /** The first cuts, where none were told: they fit the coarse tiles in view, and then all that is. */
+    cut(generation) {
+        const [next] = this.live.lacking(generation);
+        const isCoarse = next !== undefined && next.order === generation.least && this.orderFor(generation) !== next.order;
+        if (isCoarse || (next && this.scale.low !== null)) return;
+        this.fit();
+        this.isCut = next === undefined;
+    }
+
     /** Cuts that fit what is shown. */
     fit() {
-        const layer = this.layers(this.live.shown).find(({ tiles }) => tiles.size > 0);
-        if (!layer) return;
-        const tiles = this.cellsOf(layer.order).map((cell) => layer.tiles.get(cell)).filter(Boolean);
+        const found = this.layers(this.live.shown).map((layer) => this.cellsOf(layer.order).map((cell) => layer.tiles.get(cell)).filter(Boolean));
+        const tiles = found.find(({ length }) => length > 0);
+        if (!tiles) return;
         Object.assign(this.scale, usualRange(tiles));
         this.showScale();
     }
@@ -371,6 +381,7 @@ class Atlas {
     }
 
     setScale(name, value) {
+        this.isCut = true;
         this.scale[name] = value;
         this.showLevels();
         this.draw();
@@ -382,6 +393,7 @@ class Atlas {
         const text = element(`${name}-value`).value.trim().replace("−", "-");
         const value = Number(text);
         if (text === "" || !Number.isFinite(value)) return element(`${name}-value`).setAttribute("aria-invalid", "true");
+        this.isCut = true;
         this.scale[name] = value;
         this.showScale();
         this.draw();

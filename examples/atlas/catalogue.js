@@ -5,7 +5,8 @@ import { cellOf, fromDegrees, locate } from "./healpix.js";
 import { tilePath } from "./survey.js";
 
 const MOST_TILES = 60;
-const MOST_MARKS = 700;
+// So many pixels of the sky, on a screen of one pixel a point, have a mark.
+const AREA_OF_A_MARK = 1500;
 const FETCHES_AT_ONCE = 4;
 const ALL_SKY_ORDERS = 2;
 const REACH = 12;
@@ -78,8 +79,9 @@ export class Catalogue {
     }
 
     /** Some sources in view and where they stand, the best of each cell first. */
-    *inView(projection, width, height) {
-        let left = MOST_MARKS;
+    *inView(projection, width, height, density) {
+        const area = projection.isWhole ? (Math.PI * projection.half ** 2) / 2 : width * height;
+        let left = Math.round(area / AREA_OF_A_MARK / density ** 2);
         for (const [order, tiles] of [...this.orders].sort(([one], [other]) => one - other)) {
             if (order > ALL_SKY_ORDERS && this.cellsOf(order).length > MOST_TILES) return;
             for (const rows of tiles.values()) {
@@ -99,7 +101,7 @@ export class Catalogue {
             brush.strokeStyle = colour;
             brush.lineWidth = thick * density;
             brush.beginPath();
-            for (const [row, [x, y]] of this.inView(projection, width, height)) {
+            for (const [row, [x, y]] of this.inView(projection, width, height, density)) {
                 const radius = radiusOf(row) * density;
                 brush.moveTo(x + radius, y);
                 brush.arc(x, y, radius, 0, 2 * Math.PI);
@@ -114,7 +116,7 @@ export class Catalogue {
     /** Picks the source that is nearest to a point, if one is near. */
     pick([column, line], projection, width, height, density) {
         let [nearest, least] = [null, REACH * density];
-        for (const [row, [x, y]] of this.inView(projection, width, height)) {
+        for (const [row, [x, y]] of this.inView(projection, width, height, density)) {
             const distance = Math.hypot(x - column, y - line);
             if (distance < least) [nearest, least] = [row, distance];
         }

@@ -78,7 +78,7 @@ export class Lines {
 
     partGrid(view, step) {
         const places = Math.max(0, Math.ceil(-Math.log10(step)));
-        const reach = view.width * 0.75;
+        const reach = Math.min(120, view.width * 0.75 * Math.max(1, this.height / this.width));
         const [lowest, highest] = [Math.max(-90, view.dec - reach), Math.min(90, view.dec + reach)];
         const isPole = lowest <= -88 || highest >= 88;
         const wide = isPole ? 180 : Math.min(180, reach / Math.cos((Math.max(-lowest, highest) * Math.PI) / 180));
@@ -87,13 +87,13 @@ export class Lines {
             if (Math.abs(dec) > 90 - 1e-9) continue;
             const line = range(view.ra - wide, view.ra + wide, wide / 60).map((ra) => this.point(ra, dec));
             this.gridLine(line);
-            this.numberAtEdge(line, `${signed(dec, places)}°`, "left");
+            this.numberAtEdges(line, `${signed(dec, places)}°`, ["left", "bottom"]);
         }
         const first = Math.ceil((view.ra - wide) / across) * across;
         for (let ra = first; ra < view.ra + wide; ra += across) {
             const line = range(lowest, highest, (highest - lowest) / 60).map((dec) => this.point(ra, dec));
             this.gridLine(line);
-            this.numberAtEdge(line, `${(((ra % 360) + 360) % 360).toFixed(Math.max(0, Math.ceil(-Math.log10(across))))}°`, "bottom");
+            this.numberAtEdges(line, `${(((ra % 360) + 360) % 360).toFixed(Math.max(0, Math.ceil(-Math.log10(across))))}°`, ["bottom", "left"]);
         }
     }
 
@@ -108,7 +108,12 @@ export class Lines {
         return this.projection.toScreen(this.isGalactic ? fromGalactic(direction) : direction);
     }
 
-    /** A number where a line crosses the left or the bottom edge of the picture. */
+    /** A number at the edge of the picture where a line crosses it: the first of the edges, or the other in a grid that is turned. */
+    numberAtEdges(points, text, [edge, other]) {
+        if (!this.numberAtEdge(points, text, edge) && this.isGalactic) this.numberAtEdge(points, text, other);
+    }
+
+    /** A number where a line crosses the left or the bottom edge of the picture, if it does. */
     numberAtEdge(points, text, edge) {
         const inset = 8 * this.density;
         const [axis, level] = edge === "left" ? [0, inset] : [1, this.height - inset];
@@ -117,13 +122,13 @@ export class Lines {
             if (!one || !other || one[axis] < level === other[axis] < level) continue;
             const part = (level - one[axis]) / (other[axis] - one[axis]);
             const [column, line] = one.map((from, which) => from + (other[which] - from) * part);
-            if (edge === "left" && line < this.height - CORNER * this.density) {
-                this.number(text, column, line - 7 * this.density, "left", NUMBERS);
-            } else if (edge === "bottom" && column < this.width - CORNER * this.density) {
-                this.number(text, column + 4 * this.density, line, "left", NUMBERS);
-            }
-            return;
+            const corner = CORNER * this.density;
+            if (edge === "left" ? line < corner / 2 || line > this.height - corner : column < 0 || column > this.width - corner) continue;
+            const [x, y] = edge === "left" ? [column, line - 7 * this.density] : [column + 4 * this.density, line];
+            this.number(text, x, y, "left", NUMBERS);
+            return true;
         }
+        return false;
     }
 
     /** The borders of cells, with their numbers where there is room. */
