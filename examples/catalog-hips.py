@@ -38,6 +38,8 @@ TILE = re.compile(r"Norder(\d+)/Dir\d+/Npix(\d+)\.tsv")
 DEEPEST = 11
 # Where the id of a row stands among its fields: no name of a rest is empty.
 ID = ""
+# What a number is called that isn't there.
+ABSENT = ("", "nan", "NaN")
 # A position that was rounded to seven digits may lie so far from its cell, in degrees.
 ROUNDED = 0.0001
 
@@ -57,7 +59,7 @@ class Sources:
     """The rows of all tiles, tile by tile from order 0 on, and in each of them as they stand in it."""
 
     def __init__(self, folder):
-        self.orders, self.tiles, self.npix, self.fields = [], [], [], []
+        self.orders, self.tiles, self.npix, self.ids, self.rests = [], [], [], [], []
         for order, tile, path in sorted((int(found[1]), int(found[2]), path) for found, path in tile_paths(folder)):
             head, *lines = path.read_text(encoding="utf-8", errors="replace").split("\n")
             if head != HEAD:
@@ -67,16 +69,24 @@ class Sources:
                 self.orders.append(order)
                 self.tiles.append(tile)
                 self.npix.append(int(npix))
-                self.fields.append({ID: name, **dict(field.partition("=")[::2] for field in rest.split(" ") if field)})
-        if not self.fields:
+                self.ids.append(name)
+                self.rests.append(rest)
+        if not self.ids:
             raise Refused(f"{folder} has no source")
         self.orders, self.tiles, self.npix = (numpy.array(numbers) for numbers in (self.orders, self.tiles, self.npix))
+
+    def rows(self):
+        """The fields of each source, by their names."""
+        for name, rest in zip(self.ids, self.rests):
+            fields = dict([field.partition("=")[::2] for field in rest.split(" ")]) if rest else {}
+            fields[ID] = name
+            yield fields
 
     def place(self, ra, dec):
         """Says where the sources are, which have to be in the cells of their rows; and drops order 0."""
         self.order, is_wrong = min(self.orders_that_fit(ra, dec), key=lambda found: found[1].sum())
         if is_wrong.any():
-            first = self.fields[int(numpy.flatnonzero(is_wrong)[0])][ID]
+            first = self.ids[int(numpy.flatnonzero(is_wrong)[0])]
             raise Refused(f"{is_wrong.sum():,} of {len(is_wrong):,} sources don't lie in the cells of their rows, as {first}: "
                           f"the rows weren't made for order {self.order}, which hipsd catalog was told")
         if self.order == 0:
@@ -116,36 +126,64 @@ def tile_paths(folder):
             yield found, path
 
 
+def kinds_of(sources):
+    """The fields that rests have, the first ones first, and whether all values of each are whole numbers, numbers or texts."""
+    kinds = {ID: "U1"}
+    for fields in sources.rows():
+        for key, text in fields.items():
+            kind = kinds.setdefault(key, "i8")
+            if kind != "U1" and text not in ABSENT and not is_number(text, kind):
+                kinds[key] = "f8" if kind == "i8" and is_number(text, "f8") else "U1"
+    return kinds
+
+
+def is_number(text, kind):
+    try:
+        (int if kind == "i8" else float)(text)
+        return True
+    except ValueError:
+        return False
+
+
 def columns_of(sources, words):
-    """A table of the sources' columns, with `ra` and `dec` first: numbers or texts, masked where absent; and their keys."""
-    told = Table.read(words.columns, format="votable") if words.columns else None
-    if told is None:
-        keys = list(dict.fromkeys(key for fields in sources.fields for key in fields))
-    else:
+    """The columns of the sources as a table without rows, `ra` and `dec` first, and the key in the rests of each."""
+    if words.columns:
+        told = Table.read(words.columns, format="votable")
         # The first of them is that of the ids.
-        keys = [ID, *told.colnames[1:]]
+        columns = {ID: told.columns[0], **{name: told[name] for name in told.colnames[1:]}}
         words.ra, words.dec = (by_ucd(told, f"pos.eq.{axis};meta.main") or axis for axis in ("ra", "dec"))
+    else:
+        columns = {key: Column(dtype=kind, length=0, name=key or "id") for key, kind in kinds_of(sources).items()}
     for name in (words.ra, words.dec):
-        if name not in keys:
-            raise Refused(f"there is no column {name} in the rests of the tiles; there are {', '.join(filter(None, keys))}")
+        if name not in columns:
+            raise Refused(f"there is no column {name} in the rests of the tiles; there are {', '.join(filter(None, columns))}")
     table = Table()
-    keys = [words.ra, words.dec, *(key for key in keys if key not in (words.ra, words.dec))]
+    keys = [words.ra, words.dec, *(key for key in columns if key not in (words.ra, words.dec))]
     for key in keys:
-        name = {ID: told.colnames[0] if told is not None else "id", words.ra: "ra", words.dec: "dec"}.get(key, key)
+        name = {words.ra: "ra", words.dec: "dec"}.get(key, columns[key].name)
         # Another column that is called so keeps its name with a mark.
         while name in table.colnames or (name.lower() in ("ra", "dec") and key not in (words.ra, words.dec)):
             name += "_"
-        said = None if told is None else told.columns[0] if key == ID else told[key]
-        table[name] = read_column([fields.get(key, "") for fields in sources.fields], said)
+        kind = "f8" if key in (words.ra, words.dec) else columns[key].dtype if columns[key].dtype.kind in "iuf" else "U1"
+        table[name] = Column(dtype=kind, length=0, unit=columns[key].unit, description=columns[key].description, meta=dict(columns[key].meta))
     for name, ucd in (("ra", "pos.eq.ra;meta.main"), ("dec", "pos.eq.dec;meta.main"), ("id", "meta.id;meta.main"), ("mag", "phot.mag")):
         if name in table.colnames:
             table[name].meta.setdefault("ucd", ucd)
-    for name in ("ra", "dec"):
-        if numpy.ma.is_masked(table[name]) or table[name].dtype.kind not in "if" or not numpy.isfinite(table[name]).all():
-            raise Refused(f"a source has no {name} in degrees")
-        table[name] = table[name].astype(float)
-        table[name].unit = "deg"
+    table["ra"].unit = table["dec"].unit = "deg"
     return table, keys
+
+
+def positions(sources, keys):
+    """The right ascensions and the declinations."""
+    found = numpy.empty((len(sources.ids), 2))
+    for at, fields in enumerate(sources.rows()):
+        try:
+            found[at] = float(fields[keys[0]]), float(fields[keys[1]])
+        except (KeyError, ValueError):
+            raise Refused(f"the source {fields[ID]} has no position in degrees") from None
+    if not numpy.isfinite(found).all() or (abs(found[:, 1]) > 90).any():
+        raise Refused("a source has no position in degrees")
+    return found.T
 
 
 def say_units(table, units):
@@ -164,32 +202,13 @@ def by_ucd(table, ucd):
     return next((name for name in table.colnames if table[name].meta.get("ucd") == ucd), None)
 
 
-def read_column(texts, told):
-    """A column of texts as one of numbers where it is one."""
-    is_absent = numpy.array([text in ("", "nan", "NaN") for text in texts])
-    for kind in [told.dtype.type] if told is not None and told.dtype.kind in "iuf" else [] if told is not None else [numpy.int64, float]:
-        try:
-            column = Column(numpy.array([text if text not in ("", "nan", "NaN") else "0" for text in texts]).astype(kind))
-            break
-        except (ValueError, OverflowError):
-            continue
-    else:
-        column, is_absent = Column(texts), numpy.zeros(len(texts), bool)
-    made = Table([column], masked=True, copy=False).columns[0] if is_absent.any() else column
-    if is_absent.any():
-        made.mask = is_absent
-    if told is not None:
-        made.unit, made.description, made.meta = told.unit, told.description, dict(told.meta)
-    return made
-
-
 def lines_of(ra, keys, sources):
     """The line of each source: the texts that its row had, with right ascensions from 0 to 360."""
-    for place, fields in enumerate(sources.fields):
+    for place, fields in enumerate(sources.rows()):
         values = [fields.get(key, "") for key in keys]
         if not 0 <= ra[place] < 360:
             values[0] = repr(ra[place] % 360)
-        yield "\t".join("" if value == "nan" else value for value in values)
+        yield "\t".join("" if value in ABSENT else value for value in values)
 
 
 def write_tiles(place, head, lines, sources, tell):
@@ -221,7 +240,7 @@ def write_metadata(path, table):
     from astropy.io.votable import from_table
     from astropy.io.votable.tree import CooSys
 
-    made = from_table(table[:0])
+    made = from_table(table)
     made.resources[0].coordinate_systems.append(CooSys(ID="ICRS", system="ICRS"))
     found = made.get_first_table()
     found.name = "catalogue"
@@ -253,7 +272,7 @@ def properties(words, sources, share, ra, dec):
     return "".join(f"{key:20} = {value}\n" for key, value in {
         "creator_did": words.did,
         "obs_title": words.title,
-        "obs_description": f"{len(sources.fields)} sources, the best ones at the lowest order",
+        "obs_description": f"{len(sources.ids)} sources, the best ones at the lowest order",
         "dataproduct_type": "catalog",
         "hips_version": "1.4",
         "hips_release_date": words.release_date or f"{now:%Y-%m-%dT%H:%MZ}",
@@ -263,7 +282,7 @@ def properties(words, sources, share, ra, dec):
         "hips_order": sources.deepest,
         "hips_order_min": 1,
         "hips_tile_format": "tsv",
-        "hips_cat_nrows": len(sources.fields),
+        "hips_cat_nrows": len(sources.ids),
         "hips_initial_ra": f"{ra:.5f}",
         "hips_initial_dec": f"{dec:.5f}",
         "hips_initial_fov": f"{min(180, 3 * 58.63 / 2**sources.deepest):.4g}",
@@ -274,26 +293,27 @@ def properties(words, sources, share, ra, dec):
 
 def make(words, tell):
     sources = Sources(Path(words.folder))
-    tell(f"{len(sources.fields):,} sources read")
+    tell(f"{len(sources.ids):,} sources read")
     table, keys = columns_of(sources, words)
     say_units(table, words.unit)
-    sources.place(table["ra"] % 360, numpy.asarray(table["dec"]))
+    ra, dec = positions(sources, keys)
+    sources.place(ra % 360, dec)
     tell(f"all of them lie in their cells of order {sources.order}")
-    lines = list(lines_of(table["ra"].tolist(), keys, sources))
+    lines = list(lines_of(ra.tolist(), keys, sources))
     place = Path(words.hips)
     beside = Path(tempfile.mkdtemp(prefix=".catalogue.", dir=place.resolve().parent))
     try:
         write_tiles(beside, "\t".join(table.colnames), lines, sources, tell)
         write_metadata(beside / "metadata.xml", table)
         share = write_coverage(beside / "Moc.fits", sources)
-        write(beside / "properties", properties(words, sources, share, table["ra"][0] % 360, table["dec"][0]))
+        write(beside / "properties", properties(words, sources, share, ra[0] % 360, dec[0]))
         beside.chmod(0o755)
         if place.exists():
             shutil.rmtree(place)
         os.rename(beside, place)
     finally:
         shutil.rmtree(beside, ignore_errors=True)
-    return len(sources.fields), sources.deepest
+    return len(sources.ids), sources.deepest
 
 
 def is_refused(place, may_replace):
