@@ -10,6 +10,7 @@ direction a pixel of the picture shows, which cell that is, and which number thi
 - While 16 leaves in view are published together over and over, through a proxy that delays each reply at random, each picture shows
   one generation, that which the page names.
 - A server that goes away is told of in words, and the picture stays; when it is back over its folder, that is shown.
+- What whoever looks at the page does with it, at three sizes (atlas_page.py).
 - An address without hipsd is told of in words; through the location of examples/nginx.conf the page is the same.
 
 Ends with status 1 and says what is wrong.
@@ -40,7 +41,8 @@ from selenium.webdriver.chrome.service import Service
 from selenium.webdriver.common.action_chains import ActionChains
 from selenium.webdriver.common.by import By
 
-from gradient_survey import SURVEYS
+import atlas_page
+from gradient_survey import PAGE, SURVEYS
 from survey_files import tile_path
 
 sys.path.insert(0, str(Path(__file__).parent.parent / "examples/atlas"))
@@ -58,10 +60,17 @@ class Delayed(Handler):
     """Replies come in another order than they were asked for."""
 
     most = 0.0
+    # The paths that were asked for, and how many bytes each reply had.
+    sent = []
 
     def pass_on(self, path):
         time.sleep(random.uniform(0, self.most))
         super().pass_on(path)
+
+    def ask(self, path):
+        answer = super().ask(path)
+        self.sent.append((path, len(answer[3])))
+        return answer
 
 
 class Trial:
@@ -81,7 +90,7 @@ class Trial:
 
     def serve(self, depth):
         """hipsd over the survey of that depth, and the page before it."""
-        self.survey = SURVEYS[depth]
+        self.survey = SURVEYS.get(depth, PAGE)
         self.place = self.folder / str(depth)
         if not self.place.exists():
             self.survey.write(self.place)
@@ -440,6 +449,10 @@ def main():
             goes_away(trial)
             says_what_is_wrong(trial)
             goes_through_nginx(trial)
+            trial.end()
+            trial.serve("page")
+            atlas_page.at_each_size(trial, Delayed.sent)
+            atlas_page.once(trial, Delayed.sent, atlas_page.catalogue_of(Path(folder)))
             for line in window.get_log("browser"):
                 if "TypeError" in line["message"] or "Uncaught" in line["message"]:
                     trial.blame("the browser says:", line["message"])
