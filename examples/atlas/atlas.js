@@ -169,8 +169,7 @@ class Atlas {
     /** The first cuts, where none were told: they fit the coarse tiles in view, and then all that is. */
     cut(generation) {
         const [next] = this.live.lacking(generation);
-        const isCoarse = next !== undefined && next.order === generation.least && this.orderFor(generation) !== next.order;
-        if (isCoarse || (next && this.scale.low !== null)) return;
+        if (next && (next.isCoarse || this.scale.low !== null)) return;
         this.fit();
         this.isCut = next === undefined;
     }
