@@ -35,10 +35,6 @@ class Handler(SimpleHTTPRequestHandler):
         self.server_of_survey = None
         super().__init__(*words, directory=PAGE, **more)
 
-    def parse_request(self):
-        self.directory = os.fspath(PAGE)
-        return super().parse_request()
-
     def do_GET(self):
         if self.path == "/":
             self.send_response(302)
@@ -55,8 +51,7 @@ class Handler(SimpleHTTPRequestHandler):
     do_HEAD = do_GET
 
     def translate_path(self, path):
-        if path.startswith("/catalogue/"):
-            self.directory = os.fspath(self.server.catalogue)
+        self.directory = os.fspath(self.server.catalogue if path.startswith("/catalogue/") else PAGE)
         return super().translate_path(path.removeprefix("/catalogue").removeprefix("/atlas"))
 
     def pass_on(self, path):
