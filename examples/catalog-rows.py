@@ -17,6 +17,9 @@ FILE becomes a VOTable without rows that has each column's type, unit, UCD and d
 """
 
 import argparse
+import bz2
+import gzip
+import lzma
 import re
 import sys
 from collections import Counter
@@ -32,6 +35,22 @@ PART = 50_000
 BLANK = re.compile(r"[\s\x01-\x1f\x7f]")
 BLANKS = {code: "_" for code in range(0x3001) if code < 32 or code == 127 or chr(code).isspace()}
 BLANKS_BUT_NUL = {code: text for code, text in BLANKS.items() if code > 0}
+
+
+def table_of(path, form):
+    """The table. astropy unpacks a compressed file to whatever size it has, so that is measured first."""
+    most = 2**30
+    openers = {b"\x1f\x8b": gzip.open, b"BZ": bz2.open, b"\xfd7": lzma.open}
+    with open(path, "rb") as file:
+        opener = openers.get(file.read(2))
+    if opener:
+        with opener(path) as unpacked:
+            left = most
+            while left >= 0 and (part := unpacked.read(2**20)):
+                left -= len(part)
+        if left < 0:
+            sys.exit(f"catalog-rows.py: {path} unpacks to more than {most >> 30} GB")
+    return Table.read(path, format=form)
 
 
 def cells(order, ra, dec):
@@ -181,7 +200,10 @@ def main():
     parser.add_argument("--format", default=None, help="as astropy names it, where the name of the file doesn't tell it")
     parser.add_argument("--columns", default=None, metavar="FILE", help="becomes a VOTable of the columns, for catalog-hips.py")
     told = parser.parse_args()
-    table = Table.read(told.table, format=told.format)
+    try:
+        table = table_of(told.table, told.format)
+    except (OSError, EOFError, lzma.LZMAError) as fault:
+        sys.exit(f"catalog-rows.py: {told.table} can't be read: {fault}")
     for name in (told.ra, told.dec, told.mag, told.id):
         if name not in table.colnames:
             sys.exit(f"catalog-rows.py: there is no column {name}; there are {', '.join(table.colnames)}")

@@ -36,7 +36,10 @@ class Handler(SimpleHTTPRequestHandler):
         super().__init__(*words, directory=PAGE, **more)
 
     def do_GET(self):
-        if self.path == "/":
+        if self.headers.get("Host", "").partition(":")[0] not in ("127.0.0.1", "localhost"):
+            # A page from elsewhere may have led its own name to this address (DNS rebinding).
+            self.send_error(421)
+        elif self.path == "/":
             self.send_response(302)
             self.send_header("Location", "/atlas/")
             self.send_header("Content-Length", "0")
