@@ -425,9 +425,7 @@ def goes_through_nginx(trial):
         base, trial.base = trial.base, f"http://127.0.0.1:{port}"
         trial.open(trial.hash(NEAR[16]))
         trial.compare("through nginx", NEAR[16], trial.survey.deep)
-        if len(blocks) < 2:
-            print("check-atlas: left out: examples/nginx.conf has no location of a catalogue")
-        elif not trial.browser.execute_script("return !document.getElementById('has-catalogue').hidden"):
+        if not trial.browser.execute_script("return !document.getElementById('has-catalogue').hidden"):
             trial.blame("through nginx the page finds no catalogue")
         os.kill(int((folder / "nginx.pid").read_text()), signal.SIGTERM)
         trial.base = base
