@@ -20,6 +20,7 @@ import argparse
 import bz2
 import gzip
 import lzma
+import re
 import sys
 from collections import Counter
 
@@ -31,7 +32,9 @@ MOST_REST = 256
 MOST_ROWS = 1_000_000
 PART = 50_000
 # What stands for white space and control characters.
+BLANK = re.compile(r"[\s\x01-\x1f\x7f]")
 BLANKS = {code: "_" for code in range(0x3001) if code < 32 or code == 127 or chr(code).isspace()}
+BLANKS_BUT_NUL = {code: text for code, text in BLANKS.items() if code > 0}
 
 
 def table_of(path, form):
@@ -83,6 +86,17 @@ def word(value):
     return text.strip().translate(BLANKS)
 
 
+def words(values):
+    """The same of many values of bytes or of text; those of a column without blanks and control characters all at once."""
+    joined = b"\0".join(values).decode("utf-8", "replace") if isinstance(values[0], bytes) else "\0".join(values)
+    if joined.count("\0") != len(values) - 1:
+        return list(map(word, values))
+    found = joined.split("\0")
+    if BLANK.search(joined):
+        found = "\0".join([text.strip() for text in found]).translate(BLANKS_BUT_NUL).split("\0")
+    return found
+
+
 def texts(column):
     """The values of a column as texts; those that are masked are None."""
     kind = column.dtype.kind if isinstance(column, Column) and column.ndim == 1 else "O"
@@ -91,7 +105,7 @@ def texts(column):
     elif kind == "f":
         found = list(map(str, numpy.asarray(column)))
     elif kind in "US":
-        found = list(map(word, numpy.asarray(column).tolist()))
+        found = words(numpy.asarray(column).tolist())
     else:
         return [None if numpy.ma.is_masked(value) else word(value) for value in column]
     for place in numpy.flatnonzero(numpy.ma.getmaskarray(column)) if hasattr(column, "mask") else ():
@@ -102,20 +116,26 @@ def texts(column):
 def ids(column, first):
     """The ids of sources, of which the first is that of a number."""
     found = ["masked" if text is None else text for text in texts(column)]
-    for place, text in enumerate(found):
-        if not 1 <= len(text) <= 64 or not text.isascii() or not text.isprintable():
-            sys.exit(f"catalog-rows.py: source {first + place}: the id {text!r} hasn't 1 to 64 characters of ASCII")
+    joined = "".join(found)
+    if not joined.isascii() or not joined.isprintable() or not 1 <= min(map(len, found)) <= max(map(len, found)) <= 64:
+        for place, text in enumerate(found):
+            if not 1 <= len(text) <= 64 or not text.isascii() or not text.isprintable():
+                sys.exit(f"catalog-rows.py: source {first + place}: the id {text!r} hasn't 1 to 64 characters of ASCII")
     return found
 
 
 def rests(table, names, unfit):
     """What stands behind the ids: of each row as many columns as fit whole. What doesn't fit is counted."""
     marked = [marks(word(name), texts(table[name])) for name in names]
-    for fields in zip(*marked):
-        rest = " ".join(filter(None, fields))
-        if len(rest) > MOST_REST or not rest.isascii():
-            rest = fitting(names, fields, unfit)
-        yield rest
+    if all(None not in column for column in marked):
+        found = list(map(" ".join, zip(*marked)))
+    else:
+        found = [" ".join(filter(None, fields)) for fields in zip(*marked)]
+    if max(map(len, found)) > MOST_REST or not "".join(found).isascii():
+        for place, rest in enumerate(found):
+            if len(rest.encode()) > MOST_REST:
+                found[place] = fitting(names, [column[place] for column in marked], unfit)
+    return found
 
 
 def marks(name, found):
@@ -138,12 +158,12 @@ def fitting(names, fields, unfit):
     return " ".join(kept)
 
 
-def columns_of(table, words, names):
+def columns_of(table, told, names):
     """A table without rows whose columns have the types, units, UCDs and descriptions of this one's."""
-    usual = {words.ra: ("pos.eq.ra;meta.main", "deg"), words.dec: ("pos.eq.dec;meta.main", "deg"), words.mag: ("phot.mag", "mag"),
-             words.id: ("meta.id;meta.main", None)}
+    usual = {told.ra: ("pos.eq.ra;meta.main", "deg"), told.dec: ("pos.eq.dec;meta.main", "deg"), told.mag: ("phot.mag", "mag"),
+             told.id: ("meta.id;meta.main", None)}
     described = Table()
-    for name in [words.id, *names]:
+    for name in [told.id, *names]:
         column = table[name]
         is_number = isinstance(column, Column) and column.ndim == 1 and column.dtype.kind in "iuf"
         described[word(name)] = Column(dtype=column.dtype if is_number else "U1", length=0, description=column.info.description)
@@ -152,7 +172,7 @@ def columns_of(table, words, names):
         made.unit = column.info.unit or unit
         said = (column.info.meta or {}).get("ucd") or table.meta.get(f"TUCD{table.colnames.index(name) + 1}")
         # The position's is what viewers find it by.
-        said = ucd if name in (words.ra, words.dec) or not said else said
+        said = ucd if name in (told.ra, told.dec) or not said else said
         if said:
             made.meta["ucd"] = said
     return described
@@ -179,30 +199,30 @@ def main():
     parser.add_argument("--id", default="id")
     parser.add_argument("--format", default=None, help="as astropy names it, where the name of the file doesn't tell it")
     parser.add_argument("--columns", default=None, metavar="FILE", help="becomes a VOTable of the columns, for catalog-hips.py")
-    words = parser.parse_args()
+    told = parser.parse_args()
     try:
-        table = table_of(words.table, words.format)
+        table = table_of(told.table, told.format)
     except (OSError, EOFError, lzma.LZMAError) as fault:
-        sys.exit(f"catalog-rows.py: {words.table} can't be read: {fault}")
-    for name in (words.ra, words.dec, words.mag, words.id):
+        sys.exit(f"catalog-rows.py: {told.table} can't be read: {fault}")
+    for name in (told.ra, told.dec, told.mag, told.id):
         if name not in table.colnames:
             sys.exit(f"catalog-rows.py: there is no column {name}; there are {', '.join(table.colnames)}")
     if len(table) > MOST_ROWS:
         sys.exit(f"catalog-rows.py: {len(table):,} sources, and a catalogue has at most {MOST_ROWS:,}: make several, each of a part of the table")
-    ra, dec, mag = (numbers(table[name]) for name in (words.ra, words.dec, words.mag))
+    ra, dec, mag = (numbers(table[name]) for name in (told.ra, told.dec, told.mag))
     if not (numpy.isfinite(ra).all() and numpy.isfinite(dec).all() and (abs(dec) <= 90).all()):
         sys.exit("catalog-rows.py: a source has no position in degrees")
-    npix = cells(words.order, ra % 360, dec).tolist()
+    npix = cells(told.order, ra % 360, dec).tolist()
     rank = ranks(mag)
-    names = [words.ra, words.dec, words.mag]
-    names += [name for name in table.colnames if name not in names and name != words.id]
-    if words.columns:
-        write_columns(words.columns, columns_of(table, words, names))
+    names = [told.ra, told.dec, told.mag]
+    names += [name for name in table.colnames if name not in names and name != told.id]
+    if told.columns:
+        write_columns(told.columns, columns_of(table, told, names))
     unfit = Counter()
     for first in range(0, len(table), PART):
         part = slice(first, first + PART)
-        lines = zip(map(str, rank[part]), map(str, npix[part]), ids(table[words.id][part], first + 1), rests(table[part], names, unfit))
-        sys.stdout.buffer.write("".join(["\t".join(line) + "\n" for line in lines]).encode())
+        fields = map(str, rank[part]), map(str, npix[part]), ids(table[told.id][part], first + 1), rests(table[part], names, unfit)
+        sys.stdout.buffer.write("".join([f"{line}\n" for line in map("\t".join, zip(*fields))]).encode())
     if unfit:
         told = ", ".join(f"{name} of {count:,} sources" for name, count in unfit.items())
         print(f"catalog-rows.py: left out, since they don't fit the {MOST_REST} bytes of a rest: {told}", file=sys.stderr)

@@ -19,6 +19,7 @@ Ends with status 1 and says what is wrong.
 import io
 import os
 import random
+import re
 import shutil
 import signal
 import socket
@@ -53,7 +54,7 @@ CHANGED = (0xFF, 0x7A, 0x1A)
 PAPER = (0xF6, 0xF4, 0xEE)
 MARGIN = 36
 PATIENCE = 30
-PLAIN = "grid=0&coverage=0&cells=0&changes=0&colours=grey&bend=0"
+PLAIN = "grid=0&coverage=0&cells=0&changes=0&catalogue=0&colours=grey&bend=0"
 
 
 class Delayed(Handler):
@@ -405,23 +406,27 @@ http {{ access_log off; client_body_temp_path {folder}/bodies; server {{ listen 
 
 
 def goes_through_nginx(trial):
-    """The page as the location of examples/nginx.conf serves it."""
+    """The page and a catalogue as the locations of examples/nginx.conf serve them."""
     examples = Path(__file__).resolve().parent.parent / "examples"
-    block = (examples / "nginx.conf").read_text().split("# atlas: begins.")[1].split("# atlas: ends.")[0].split("\n", 1)[1]
+    blocks = [text.split("\n", 1)[1].rsplit("\n", 1)[0] for text in re.findall(r"# (?:atlas|catalogue): begins\.(.*?)# \w+: ends\.", (examples / "nginx.conf").read_text(), re.DOTALL)]
+    block = "\n".join(blocks)
     with tempfile.TemporaryDirectory() as name, socket.socket() as free:
         folder = Path(name)
         shutil.copytree(examples / "atlas", folder / "atlas")
         free.bind(("127.0.0.1", 0))
         port = free.getsockname()[1]
         free.close()
+        atlas_page.catalogue_of(folder)
         for path in (folder, *folder.rglob("*")):
             path.chmod(0o755)
-        block = block.replace("/usr/local/share/doc/hipsd/examples/atlas", str(folder / "atlas"))
+        block = block.replace("/usr/local/share/doc/hipsd/examples/atlas", str(folder / "atlas")).replace("/srv/catalogue", str(folder / "catalogue"))
         (folder / "nginx.conf").write_text(NGINX.format(folder=folder, port=port, survey=trial.address, block=block))
         subprocess.run(["nginx", "-c", folder / "nginx.conf", "-p", folder], check=True, stderr=subprocess.DEVNULL)
         base, trial.base = trial.base, f"http://127.0.0.1:{port}"
         trial.open(trial.hash(NEAR[16]))
         trial.compare("through nginx", NEAR[16], trial.survey.deep)
+        if not trial.browser.execute_script("return !document.getElementById('has-catalogue').hidden"):
+            trial.blame("through nginx the page finds no catalogue")
         os.kill(int((folder / "nginx.pid").read_text()), signal.SIGTERM)
         trial.base = base
 

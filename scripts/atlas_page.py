@@ -51,7 +51,8 @@ requestAnimationFrame(next);
 
 
 def resize(trial, width, height, is_touch):
-    trial.browser.execute_cdp_cmd("Emulation.setDeviceMetricsOverride", {"width": width, "height": height, "deviceScaleFactor": 1, "mobile": is_touch})
+    metrics = {"width": width, "height": height, "deviceScaleFactor": 1, "mobile": is_touch}
+    trial.browser.execute_cdp_cmd("Emulation.setDeviceMetricsOverride", metrics)
     trial.browser.execute_cdp_cmd("Emulation.setTouchEmulationEnabled", {"enabled": is_touch, "maxTouchPoints": 5})
 
 
@@ -111,6 +112,9 @@ def at_each_size(trial, sent):
 
 
 def first_picture(trial, name, sent):
+    # What the page before asked for may still come.
+    trial.browser.get("about:blank")
+    time.sleep(0.3)
     sent.clear()
     trial.open(trial.hash(VIEW))
     first = script(trial, "return Number(document.body.dataset.first) / 1000")
@@ -158,12 +162,17 @@ def reading_is(trial, what, at):
     if not found or abs(found[0] - ra[0]) > 0.002 or abs(found[1] - dec[0]) > 0.002:
         trial.blame(f"{what}: {found} is said at {at}, which is {ra[0]}, {dec[0]}")
         return
-    value = re.search(r"cell (\d+)/(\d+), pixel (\d+)/(\d+): (-?\d+|blank|no data)", script(trial, "return document.getElementById('value').textContent"))
-    order = value and int(value[3])
-    pixel = value and int(healpy.ang2pix(2**order, ra[0], dec[0], nest=True, lonlat=True))
-    number = value and survey.numbers(order, numpy.array([pixel]))[0]
-    if not value or int(value[4]) != pixel or value[5] not in (str(number).removesuffix(".0"), "blank", "no data") or (value[5][0] in "bn") != numpy.isnan(number):
-        trial.blame(f"{what}: '{value and value[0]}' is said where pixel {order}/{pixel} has {number}")
+    text = script(trial, "return document.getElementById('value').textContent")
+    value = re.search(r"cell \d+/\d+, pixel (\d+)/(\d+): (-?\d+|blank|no data)", text)
+    if not value:
+        trial.blame(f"{what}: '{text}' is said")
+        return
+    order = int(value[1])
+    pixel = int(healpy.ang2pix(2**order, ra[0], dec[0], nest=True, lonlat=True))
+    number = survey.numbers(order, numpy.array([pixel]))[0]
+    is_same = value[3] in ("blank", "no data") if numpy.isnan(number) else value[3] == str(int(number))
+    if int(value[2]) != pixel or not is_same:
+        trial.blame(f"{what}: '{text}' is said where pixel {order}/{pixel} has {number}")
 
 
 def reads(trial, name):
@@ -188,7 +197,8 @@ def reads(trial, name):
 
 
 def fingers(trial, kind, *points):
-    trial.browser.execute_cdp_cmd("Input.dispatchTouchEvent", {"type": kind, "touchPoints": [{"x": x, "y": y, "id": at} for at, (x, y) in enumerate(points)]})
+    touched = [{"x": x, "y": y, "id": at} for at, (x, y) in enumerate(points)]
+    trial.browser.execute_cdp_cmd("Input.dispatchTouchEvent", {"type": kind, "touchPoints": touched})
 
 
 def touches(trial, name):
@@ -331,7 +341,8 @@ def edits_by_astropy(trial):
 def on_a_slow_line(trial, sent):
     """4 Mbit/s and 80 ms: the whole sky by its coarsest tiles, before the mosaic is there."""
     trial.browser.execute_cdp_cmd("Network.enable", {})
-    trial.browser.execute_cdp_cmd("Network.emulateNetworkConditions", {"offline": False, "latency": 80, "downloadThroughput": 500_000, "uploadThroughput": 500_000})
+    line = {"offline": False, "latency": 80, "downloadThroughput": 500_000, "uploadThroughput": 500_000}
+    trial.browser.execute_cdp_cmd("Network.emulateNetworkConditions", line)
     for what, words in (("whole sky", trial.hash((40, 0, 360))), ("30 degrees", trial.hash(VIEW))):
         trial.browser.get("about:blank")
         sent.clear()
@@ -342,7 +353,8 @@ def on_a_slow_line(trial, sent):
             trial.blame(f"slow line, {what}: the first picture comes after {first} s")
         print(f"check-atlas: 4 Mbit/s, 80 ms, {what}: first picture after {first:.2f} s")
     trial.browser.get("about:blank")
-    trial.browser.execute_cdp_cmd("Network.emulateNetworkConditions", {"offline": False, "latency": 0, "downloadThroughput": -1, "uploadThroughput": -1})
+    line.update({"latency": 0, "downloadThroughput": -1, "uploadThroughput": -1})
+    trial.browser.execute_cdp_cmd("Network.emulateNetworkConditions", line)
 
 
 def begins_as_told(trial):

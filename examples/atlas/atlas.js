@@ -1,5 +1,6 @@
 // The page: what is drawn when, its controls, and what is said beside the picture.
 
+import { readAddress, viewWords, writeAddress } from "./address.js";
 import { Catalogue } from "./catalogue.js";
 import { COLOURS, shader, tableOf, usualRange } from "./colours.js";
 import { gpuOf } from "./gpu.js";
@@ -10,6 +11,7 @@ import { Picture } from "./picture.js";
 import { connectPointer } from "./pointer.js";
 import { angleText, fromGalactic, galacticText, positionText, readPosition, toGalactic } from "./position.js";
 import { WHOLE_SKY } from "./projection.js";
+import { savePicture } from "./save.js";
 import { tilePath } from "./survey.js";
 import { View } from "./view.js";
 import { counted, facts, faultText, newsText, readingOf, short } from "./words.js";
@@ -21,7 +23,7 @@ const LEAST_PIXELS_ACROSS = 6;
 const DEGREES_OF_A_FACE = 58.63;
 const GO_TO_WIDTH = 30;
 const RULER = 120;
-const SWITCHES = ["grid", "galactic", "coverage", "cells", "changes", "catalogue"];
+const SWITCHES = { grid: true, galactic: false, coverage: true, cells: false, changes: true, catalogue: true };
 // While the view moves without WebGL, squares of so many pixels are drawn; larger ones where frames take so many milliseconds, and
 // smaller ones where their drawing takes so few.
 const SQUARES = { least: 2, first: 4, most: 8 };
@@ -42,11 +44,15 @@ class Atlas {
         this.address = address;
         this.view = new View();
         this.scale = { low: null, high: null, bend: 0, colours: COLOURS[0] };
-        this.switches = { grid: true, galactic: false, coverage: true, cells: false, changes: true, catalogue: true };
+        this.switches = { ...SWITCHES };
         this.picture = new Picture(element("pixels"));
         this.gpu = drawBy === "cpu" ? null : gpuOf(element("moving"), drawBy === "gpu");
         this.lines = new Lines(element("lines"));
-        this.live = new Live(address, { inView: (generation) => this.inView(generation), opened: (generation) => this.opened(generation), changed: () => this.changed() });
+        this.live = new Live(address, {
+            inView: (generation) => this.inView(generation),
+            opened: (generation) => this.opened(generation),
+            changed: () => this.changed(),
+        });
         this.catalogue = new Catalogue(catalogue, () => this.draw());
         this.seen = new Map();
         this.squares = SQUARES.first;
@@ -169,16 +175,15 @@ class Atlas {
     /** The first cuts, where none were told: they fit the coarse tiles in view, and then all that is. */
     cut(generation) {
         const [next] = this.live.lacking(generation);
-        const isCoarse = next !== undefined && next.order === generation.least && this.orderFor(generation) !== next.order;
-        if (isCoarse || (next && this.scale.low !== null)) return;
+        if (next && (next.isCoarse || this.scale.low !== null)) return;
         this.fit();
         this.isCut = next === undefined;
     }
 
     /** Cuts that fit what is shown. */
     fit() {
-        const found = this.layers(this.live.shown).map((layer) => this.cellsOf(layer.order).map((cell) => layer.tiles.get(cell)).filter(Boolean));
-        const tiles = found.find(({ length }) => length > 0);
+        const inView = (layer) => this.cellsOf(layer.order).map((cell) => layer.tiles.get(cell)).filter(Boolean);
+        const tiles = this.layers(this.live.shown).map(inView).find(({ length }) => length > 0);
         if (!tiles) return;
         Object.assign(this.scale, usualRange(tiles));
         this.showScale();
@@ -218,8 +223,9 @@ class Atlas {
         const scale = { low: low ?? 0, high: high ?? 1, ...others };
         const coverage = this.switches.coverage && generation.coverage;
         element("moving").hidden = !this.byGpu;
-        if (this.byGpu) this.gpu.draw(this.view.projection, ...this.view.size, { scale, layers, cells: (at) => this.cellsOf(at), coverage });
-        else {
+        if (this.byGpu) {
+            this.gpu.draw(this.view.projection, ...this.view.size, { scale, layers, cells: (at) => this.cellsOf(at), coverage });
+        } else {
             if (!this.isRead) this.picture.read(layers, order === null ? null : generation.coverage);
             this.isRead = true;
             this.picture.paint(scale, coverage);
@@ -237,10 +243,10 @@ class Atlas {
         element("message").hidden = !fault;
         const state = fault ? "away" : isWhole && !this.isMoving ? "whole" : "loading";
         const isSure = state === "whole" && generation.unsure.size === 0;
-        for (const [name, value] of Object.entries({ state, generation: generation ? String(generation.prefix) : "", sure: isSure ? "1" : "0" })) {
-            if (document.body.dataset[name] !== value) document.body.dataset[name] = value;
-        }
-        say("state", { away: generation ? "no server" : "no survey", whole: "complete", loading: coming && generation ? "next generation is coming" : "loading" }[state]);
+        const data = { state, generation: generation ? String(generation.prefix) : "", sure: isSure ? "1" : "0" };
+        for (const [name, value] of Object.entries(data)) if (document.body.dataset[name] !== value) document.body.dataset[name] = value;
+        const loading = coming && generation ? "next generation is coming" : "loading";
+        say("state", { away: generation ? "no server" : "no survey", whole: "complete", loading }[state]);
         this.tellScale();
         this.tellPoint(generation);
         element("has-catalogue").hidden = !this.catalogue.isThere;
@@ -266,13 +272,19 @@ class Atlas {
 
     /** What stands where the pointer is, or was when it tapped. */
     tellPoint(generation) {
-        const sky = this.pointed && this.view.projection.toSky(...this.pointed);
-        const reading = sky && generation ? readingOf(this.layers(generation), this.orderFor(generation) === null ? null : generation.coverage, locate(sky, {})) : null;
-        const { pixel } = this.view.projection;
-        say("position", !sky ? "" : this.switches.galactic ? galacticText(toDegrees(toGalactic(sky)), pixel) : positionText(toDegrees(sky), pixel));
+        const { projection } = this.view;
+        const sky = this.pointed && projection.toSky(...this.pointed);
+        const reading = sky && generation ? this.readingAt(generation, sky) : null;
+        const text = () => (this.switches.galactic ? galacticText(toDegrees(toGalactic(sky)), projection.pixel) : positionText(toDegrees(sky), projection.pixel));
+        say("position", sky ? text() : "");
         say("value", reading?.text ?? "");
         this.tellMark(reading?.value ?? NaN);
         if (reading?.cell !== undefined) this.tellTile(reading);
+    }
+
+    readingAt(generation, sky) {
+        const coverage = this.orderFor(generation) === null ? null : generation.coverage;
+        return readingOf(this.layers(generation), coverage, locate(sky, {}));
     }
 
     tellMark(value) {
@@ -286,16 +298,18 @@ class Atlas {
         const path = tilePath(order, cell);
         const link = element("tile");
         if (link.dataset.path === path) return;
-        Object.assign(link, { hidden: false, href: `${this.address}/${path}`, download: path.replaceAll("/", "_"), textContent: `Save tile ${order}/${cell}` });
+        const download = path.replaceAll("/", "_");
+        Object.assign(link, { hidden: false, href: `${this.address}/${path}`, download, textContent: `Save tile ${order}/${cell}` });
         link.dataset.path = path;
     }
 
     tellSource() {
         const { picked } = this.catalogue;
         element("source").hidden = !picked;
+        const cellOfTable = (kind, textContent) => Object.assign(document.createElement(kind), { textContent });
         element("source").replaceChildren(...(picked?.names ?? []).map((name, at) => {
             const row = document.createElement("tr");
-            for (const [kind, text] of [["th", name], ["td", picked.values[at]]]) row.append(Object.assign(document.createElement(kind), { textContent: text }));
+            row.append(cellOfTable("th", name), cellOfTable("td", picked.values[at]));
             return row;
         }));
     }
@@ -312,7 +326,7 @@ class Atlas {
         }
         element("bend").value = this.scale.bend;
         element("colours").value = this.scale.colours;
-        for (const name of SWITCHES) element(name).checked = this.switches[name];
+        for (const name of Object.keys(SWITCHES)) element(name).checked = this.switches[name];
         this.showLevels();
     }
 
@@ -337,7 +351,7 @@ class Atlas {
         for (const name of ["low", "high"]) element(`${name}-value`).addEventListener("change", () => this.typed(name));
         element("colours").addEventListener("input", () => this.setScale("colours", element("colours").value));
         element("usual").addEventListener("click", () => this.setUsual());
-        for (const name of SWITCHES) element(name).addEventListener("input", () => this.setSwitch(name, element(name).checked));
+        for (const name of Object.keys(SWITCHES)) element(name).addEventListener("input", () => this.setSwitch(name, element(name).checked));
         element("fold").addEventListener("click", () => this.fold());
         element("dark").addEventListener("click", () => this.turnTheme());
         this.connectView();
@@ -445,54 +459,30 @@ class Atlas {
         else element("place").removeAttribute("aria-invalid");
     }
 
-    /** The picture as a file, with what is drawn over it and a line that says what it is. */
     save() {
-        const [width, height] = this.view.size;
-        const canvas = Object.assign(document.createElement("canvas"), { width, height });
-        const brush = canvas.getContext("2d");
-        brush.fillStyle = getComputedStyle(document.documentElement).getPropertyValue("--paper");
-        brush.fillRect(0, 0, width, height);
-        brush.imageSmoothingEnabled = false;
-        for (const id of ["pixels", "lines"]) brush.drawImage(element(id), 0, 0, width, height);
-        const { ra, dec } = this.view;
-        const words = `${element("title").textContent}, ${element("generation").textContent}, ${positionText([ra, dec], this.view.projection.pixel)}, ${element("scale-text").textContent}`;
-        brush.font = `${12 * this.density}px sans-serif`;
-        Object.assign(brush, { lineWidth: 3 * this.density, strokeStyle: "rgba(15, 18, 28, 0.7)", fillStyle: "#ffffff" });
-        brush.strokeText(words, 8 * this.density, 16 * this.density);
-        brush.fillText(words, 8 * this.density, 16 * this.density);
-        canvas.toBlob((blob) => {
-            const link = Object.assign(document.createElement("a"), { href: URL.createObjectURL(blob), download: "atlas.png" });
-            link.click();
-            setTimeout(() => URL.revokeObjectURL(link.href), 10_000);
-        });
+        const { ra, dec, size, projection } = this.view;
+        const ground = getComputedStyle(document.documentElement).getPropertyValue("--paper");
+        const said = ["title", "generation", "scale-text"].map((id) => element(id).textContent);
+        savePicture([element("pixels"), element("lines")], size, this.density, ground, [...said, positionText([ra, dec], projection.pixel)].join(", "));
     }
 
     // ---- the address of the page, which has the view in it
 
     readHash() {
-        const words = new URLSearchParams(window.location.hash.slice(1));
-        const number = (name, absent) => (Number.isFinite(parseFloat(words.get(name))) ? parseFloat(words.get(name)) : absent);
-        this.isTold = words.has("ra") || words.has("dec") || words.has("width");
-        this.view.moveTo({ ra: number("ra", 0), dec: number("dec", 0), width: number("width", WHOLE_SKY) });
-        const colours = COLOURS.includes(words.get("colours")) ? words.get("colours") : this.scale.colours;
-        this.scale = { low: number("low", this.scale.low), high: number("high", this.scale.high), bend: number("bend", 0), colours };
-        for (const name of SWITCHES) if (words.has(name)) this.switches[name] = words.get(name) === "1";
+        const { view, ...others } = readAddress(window.location.hash, this);
+        Object.assign(this, others);
+        this.view.moveTo(view);
     }
 
     viewKey() {
-        const { ra, dec, width } = this.view;
-        return [ra.toFixed(6), dec.toFixed(6), width.toPrecision(6)].join();
+        return Object.values(viewWords(this.view)).join();
     }
 
     /** Writes the view into the page's address; another view is one to go back from. */
     writeHash(isOther = false) {
-        const { ra, dec, width } = this.view;
-        const words = { ra: ra.toFixed(6), dec: dec.toFixed(6), width: width.toPrecision(6), bend: this.scale.bend, colours: this.scale.colours };
-        for (const name of ["low", "high"]) if (this.scale[name] !== null) words[name] = this.scale[name];
-        for (const name of SWITCHES) words[name] = this.switches[name] ? "1" : "0";
         const key = this.viewKey();
         const isPushed = isOther && this.written !== undefined && this.written !== key;
-        window.history[isPushed ? "pushState" : "replaceState"](null, "", `#${new URLSearchParams(words)}`);
+        window.history[isPushed ? "pushState" : "replaceState"](null, "", writeAddress(this.view, this.scale, this.switches));
         this.written = key;
         this.hash = window.location.hash;
     }

@@ -1,6 +1,6 @@
 // Keeps one generation of a survey shown, and goes to the next one when it is whole. Every reply names the edits that it shows, its
 // prefix; a generation takes only replies of its own prefix. What is shown stays until all that is in view has come of the next one.
-// Of that only the tiles come that have changed, as far as their ancestors of the coarsest order show it. A change that is too small
+// Of that only the tiles come that have changed, as far as their ancestors of a coarse order show it. A change that is too small
 // for these is found a little later: once no other generation has come for some seconds, each tile that was kept is looked at itself.
 
 import { Generation, SurveyFault, ask } from "./survey.js";

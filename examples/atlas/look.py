@@ -35,10 +35,6 @@ class Handler(SimpleHTTPRequestHandler):
         self.server_of_survey = None
         super().__init__(*words, directory=PAGE, **more)
 
-    def parse_request(self):
-        self.directory = os.fspath(PAGE)
-        return super().parse_request()
-
     def do_GET(self):
         if self.headers.get("Host", "").partition(":")[0] not in ("127.0.0.1", "localhost"):
             # A page from elsewhere may have led its own name to this address (DNS rebinding).
@@ -58,8 +54,7 @@ class Handler(SimpleHTTPRequestHandler):
     do_HEAD = do_GET
 
     def translate_path(self, path):
-        if path.startswith("/catalogue/"):
-            self.directory = os.fspath(self.server.catalogue)
+        self.directory = os.fspath(self.server.catalogue if path.startswith("/catalogue/") else PAGE)
         return super().translate_path(path.removeprefix("/catalogue").removeprefix("/atlas"))
 
     def pass_on(self, path):

@@ -107,12 +107,14 @@ class Layer {
 /** Cells of the mosaic, and the bits of a column there. */
 const SKY_ORDER = 3;
 const SKY_WIDTH = 64;
+/** So many bits of a coarse tile's column show a tile of the order in view, which is 4 of its pixels wide. */
+const PIXEL_BITS_OF_A_TILE = 2;
 /** A mosaic costs as much as so many coarse tiles that come before it. */
 const COARSE_SHARE = 4;
 
 /**
  * One generation of a survey, as far as its files were fetched: all of them are answered by the same published edits. `earlier` is the
- * one that is shown, of the same server: tiles of it are kept where their ancestors of the coarsest order show no change.
+ * one that is shown, of the same server: tiles of it are kept where their ancestors of a coarse order show no change.
  */
 export class Generation {
     constructor(prefix, earlier = null) {
@@ -162,20 +164,27 @@ export class Generation {
         return this.coverage.touches(order, cell) && !this.layer(order).tiles.has(cell);
     }
 
-    /** The paths that a view lacks, those that are to be fetched next first: coarse tiles, then those of its order, or the mosaic. */
+    /** The files that a view lacks, those that are to be fetched next first: coarse tiles, then those of its order, or the mosaic. */
     lacking({ order, cells }) {
-        const coarse = this.coarse(order, cells).filter((cell) => this.lacks(this.least, cell));
-        if (coarse.length > 0) return coarse.map((cell) => ({ path: tilePath(this.least, cell), order: this.least, cell }));
+        const above = this.above(order);
+        const coarse = this.coarse(order, cells).filter((cell) => this.lacks(above, cell));
+        if (coarse.length > 0) return coarse.map((cell) => ({ path: tilePath(above, cell), order: above, cell, isCoarse: true }));
         if (order === null) return this.sky ? [] : [{ path: "Norder3/Allsky.fits", order: null }];
         this.keep(order, cells);
         return cells.filter((cell) => this.lacks(order, cell)).map((cell) => ({ path: tilePath(order, cell), order, cell }));
     }
 
-    /** The cells of the coarsest order above those in view; none where they are no shorter way. */
+    /** The order of the coarse tiles for an order in view: the coarsest in which a tile of it still has some pixels to a side. */
+    above(order) {
+        return order === null ? this.least : Math.min(order, Math.max(this.least, order - Math.log2(this.width) + PIXEL_BITS_OF_A_TILE));
+    }
+
+    /** The cells of that order above those in view; none where they are no shorter way. */
     coarse(order, cells) {
-        if (order !== null) return order > this.least ? [...new Set(cells.map((cell) => Math.floor(cell / 4 ** (order - this.least))))] : [];
-        if (this.earlier || this.sky || this.least === SKY_ORDER) return [];
-        const all = Array.from({ length: 12 * 4 ** this.least }, (_, cell) => cell);
+        const above = this.above(order);
+        if (order !== null) return order > above ? [...new Set(cells.map((cell) => Math.floor(cell / 4 ** (order - above))))] : [];
+        if (this.earlier || this.sky || above === SKY_ORDER) return [];
+        const all = Array.from({ length: 12 * 4 ** above }, (_, cell) => cell);
         const isShort = all.length * this.width ** 2 * COARSE_SHARE <= 768 * 4 ** this.skyBits;
         return isShort ? all : [];
     }
@@ -191,13 +200,14 @@ export class Generation {
         }
     }
 
-    /** Whether a tile of the generation before is here, and the pixels of its ancestor of the coarsest order are the same. */
+    /** Whether a tile of the generation before is here, and the pixels of its ancestor are the same. */
     isUnchanged(order, cell) {
-        const { earlier, least } = this;
-        if (order === least || !this.coverage.touches(order, cell) || !earlier.layer(order).tiles.has(cell)) return false;
-        const above = Math.floor(cell / 4 ** (order - least));
-        const [now, before] = [this, earlier].map((generation) => generation.layer(least).tiles.get(above));
-        return now !== undefined && before !== undefined && now.equalsWithin(before, cell - above * 4 ** (order - least), order - least);
+        const { earlier } = this;
+        const above = this.above(order);
+        if (order === above || !this.coverage.touches(order, cell) || !earlier.layer(order).tiles.has(cell)) return false;
+        const leading = Math.floor(cell / 4 ** (order - above));
+        const [now, before] = [this, earlier].map((generation) => generation.layer(above).tiles.get(leading));
+        return now !== undefined && before !== undefined && now.equalsWithin(before, cell - leading * 4 ** (order - above), order - above);
     }
 
     /** Fetches what is lacking. */
@@ -241,7 +251,7 @@ export class Generation {
     tidy({ order, cells }, most) {
         for (const layer of this.layers.values()) {
             if (layer.tiles.size <= most) continue;
-            const kept = new Set(layer.order === order ? cells : layer.order === this.least ? this.coarse(order, cells) : []);
+            const kept = new Set(layer.order === order ? cells : layer.order === this.above(order) ? this.coarse(order, cells) : []);
             for (const cell of layer.tiles.keys()) if (!kept.has(cell)) layer.tiles.delete(cell);
         }
     }
