@@ -242,8 +242,8 @@ class Atlas {
         say("message", fault ? faultText(fault, generation) : "");
         element("message").hidden = !fault;
         const state = fault ? "away" : isWhole && !this.isMoving ? "whole" : "loading";
-        const isSure = state === "whole" && generation.unsure.size === 0;
-        const data = { state, generation: generation ? String(generation.prefix) : "", sure: isSure ? "1" : "0" };
+        const sure = state === "whole" && this.live.isSure ? "1" : "0";
+        const data = { state, generation: generation ? String(generation.prefix) : "", sure };
         for (const [name, value] of Object.entries(data)) if (document.body.dataset[name] !== value) document.body.dataset[name] = value;
         const loading = coming && generation ? "next generation is coming" : "loading";
         say("state", { away: generation ? "no server" : "no survey", whole: "complete", loading }[state]);
