@@ -84,7 +84,9 @@ class Sources:
 
     def place(self, ra, dec):
         """Says where the sources are, which have to be in the cells of their rows; and drops order 0."""
-        self.order, is_wrong = min(self.orders_that_fit(ra, dec), key=lambda found: found[1].sum())
+        self.order, is_wrong = min(self.orders_that_fit(ra, dec), key=lambda found: found[1].sum(), default=(None, None))
+        if self.order is None:
+            raise Refused("the tiles aren't those of one catalogue: rows lie in tiles of other cells than their own")
         if is_wrong.any():
             first = self.ids[int(numpy.flatnonzero(is_wrong)[0])]
             raise Refused(f"{is_wrong.sum():,} of {len(is_wrong):,} sources don't lie in the cells of their rows, as {first}: "
@@ -309,15 +311,16 @@ def make(words, tell):
         write(beside / "properties", properties(words, sources, share, ra[0] % 360, dec[0]))
         beside.chmod(0o755)
         if place.exists():
-            shutil.rmtree(place)
+            os.rename(place, beside.with_suffix(".before"))
         os.rename(beside, place)
     finally:
-        shutil.rmtree(beside, ignore_errors=True)
+        for left in (beside, beside.with_suffix(".before")):
+            shutil.rmtree(left, ignore_errors=True)
     return len(sources.ids), sources.deepest
 
 
-def is_refused(place, may_replace):
-    """Why a folder may not be written, if it may not."""
+def refusal(place, may_replace):
+    """Why a folder may not be written, None if it may."""
     if not place.exists():
         return None
     if not may_replace:
@@ -341,7 +344,7 @@ def main():
     words = parser.parse_args()
     begun = time.monotonic()
     try:
-        refused = is_refused(Path(words.hips), words.replace)
+        refused = refusal(Path(words.hips), words.replace)
         if refused:
             raise Refused(refused)
         count, deepest = make(words, lambda text: print(f"catalog-hips.py: {time.monotonic() - begun:.1f} s: {text}", file=sys.stderr))
