@@ -12,7 +12,7 @@ HIPS has these files (HiPS 1.0, sections 4.2 and 4.4):
 
 - tiles of tab-separated values from order 1 on; the rows of order 0 go down into order 1. Their first columns are `ra` and `dec`.
   The first line says how many sources of the tile's cell are in it and in the tiles above it, and how many there are in all;
-- Norder1/Allsky.tsv and Norder2/Allsky.tsv, with the rows of all tiles of that order;
+- Norder1/Allsky.tsv and Norder2/Allsky.tsv, with the rows of all tiles of that order, where it has some;
 - properties, metadata.xml (a VOTable of the columns) and Moc.fits.
 
 Each source has to lie in the cell of its row, by healpy. Where one doesn't, this says how many, ends with status 1, and HIPS is as
@@ -216,8 +216,8 @@ def lines_of(ra, keys, sources):
 def write_tiles(place, head, lines, sources, tell):
     """The tiles, and of the first two orders all rows in one file."""
     lines = numpy.array(lines, dtype=object)
-    for order in range(1, max(2, sources.deepest) + 1):
-        counts = sources.completeness(order) if order <= sources.deepest else {}
+    for order in range(1, sources.deepest + 1):
+        counts = sources.completeness(order)
         here = numpy.flatnonzero(sources.orders == order)
         # Rows keep their order within a cell: those of order 0 stand first.
         here = here[numpy.argsort(sources.tiles[here], kind="stable")]
