@@ -12,7 +12,7 @@ HIPS has these files (HiPS 1.0, sections 4.2 and 4.4):
 
 - tiles of tab-separated values from order 1 on; the rows of order 0 go down into order 1. Their first columns are `ra` and `dec`.
   The first line says how many sources of the tile's cell are in it and in the tiles above it, and how many there are in all;
-- Norder1/Allsky.tsv and Norder2/Allsky.tsv, with the rows of all tiles of that order;
+- Norder1/Allsky.tsv and Norder2/Allsky.tsv, with the rows of all tiles of that order, where it has some;
 - properties, metadata.xml (a VOTable of the columns) and Moc.fits.
 
 Each source has to lie in the cell of its row, by healpy. Where one doesn't, this says how many, ends with status 1, and HIPS is as
@@ -84,7 +84,9 @@ class Sources:
 
     def place(self, ra, dec):
         """Says where the sources are, which have to be in the cells of their rows; and drops order 0."""
-        self.order, is_wrong = min(self.orders_that_fit(ra, dec), key=lambda found: found[1].sum())
+        self.order, is_wrong = min(self.orders_that_fit(ra, dec), key=lambda found: found[1].sum(), default=(None, None))
+        if self.order is None:
+            raise Refused("the tiles aren't those of one catalogue: rows lie in tiles of other cells than their own")
         if is_wrong.any():
             first = self.ids[int(numpy.flatnonzero(is_wrong)[0])]
             raise Refused(f"{is_wrong.sum():,} of {len(is_wrong):,} sources don't lie in the cells of their rows, as {first}: "
@@ -214,8 +216,8 @@ def lines_of(ra, keys, sources):
 def write_tiles(place, head, lines, sources, tell):
     """The tiles, and of the first two orders all rows in one file."""
     lines = numpy.array(lines, dtype=object)
-    for order in range(1, max(2, sources.deepest) + 1):
-        counts = sources.completeness(order) if order <= sources.deepest else {}
+    for order in range(1, sources.deepest + 1):
+        counts = sources.completeness(order)
         here = numpy.flatnonzero(sources.orders == order)
         # Rows keep their order within a cell: those of order 0 stand first.
         here = here[numpy.argsort(sources.tiles[here], kind="stable")]
@@ -309,15 +311,16 @@ def make(words, tell):
         write(beside / "properties", properties(words, sources, share, ra[0] % 360, dec[0]))
         beside.chmod(0o755)
         if place.exists():
-            shutil.rmtree(place)
+            os.rename(place, beside.with_suffix(".before"))
         os.rename(beside, place)
     finally:
-        shutil.rmtree(beside, ignore_errors=True)
+        for left in (beside, beside.with_suffix(".before")):
+            shutil.rmtree(left, ignore_errors=True)
     return len(sources.ids), sources.deepest
 
 
-def is_refused(place, may_replace):
-    """Why a folder may not be written, if it may not."""
+def refusal(place, may_replace):
+    """Why a folder may not be written, None if it may."""
     if not place.exists():
         return None
     if not may_replace:
@@ -341,7 +344,7 @@ def main():
     words = parser.parse_args()
     begun = time.monotonic()
     try:
-        refused = is_refused(Path(words.hips), words.replace)
+        refused = refusal(Path(words.hips), words.replace)
         if refused:
             raise Refused(refused)
         count, deepest = make(words, lambda text: print(f"catalog-hips.py: {time.monotonic() - begun:.1f} s: {text}", file=sys.stderr))

@@ -33,9 +33,9 @@ EXAMPLES = Path(__file__).resolve().parent.parent / "examples"
 SIZES = {"1280 by 800": (1280, 800, False), "1920 by 1080": (1920, 1080, False), "390 by 844": (390, 844, True)}
 VIEW = (80, 20, 30)
 # What a busy machine of two processors meets; a page that fetches or draws too much is far beyond.
-MOST_MILLISECONDS_A_FRAME = 33
+MOST_MILLISECONDS_A_FRAME = 50
 MOST_FIRST, MOST_FIRST_ON_A_SLOW_LINE = 8, 12
-MOST_BYTES_OF_A_PUBLICATION = 250_000
+MOST_BYTES_OF_A_PUBLICATION = 200_000
 LEAST_FINGER = 40
 FRAMES = """
 const done = arguments[arguments.length - 1], canvas = document.getElementById("lines"), begun = performance.now();
@@ -145,7 +145,7 @@ def searches(trial, name):
                            ("5 36 0 +21 30 0", (84, 21.5)), ("5h 20m 20°", (80, 20)))[few]:
         place.clear()
         place.send_keys(text, Keys.ENTER)
-        wait_for(trial, f"{name}: '{text}' leads to {view_of(trial)}", lambda expected=expected: view_of(trial)[:2] == expected, 5)
+        wait_for(trial, f"{name}: '{text}' leads to {view_of(trial)}", lambda expected=expected: view_of(trial)[:2] == expected, 10)
         if script(trial, "return document.getElementById('refused').textContent"):
             trial.blame(f"{name}: '{text}' is taken, and still refused")
     if script(trial, "return document.body.dataset.controls") == "open":
@@ -218,7 +218,7 @@ def touches(trial, name):
     for apart in (50, 60, 70, 80):
         fingers(trial, "touchMove", (middle[0] - apart, middle[1]), (middle[0] + apart, middle[1]))
     fingers(trial, "touchEnd")
-    wait_for(trial, f"{name}: two fingers leave a width of {view_of(trial)[2]}", lambda: 0.4 * before < view_of(trial)[2] < 0.65 * before, 5)
+    wait_for(trial, f"{name}: two fingers leave a width of {view_of(trial)[2]}", lambda: 0.4 * before < view_of(trial)[2] < 0.65 * before, 10)
     trial.wait("whole")
     script(trial, "document.getElementById('fold').click()")
     small = script(trial, """return [...document.querySelectorAll("button, select, a.button, label.switch, input:not([type=checkbox])")]
@@ -286,9 +286,9 @@ def thread_seconds(trial):
 # ---- once
 
 
-def small_change(trial):
-    """One pixel more by one, which the mean of 256 doesn't show: the page finds it a little later."""
-    survey, view = trial.survey, (80, 20, 4)
+def small_change(trial, sent):
+    """One pixel more by one, which the mean of 256 doesn't show: the page finds it a little later, and slowly."""
+    survey, view = trial.survey, (80, 20, 12)
     resize(trial, 700, 420, False)
     trial.open(trial.hash(view))
     leaf = int(healpy.ang2pix(2**survey.top, *view[:2], nest=True, lonlat=True))
@@ -297,15 +297,21 @@ def small_change(trial):
     data[place + 1] ^= 1
     before = int(trial.state()[1])
     trial.ask("PUT", "/" + tile_path(survey.top, leaf), bytes(data))
+    sent.clear()
+    begun = time.monotonic()
     trial.ask("POST", "/publish")
     trial.wait("whole", str(before + 1))
-    wait_for(trial, "a small change isn't looked for", lambda: script(trial, "return document.body.dataset.sure") == "1", 20)
+    wait_for(trial, "a small change isn't looked for", lambda: script(trial, "return document.body.dataset.sure") == "1", 25)
+    rate = sum(size for _, size in sent) / (time.monotonic() - begun)
     is_said(trial, "a small change", "changed 1 tile of order 4", script(trial, "return document.getElementById('news').textContent"))
+    if rate > MOST_BYTES_OF_A_PUBLICATION:
+        trial.blame(f"looking for a small change costs {rate} bytes a second")
+    print(f"check-atlas: a change that coarser tiles don't show is found after {time.monotonic() - begun:.1f} s, by {rate / 1000:.0f} kB a second")
     resize(trial, *SIZES["1280 by 800"])
 
 
 def once(trial, sent, catalogue):
-    small_change(trial)
+    small_change(trial, sent)
     edits_by_astropy(trial)
     on_a_slow_line(trial, sent)
     begins_as_told(trial)
@@ -394,7 +400,7 @@ def is_galactic(trial):
     place = trial.browser.find_element(By.ID, "place")
     place.send_keys("184.5 -5.8", Keys.ENTER)
     crab = SkyCoord(184.5 * units.deg, -5.8 * units.deg, frame="galactic").icrs
-    wait_for(trial, f"a galactic position leads to {view_of(trial)}", lambda: numpy.allclose(view_of(trial)[:2], (crab.ra.deg, crab.dec.deg), atol=1e-4), 5)
+    wait_for(trial, f"a galactic position leads to {view_of(trial)}", lambda: numpy.allclose(view_of(trial)[:2], (crab.ra.deg, crab.dec.deg), atol=1e-4), 10)
 
 
 def goes_back(trial):
@@ -403,10 +409,10 @@ def goes_back(trial):
     for text in ("81 20", "82 21"):
         place.clear()
         place.send_keys(text, Keys.ENTER)
-        wait_for(trial, "a position", lambda text=text: view_of(trial)[:2] == tuple(map(float, text.split())), 5)
+        wait_for(trial, "a position", lambda text=text: view_of(trial)[:2] == tuple(map(float, text.split())), 10)
     for step, expected in ((trial.browser.back, (81, 20)), (trial.browser.back, VIEW[:2]), (trial.browser.forward, (81, 20)), (trial.browser.back, VIEW[:2])):
         step()
-        wait_for(trial, f"Back and Forward lead to {view_of(trial)} in place of {expected}", lambda expected=expected: view_of(trial)[:2] == expected, 5)
+        wait_for(trial, f"Back and Forward lead to {view_of(trial)} in place of {expected}", lambda expected=expected: view_of(trial)[:2] == expected, 10)
     trial.wait("whole")
     trial.compare("after Back and Forward", VIEW, trial.survey.deep)
 
@@ -471,7 +477,7 @@ def shows_sources(trial, catalogue):
     trial.page.catalogue = catalogue
     view = (80, 20, 20)
     trial.open(trial.hash(view, "grid=0&coverage=0&cells=0&changes=0&colours=grey&bend=0&catalogue=1"))
-    wait_for(trial, "no catalogue is shown", lambda: script(trial, "return !document.getElementById('has-catalogue').hidden"), 5)
+    wait_for(trial, "no catalogue is shown", lambda: script(trial, "return !document.getElementById('has-catalogue').hidden"), 10)
     is_said(trial, "the catalogue's name", "Made sources (3 sources)", script(trial, "return document.getElementById('catalogue-title').textContent"))
     time.sleep(0.6)
     picture = trial.shot()

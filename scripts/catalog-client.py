@@ -195,6 +195,8 @@ def refuses(folder, program):
         blame("a catalogue that is refused changes the one that is there")
     (folder / "wide.csv").write_text("id,ra,dec,mag,note,flag\nA,1,2,3," + "x" * 250 + ",7\nB,1,2,3,y,8\n")
     catalog(0, "left out, since they don't fit the 256 bytes of a rest: note of 1 sources, flag of 1 sources", program, folder / "wide.csv", folder / "wide")
+    if [path.name for path in sorted((folder / "wide").glob("Norder*"))] != ["Norder1"]:
+        blame("a catalogue of two sources has other orders than 1")
 
 
 def aladin_sees(table, place, folder):

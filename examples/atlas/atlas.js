@@ -242,8 +242,8 @@ class Atlas {
         say("message", fault ? faultText(fault, generation) : "");
         element("message").hidden = !fault;
         const state = fault ? "away" : isWhole && !this.isMoving ? "whole" : "loading";
-        const isSure = state === "whole" && generation.unsure.size === 0;
-        const data = { state, generation: generation ? String(generation.prefix) : "", sure: isSure ? "1" : "0" };
+        const sure = state === "whole" && this.live.isSure ? "1" : "0";
+        const data = { state, generation: generation ? String(generation.prefix) : "", sure };
         for (const [name, value] of Object.entries(data)) if (document.body.dataset[name] !== value) document.body.dataset[name] = value;
         const loading = coming && generation ? "next generation is coming" : "loading";
         say("state", { away: generation ? "no server" : "no survey", whole: "complete", loading }[state]);
@@ -438,7 +438,7 @@ class Atlas {
     turnTheme() {
         const theme = document.documentElement.dataset.theme === "dark" ? "light" : "dark";
         document.documentElement.dataset.theme = theme;
-        window.localStorage.setItem("atlas-theme", theme);
+        remembered((storage) => storage.setItem("atlas-theme", theme));
     }
 
     /** Goes to a position that is written, or says what is wrong with it. */
@@ -497,9 +497,18 @@ class Atlas {
     }
 }
 
+/** What the browser remembers of this page, where it may. */
+function remembered(use) {
+    try {
+        return use(window.localStorage);
+    } catch {
+        return null;
+    }
+}
+
 const words = new URLSearchParams(window.location.search);
 const isDark = window.matchMedia("(prefers-color-scheme: dark)").matches;
-document.documentElement.dataset.theme = window.localStorage.getItem("atlas-theme") ?? (isDark ? "dark" : "light");
+document.documentElement.dataset.theme = remembered((storage) => storage.getItem("atlas-theme")) ?? (isDark ? "dark" : "light");
 const address = (words.get("survey") ?? document.body.dataset.survey).replace(/\/$/, "");
 const atlas = new Atlas(address, (words.get("catalogue") ?? document.body.dataset.catalogue).replace(/\/$/, ""), words.get("draw"));
 atlas.connect();

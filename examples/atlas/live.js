@@ -9,6 +9,8 @@ const PAUSE = 1000;
 const PAUSE_FOR_OLDER = 300;
 const PAUSE_FOR_OTHERS = 20;
 const QUIET = 2500;
+// Looking at tiles that were kept costs at most so many bytes a second.
+const BYTES_TO_CHECK = 100_000;
 const FETCHES_AT_ONCE = 6;
 const MOST_TILES = 600;
 // A cache before the server may answer from the generation before for a second; a server that began anew does so for longer.
@@ -141,16 +143,22 @@ export class Live {
         this.tell(null);
     }
 
-    /** Looks at the tiles in view that were kept of the generation before, one after another. */
+    /** Looks at tiles in view that were kept of the generation before, one after another, as long as the bytes of this second last. */
     async check(generation) {
         if (this.isChecking) return;
         this.isChecking = true;
+        this.bytesLeft = Math.min(BYTES_TO_CHECK, (this.bytesLeft ?? 0) + BYTES_TO_CHECK);
+        const get = async (path) => {
+            const bytes = await this.get(generation, path);
+            this.bytesLeft -= bytes?.byteLength ?? 0;
+            return bytes;
+        };
         try {
             const { order, cells } = this.page.inView(generation);
             for (const cell of cells) {
                 if (!generation.keeps(order, cell)) continue;
-                if (!this.isCurrent(generation) || generation !== this.shown) return;
-                if (await generation.check((path) => this.get(generation, path), order, cell)) this.changes?.cells.push(cell);
+                if (this.bytesLeft <= 0 || !this.isCurrent(generation) || generation !== this.shown) return;
+                if (await generation.check(get, order, cell)) this.changes?.cells.push(cell);
                 this.page.changed();
             }
         } catch (fault) {
@@ -158,6 +166,13 @@ export class Live {
         } finally {
             this.isChecking = false;
         }
+    }
+
+    /** Whether each tile in view is known to be of the generation that is shown. */
+    get isSure() {
+        if (!this.isWhole) return false;
+        const { order, cells } = this.page.inView(this.shown);
+        return this.shown.unsure.size === 0 || !cells.some((cell) => this.shown.keeps(order, cell));
     }
 
     lacking(generation) {

@@ -7,3 +7,4 @@ pub mod Stream
 pub mod Faults
 pub mod ShelfPath
 pub mod Folder
+pub mod Turns
