@@ -9,17 +9,24 @@
 #     examples/edit.sh publish              all edits so far are published, in one new generation
 #     examples/edit.sh get PATH             a file of the newest generation, to standard output
 #     examples/edit.sh read PATH ..         files of one generation, each at its path below the current folder
-#     examples/edit.sh replay FOLDER ADDRESS    the edits and publications of a journal, in order, to a fresh server
+#     examples/edit.sh replay FOLDER ADDRESS [EDITS]   the edits and publications of a journal, in order, to a fresh server, or to
+#                                           one that has accepted EDITS edits of others
 #
 # HIPSD is the server's address, http://127.0.0.1:8080 if it isn't set; curl takes a password from ~/.netrc.
 # With a folder in HIPSD_JOURNAL each edit, batch and publication is written there and is on the disk before it is sent, and is marked
-# once it is answered. So a server that ended can have its edits again, by `replay`, over the folder that it was started with.
+# once it is answered. So a server that ended can have its edits again, by `replay`, over the folder that it was started with. If the
+# server has started again since the journal's last edit, its number of edits shows it: then nothing is sent.
+# If nobody listens, or the reply is 429 or 503, nothing was changed: the edit is sent again after 1, 2, 4, 8 and 16 seconds, six times in
+# all, or HIPSD_TRIES times. An edit that may have been accepted is never sent again.
 # The status is 0 where the server did what was asked, and its reply is written as it came; 1 where not; 2 where the words are wrong,
 # and then nothing was sent.
 set -eu
+export LC_ALL=C
 base=${HIPSD:-http://127.0.0.1:8080}
 base=${base%/}
 journal=${HIPSD_JOURNAL:-}
+tries=${HIPSD_TRIES:-6}
+case $journal in '' | /*) ;; *) journal=./$journal ;; esac
 
 work=$(mktemp -d)
 trap 'rm -rf "$work"' EXIT
@@ -37,6 +44,14 @@ fail() {
     exit 1
 }
 
+# whole NUMBER: whether this is a plain decimal of at most nine digits.
+whole() {
+    case $1 in
+        0) ;;
+        '' | 0* | *[!0-9]* | ??????????*) return 1 ;;
+    esac
+}
+
 # wants COUNT WORD NAME ..: refuses a command that has fewer words than NAMEs, and says which are missing, or more.
 wants() {
     count=$1 command=$2
@@ -49,25 +64,27 @@ wants() {
 
 # quietly WORD ..: curl, in words that a person can read where it fails.
 quietly() {
-    curl -sS --netrc-optional "$@"
+    curl -sS --globoff --proto '=http,https' --netrc-optional "$@"
+}
+
+# address ADDRESS: refuses what is no address, before it gets into curl's configuration.
+address() {
+    case $1 in '' | *[!!-~]* | *[\"\\]*) refuse "'$1' is no address of a server" ;; esac
+}
+
+# fetch WORD ..: curl, for what can be asked for again.
+fetch() {
+    quietly --fail --max-time 60 --retry $((tries - 1)) --retry-connrefused "$@"
 }
 
 # ---- what is sent
 
 # hips_order of the survey: its leaves are of this order.
 order_of_survey() {
-    quietly --fail --max-time 60 -o "$work/properties" "$base/properties" || fail "there are no properties at $base"
+    fetch -o "$work/properties" --url "$base/properties" || fail "there are no properties at $base"
     order=$(sed -n 's/^hips_order = \([0-9][0-9]*\)$/\1/p' "$work/properties")
     [ -n "$order" ] || fail "$base/properties has no hips_order"
     echo "$order"
-}
-
-# whole NUMBER: whether this is a plain decimal of at most nine digits.
-whole() {
-    case $1 in
-        0) ;;
-        '' | 0* | *[!0-9]* | ??????????*) return 1 ;;
-    esac
 }
 
 # leaf_path NUMBER: the path of the leaf's tile.
@@ -79,24 +96,27 @@ leaf_path() {
     echo "Norder$order/Dir$(($1 / 10000 * 10000))/Npix$1.fits"
 }
 
-# tile FILE: refuses what can't be a tile's file.
+# tile FILE: takes the file of a tile into $work/body, and refuses what can't be one.
 tile() {
     [ -f "$1" ] || refuse "there is no file $1"
     [ -r "$1" ] || refuse "$1 can't be read"
-    [ "$(head -c 10 "$1" | tr -d '\000')" = 'SIMPLE  = ' ] || refuse "$1 is no FITS file: it doesn't begin with 'SIMPLE  = '"
+    cp -- "$1" "$work/body"
+    [ "$(head -c 10 "$work/body" | tr -d '\000')" = 'SIMPLE  = ' ] || refuse "$1 is no FITS file: it doesn't begin with 'SIMPLE  = '"
 }
 
-# send EDIT PATH BODY ADDRESS: makes one request; its head and body are in $work/reply. The status is curl's.
+# send EDIT PATH BODY ADDRESS: makes one request; head and body of its reply are in $work/reply. The status is curl's.
 send() {
+    url=$4/$2
     case $1 in
-        put) set -- "$4/$2" -T "$3" ;;
-        add) set -- "$4/$2" -T "$3" -H 'If-None-Match: *' ;;
-        replace) set -- "$4/$2" -T "$3" -H 'If-Match: *' ;;
-        remove) set -- "$4/$2" -X DELETE ;;
-        batch) set -- "$4/batch" -X POST -H 'Content-Type:' --data-binary "@$3" ;;
-        publish) set -- "$4/publish" -X POST ;;
+        put) set -- -T "$3" ;;
+        add) set -- -T "$3" -H 'If-None-Match: *' ;;
+        replace) set -- -T "$3" -H 'If-Match: *' ;;
+        remove) set -- -X DELETE ;;
+        batch) url=$4/batch && set -- -X POST -H 'Content-Type:' --data-binary "@$3" ;;
+        publish) url=$4/publish && set -- -X POST ;;
+        *) fail "'$1' is no edit" ;;
     esac
-    quietly -i -H 'Expect:' --max-time 600 -o "$work/reply" "$@"
+    quietly -i -H 'Expect:' --max-time 600 -o "$work/reply" --url "$url" "$@"
 }
 
 # answer: the last reply's code, its number of edits or of the published prefix, and the first line of its body, in one line.
@@ -109,6 +129,35 @@ answer() {
         END { print code " " number text }'
 }
 
+# sends EDIT PATH BODY ADDRESS: the same, and again while nothing was changed. $reply is the answer, `unsent` if nobody listens, and empty
+# if none came.
+sends() {
+    try=1 pause=1
+    while :; do
+        ended=0
+        send "$@" || ended=$?
+        case $ended in
+            0) reply=$(answer) ;;
+            6 | 7) reply=unsent ;;
+            *) reply= ;;
+        esac
+        case $reply in unsent | '429 '* | '503 '*) ;; *) return 0 ;; esac
+        [ "$try" -lt "$tries" ] || return 0
+        echo "edit.sh: nothing was changed at $4 ($reply); trying again in $pause seconds" >&2
+        sleep "$pause"
+        try=$((try + 1)) pause=$((pause * 2))
+    done
+}
+
+# count_edits ADDRESS: $count is how many edits the server has accepted. No leaf can be removed twice in one batch: so this one is
+# refused in any state, changes nothing, and is answered with their number.
+count_edits() {
+    printf 'remove 0\nremove 0\n' >"$work/twice"
+    sends batch - "$work/twice" "$1"
+    count=$(echo "$reply" | cut -d ' ' -f 2)
+    whole "$count" || fail "nothing was sent, since $1 doesn't say how many edits it has accepted: ${reply:-no answer}"
+}
+
 # accepted ANSWER: whether the server did what was asked.
 accepted() {
     case $1 in 2[0-9][0-9]' '*) ;; *) return 1 ;; esac
@@ -119,112 +168,257 @@ known() {
     case $1 in '' | ' '* | 502' '* | 504' '*) return 1 ;; esac
 }
 
-# ---- the journal: NUMBER.edit is one line, the edit and its path; NUMBER.body its body; NUMBER.answer what it was answered
+# ---- a refusal in words
+
+# card FILE NUMBER: a card of a header.
+card() {
+    whole "$2" || return 0
+    dd if="$1" bs=80 skip=$(($2 - 1)) count=1 2>/dev/null | tr -cd '[:print:]' | sed 's/ *$//'
+}
+
+# fault FILE WORD ..: why the file of a tile is refused (docs/FORMATS.md, 'Tile files'). Of a batch there is no FILE.
+fault() {
+    file=$1
+    shift
+    case $* in
+        '1 header 1') echo "it ends within its header" ;;
+        '1 header 2 '*) echo "byte $4 of its header, from 0, is no printable ASCII" ;;
+        '1 header 3') echo "its header has no END card" ;;
+        '1 header '[45]' '*)
+            text=$(card "${file:-/dev/null}" "$4")
+            if [ "$3" = 5 ]; then echo "card $4 has the keyword of an earlier card${text:+: $text}"; else
+                echo "card $4 has no value of its kind${text:+: $text}"
+                case $text in BLANK*) echo "(it must be a whole number: import-hipsgen.py mends what HipsGen wrote)" ;; esac
+            fi
+            ;;
+        '2 simple') echo "its first card isn't SIMPLE = T" ;;
+        '3 bitpix -'*) echo "its pixels are real numbers (BITPIX $3): HipsGen makes whole ones by hips_pixel_bitpix=16 or 32" ;;
+        '3 bitpix '*) echo "BITPIX is $3, which isn't the survey's" ;;
+        '4 naxis '*) echo "NAXIS is $3 in place of 2" ;;
+        '5 width '*) echo "NAXIS$3 is $4, which isn't the survey's hips_tile_width" ;;
+        '6 scale') echo "BSCALE isn't the survey's" ;;
+        '7 zero') echo "BZERO isn't the survey's" ;;
+        '8 blank '*) echo "BLANK is $3, which isn't the survey's" ;;
+        '9 truncated '*) echo "$3 bytes of its pixels are missing" ;;
+        '10 trailing '*) echo "$3 bytes follow its pixels: further parts of a FITS file aren't taken" ;;
+        *) echo "$*" ;;
+    esac
+}
+
+# explain EDIT BODY ANSWER: what a refusal means, and what helps.
+explain() {
+    edit=$1 body=$2 answer=$3
+    number=${answer#* batch }
+    number=${number#refused }
+    number=${number%% *}
+    # shellcheck disable=SC2086 # the words of a fault
+    case $answer in
+        *' limit 3') echo "65,536 edits were accepted, and the server takes no more: renew it (rollover.sh)" ;;
+        *' limit 4')
+            echo "the tiles at the start and all accepted since fill the memory that a server has for them"
+            echo "renew it (rollover.sh): the next one starts with the present tiles alone"
+            ;;
+        '401 '*) echo "a name and a password are needed in ~/.netrc, or those there are wrong" ;;
+        '404 '*' absent') echo "the leaf has no tile" ;;
+        '412 '*' batch '*)
+            echo "entry $number of the batch, from 0, adds a leaf that has a tile, or replaces or removes one that has none: nothing was changed"
+            ;;
+        '412 '*) if [ "$edit" = add ]; then echo "the leaf has a tile already"; else echo "the leaf has no tile"; fi ;;
+        '413 '*) echo "it is too large: a batch has at most 1,024 entries, and four times the bytes of the largest tile" ;;
+        '422 '*' many') echo "a batch has at most 1,024 entries" ;;
+        '422 '*' line')
+            echo "entry $number, from 0, is no line 'put LEAF LENGTH', 'add LEAF LENGTH', 'replace LEAF LENGTH' or 'remove LEAF'"
+            ;;
+        '422 '*' short') echo "the file of entry $number, from 0, has fewer bytes than its LENGTH" ;;
+        '422 '*' batch refused '*)
+            echo "the file of entry $number, from 0, is no tile of this survey: $(fault '' ${answer#* batch refused "$number" })"
+            ;;
+        '422 '*' tile refused '*) echo "the file is no tile of this survey: $(fault "$body" ${answer#* tile refused })" ;;
+        '429 '* | '503 '*) echo "nothing was changed, since the server is busy or paused: try again later" ;;
+    esac | sed 's/^/edit.sh: /' >&2
+}
+
+# ---- the journal: NUMBER.edit is one line, the edit, its path and when it was sent; NUMBER.body its body; NUMBER.answer what it was
+# answered, and NUMBER.again what it was answered by the last server to which the journal was replayed
+
+# names FOLDER: the names of a journal's entries, in order.
+names() {
+    find "$1/" -maxdepth 1 -name '[0-9][0-9][0-9][0-9][0-9][0-9][0-9][0-9].edit' -printf '%f\n' | sed 's/[.]edit$//' | sort
+}
+
+# file PATH: whether it is a file, and no link: a journal may come from anybody.
+file() {
+    [ -f "$1" ] && [ ! -L "$1" ]
+}
+
+# entry FOLDER NAME: $edit and $path of an entry, which is judged whole before anything of it is used.
+entry() {
+    file "$1/$2.edit" || fail "$1/$2.edit is no file"
+    line=$(head -c 200 "$1/$2.edit")
+    case $line in
+        *[!A-Za-z0-9/.:\ -]*) line= ;;
+    esac
+    echo "$line" | grep -qxE '((put|add|replace|remove) Norder[0-9]+/Dir[0-9]+/Npix[0-9]+[.]fits|(batch|publish) -)( [0-9]{4}(-[0-9]{2}){2}T([0-9]{2}:){2}[0-9]{2}Z)?' ||
+        fail "$1/$2.edit is no entry of a journal"
+    edit=${line%% *}
+    path=${line#* }
+    path=${path%% *}
+    case $edit in
+        remove | publish) ;;
+        *) file "$1/$2.body" || fail "$1/$2.body is no file" ;;
+    esac
+}
+
+# answered FOLDER NAME: what an entry was answered last; nothing if it wasn't.
+answered() {
+    for answer in "$1/$2.again" "$1/$2.answer"; do
+        if file "$answer"; then
+            head -c 300 "$answer" | head -n 1 | tr -cd '[:print:]'
+            return
+        fi
+    done
+}
+
+# same_history: ends this if the server has fewer edits than after the journal's last entry, $behind.
+same_history() {
+    behind=0
+    names "$journal" | sort -r >"$work/names"
+    while read -r name <&8; do
+        last=$(answered "$journal" "$name")
+        accepted "$last" || continue
+        behind=$(echo "$last" | cut -d ' ' -f 2)
+        whole "$behind" || fail "$journal/$name.answer has no number of edits: $last"
+        break
+    done 8<"$work/names"
+    [ "$behind" -gt 0 ] || return 0
+    count_edits "$base"
+    [ "$count" -lt "$behind" ] || return 0
+    fail "nothing was sent: $base has $count edits, and had $behind after the last one of $journal. So it has started again, from its folder.
+    If the folder has these edits (rollover.sh renewed the server): start a new journal, another folder in HIPSD_JOURNAL.
+    If not: 'edit.sh replay $journal $base' sends them again, in order."
+}
+
+# locked FOLDER: one at a time, so that the journal has the edits in the order in which the server has accepted them.
+locked() {
+    [ -w "$1" ] || fail "nothing was sent: $1 can't be written"
+    (set -C && : >"$1/lock") 2>/dev/null || file "$1/lock" || fail "$1/lock is no file"
+    exec 9>>"$1/lock"
+    flock 9
+}
+
+# keep FILE: what is read becomes this file of the journal, on the disk. Nothing is written through a link.
+keep() {
+    rm -f "$1.new"
+    (set -C && cat >"$1.new")
+    sync "$1.new"
+    mv -T "$1.new" "$1"
+}
 
 # record EDIT PATH BODY: writes an entry, hands it to the disk, and says its name.
 record() {
-    last=$(find "$journal" -maxdepth 1 -name '*.edit' | sed 's#.*/##; s/[.]edit$//' | sort | tail -n 1 | sed 's/^0*//')
+    last=$(names "$journal" | tail -n 1 | sed 's/^0*//')
     entry=$journal/$(printf '%08d' $((${last:-0} + 1)))
-    if [ -n "$3" ]; then
-        cp -- "$3" "$entry.body"
-        sync "$entry.body"
-    fi
-    echo "$1 $2" >"$entry.edit.new"
-    sync "$entry.edit.new"
-    mv "$entry.edit.new" "$entry.edit"
+    [ -z "$3" ] || keep "$entry.body" <"$3"
+    echo "$1 $2 $(date -u +%Y-%m-%dT%H:%M:%SZ)" | keep "$entry.edit"
     sync "$journal"
     echo "$entry"
 }
 
-# mark ENTRY ANSWER: what it was answered.
+# mark FILE ANSWER: what an entry was answered.
 mark() {
-    echo "$2" >"$1.answer.new"
-    sync "$1.answer.new"
-    mv "$1.answer.new" "$1.answer"
+    printf '%s\n' "$2" | keep "$1"
     sync "$journal"
 }
 
-# edit EDIT PATH BODY: sends it, by way of the journal where there is one. One edit at a time, so that the journal has them in the
-# order in which the server has accepted them.
+# edit EDIT PATH BODY: sends it, by way of the journal where there is one.
 edit() {
     entry=
     if [ -n "$journal" ]; then
+        umask 077
         if [ ! -d "$journal" ]; then
             mkdir -p "$journal"
             sync "$(dirname "$journal")"
         fi
-        exec 9>"$journal/lock"
-        flock 9
+        locked "$journal"
+        same_history
         entry=$(record "$@")
     fi
-    ended=0
-    send "$@" "$base" || ended=$?
-    case $ended in
-        0) reply=$(answer) ;;
-        6 | 7) reply='unsent' ;;
-        *) reply= ;;
-    esac
+    sends "$@" "$base"
     known "$reply" || fail "not answered, so it isn't known whether it was accepted${entry:+; it stands in $entry.edit}"
-    [ -z "$entry" ] || mark "$entry" "$reply"
+    [ -z "$entry" ] || mark "$entry.answer" "$reply"
     [ "$reply" != unsent ] || fail "not sent, since nothing listens at $base"
     cat "$work/reply"
-    accepted "$reply"
+    accepted "$reply" && return
+    explain "$1" "$3" "$reply"
+    return 1
 }
 
 # ---- the journal, sent again
 
-# fresh ADDRESS: refuses a server that has accepted edits. No leaf can be removed twice in one batch: so this one is refused in any
-# state, changes nothing, and is answered how many edits there are.
-fresh() {
-    printf 'remove 0\nremove 0\n' >"$work/twice"
-    send batch - "$work/twice" "$1" || fail "there is no answer at $1"
-    edits=$(answer | cut -d ' ' -f 2)
-    [ "$edits" = 0 ] || fail "the server at $1 is no fresh one: it has accepted ${edits:-an unknown number of} edits"
-}
-
-# again ENTRY ADDRESS: sends an entry, and compares its answer with the one that it had. Says nothing where they are the same.
+# again NAME ADDRESS: sends an entry that was accepted, or never answered, and compares its answer with the one that it had last. Says
+# nothing where they are the same; where edits of others stand before it, its number is another one.
 again() {
-    read -r edit path <"$1.edit"
-    name=$(basename "$1")
-    was=$(cat "$1.answer" 2>/dev/null) || was='never answered'
-    case $was in
-        2[0-9][0-9]' '* | 'never answered') ;;
-        *) return 0 ;;
-    esac
-    now=
-    send "$edit" "$path" "$1.body" "$2" && now=$(answer)
-    known "$now" || fail "$name, $edit $path: not answered. The replay ends here; begin again, with a fresh server"
+    entry "$journal" "$1"
+    first=
+    ! file "$journal/$1.answer" || first=$(head -c 300 "$journal/$1.answer")
+    [ -z "$first" ] || accepted "$first" || return 0
+    was=$(answered "$journal" "$1")
+    sends "$edit" "$path" "$journal/$1.body" "$2"
+    { known "$reply" && [ "$reply" != unsent ]; } || fail "$1, $edit $path: not answered. The replay ends here; begin again, with a fresh server"
     sent=$((sent + 1))
-    [ "$was" = "$now" ] && return
-    echo "$name, $edit $path: was $was, is $now"
+    echo "$1 $reply" >>"$work/again"
+    if [ "$others" = 0 ]; then [ "$was" != "$reply" ] || return 0; else [ "${was%% *}" != "${reply%% *}" ] || return 0; fi
+    echo "$1, $edit $path: was ${was:-never answered}, is $reply"
     differing=$((differing + 1))
 }
 
-# replay FOLDER ADDRESS
+# replay FOLDER ADDRESS [EDITS]: nothing is sent before all entries were judged.
 replay() {
     [ -d "$1" ] || refuse "there is no folder $1"
-    find "$1" -maxdepth 1 -name '*.edit' | sort >"$work/entries"
-    address=${2%/}
-    fresh "$address"
+    case $1 in /*) journal=$1 ;; *) journal=./$1 ;; esac
+    address "$2"
+    others=${3:-0}
+    whole "$others" || refuse "'$others' is no number of edits"
+    umask 077
+    locked "$journal"
+    names "$journal" >"$work/names"
+    while read -r name <&8; do entry "$journal" "$name"; done 8<"$work/names"
+    count_edits "${2%/}"
+    [ "$count" = "$others" ] || fail "nothing was sent: the server at $2 is no fresh one: it has accepted $count edits.
+    If they are those of this journal, nothing is missing. If they are others, there are two ways:
+    - start it again over its folder, which loses them, and replay then;
+    - 'edit.sh replay $1 $2 $count' sends the journal's edits after them; if both change a leaf, the journal's tile stays."
     sent=0 differing=0
-    while read -r entry <&8; do again "${entry%.edit}" "$address"; done 8<"$work/entries"
-    echo "$(wc -l <"$work/entries") entries: $sent sent again, the others weren't accepted; $differing answered otherwise than before"
+    : >"$work/again"
+    while read -r name <&8; do again "$name" "${2%/}"; done 8<"$work/names"
+    while read -r name reply <&8; do printf '%s\n' "$reply" | keep "$journal/$name.again"; done 8<"$work/again"
+    sync "$journal"
+    echo "$(wc -l <"$work/names") entries: $sent sent again, the others weren't accepted; $differing answered otherwise than before"
     [ "$differing" = 0 ]
 }
 
 # ---- what is read
 
-# path PATH: refuses what is no path of a survey's file.
+# path PATH: refuses what is no path of a survey's file, judged whole.
 path() {
     case $1 in
-        properties | Moc.fits | Norder3/Allsky.fits) ;;
-        *) echo "$1" | grep -qxE 'Norder[0-9]+/Dir[0-9]+/Npix[0-9]+[.]fits' || refuse "'$1' is no path of a survey's file" ;;
+        properties | Moc.fits | Norder3/Allsky.fits) return ;;
+        *[!A-Za-z0-9/.]*) ;;
+        *) echo "$1" | grep -qxE 'Norder[0-9]+/Dir[0-9]+/Npix[0-9]+[.]fits' && return ;;
     esac
+    refuse "'$1' is no path of a survey's file"
+}
+
+# said NAME VALUE: a line of curl's configuration.
+said() {
+    printf '%s = "%s"\n' "$1" "$(printf '%s' "$2" | sed 's/[\\"]/\\&/g')"
 }
 
 # group NAME: the words by which curl makes one request of a row; what it was answered goes to the file NAME.
 group() {
-    printf 'silent\nshow-error\nfail\nnetrc-optional\ncreate-dirs\nmax-time = 60\ndump-header = "%s/heads/%s"\n' "$work" "$1"
+    printf 'silent\nshow-error\nfail\ngloboff\nnetrc-optional\ncreate-dirs\nmax-time = 60\n'
+    said proto '=http,https'
+    said dump-header "$work/heads/$1"
     printf 'write-out = "%%{http_code} %%{url_effective}\\n"\n'
 }
 
@@ -234,13 +428,16 @@ read_files() {
     for path; do path "$path"; done
     {
         group pin
-        printf 'request = POST\nurl = "%s/pin"\noutput = "%s/pinned"\n' "$base" "$work"
+        printf 'request = POST\nretry = %d\nretry-connrefused\n' $((tries - 1))
+        said url "$base/pin"
+        said output "$work/pinned"
         number=0
         for path; do
             echo next
             number=$((number + 1))
             group "$number"
-            printf 'url = "%s/%s"\noutput = "%s/files/%s"\n' "$base" "$path" "$work" "$path"
+            said url "$base/$path"
+            said output "$work/files/$path"
         done
     } >"$work/config"
     mkdir "$work/heads"
@@ -258,12 +455,14 @@ read_files() {
 
 command=${1:-}
 [ $# = 0 ] || shift
+address "$base"
+{ whole "$tries" && [ "$tries" -gt 0 ]; } || refuse "HIPSD_TRIES is '$tries': how often an edit is sent, 1 or more"
 case $command in
     put | add | replace)
         wants $# "$command" LEAF FILE
         tile "$2"
         path=$(leaf_path "$1")
-        edit "$command" "$path" "$2"
+        edit "$command" "$path" "$work/body"
         ;;
     remove)
         wants $# remove LEAF
@@ -285,14 +484,14 @@ case $command in
     get)
         wants $# get PATH
         path "$1"
-        quietly --fail --max-time 60 "$base/$1"
+        fetch --url "$base/$1"
         ;;
     read)
         [ $# -gt 0 ] || refuse "read wants at least one PATH"
         read_files "$@"
         ;;
     replay)
-        wants $# replay FOLDER ADDRESS
+        [ $# = 3 ] || wants $# replay FOLDER ADDRESS
         replay "$@"
         ;;
     *)

@@ -29,6 +29,9 @@ import zlib
 from pathlib import Path
 
 CARD, BLOCK = 80, 2880
+# The longest file that hipsd takes as a tile, 512 by 512 pixels of 64 bits behind 37 blocks, and more than any list of properties.
+LARGEST_TILE = 37 * BLOCK + -(-512 * 512 * 8 // BLOCK) * BLOCK
+LARGEST_LIST = 1 << 20
 # The keys of a description that HiPS 1.0 fixes and hipsd reads; all others that HIPS has are kept as they are.
 OWN = {"hips_order", "hips_order_min", "hips_tile_width", "hips_tile_format", "hips_frame", "hips_version", "dataproduct_type"}
 # These speak of the files that HipsGen wrote or of where they stand, and not of those that hipsd makes.
@@ -46,10 +49,12 @@ class Refused(Exception):
 def properties(folder):
     """The keys and values of HIPS/properties, in their order."""
     path = folder / "properties"
+    if not path.is_file():
+        raise Refused(f"there is no {path}: {folder} is no HiPS")
+    if path.stat().st_size > LARGEST_LIST:
+        raise Refused(f"{path} is too large")
     try:
         text = path.read_text(encoding="utf-8")
-    except FileNotFoundError:
-        raise Refused(f"there is no {path}: {folder} is no HiPS") from None
     except UnicodeDecodeError:
         raise Refused(f"{path} isn't written in UTF-8") from None
     found = {}
@@ -116,11 +121,18 @@ def tile_with(file, blank):
 
 
 def read_tile(path):
-    file = path.read_bytes()
-    try:
-        return gzip.decompress(file) if file[:2] == b"\x1f\x8b" else file
-    except (EOFError, gzip.BadGzipFile, zlib.error):
-        raise Refused("this is no whole gzip file") from None
+    """The bytes of a tile, unpacked. No more is read or unpacked than a tile can have."""
+    if not path.is_file():
+        raise Refused("this is no file")
+    with path.open("rb") as file:
+        packed = file.peek(2)[:2] == b"\x1f\x8b"
+        try:
+            data = (gzip.GzipFile(fileobj=file) if packed else file).read(LARGEST_TILE + 1)
+        except (EOFError, gzip.BadGzipFile, zlib.error):
+            raise Refused("this is no whole gzip file") from None
+    if len(data) > LARGEST_TILE:
+        raise Refused(f"it has more than the {LARGEST_TILE} bytes that a tile can have")
+    return data
 
 
 def blank_of(cards):

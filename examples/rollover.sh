@@ -1,70 +1,121 @@
 #!/bin/bash
-# Renews a server without an outage: readers are served all the while, and no edit that was accepted is lost. It goes on from a copy
-# of what the server has published, which is made and checked first (backup.sh).
+# Renews a server without an outage: readers are served throughout, and no accepted edit is lost. The new server goes on from a checked
+# copy of what the old one has published (backup.sh).
 #
-#     examples/rollover.sh OLD NEW FOLDER
+#     examples/rollover.sh [--when PERCENT] [--release-date] [OLD NEW]
 #
-# OLD is the address of the server that runs, NEW an address of this machine where nobody listens, both as nginx.conf spells them
-# (127.0.0.1:8080, 127.0.0.1:8081). FOLDER is the link that backup.sh keeps.
+# OLD is the address of the running server, NEW an address of this machine where nobody listens, as nginx spells them (127.0.0.1:8080,
+# 127.0.0.1:8081). Without them OLD is where nginx goes, and NEW the same with port 8081, or with 8080 if OLD has 8081.
 #
-# 1. Edits are paused at the proxy: the file HIPSD_PAUSED is there. Those that are on their way end.
-# 2. What was accepted is published, and copied by backup.sh. Where an edit came past the proxy meanwhile, this is done again.
-# 3. A second server is started over the copy. It has to serve the same properties and coverage.
-# 4. The proxy is turned to it: NEW stands in place of OLD in HIPSD_SITE. The first one is ended. Edits go on.
+# --when renews the server only if it has taken that percentage of the edits that it can take. It can take 65,536, and its leaves at the
+# start and the tiles of its edits may be 536,870,912 bytes; an edit that removes a leaf is counted as a tile too.
+# --release-date sets hips_release_date of the new server to the time of the copy.
 #
-# Where a step fails the server that runs goes on, edits go on, and the status is 1. The new server begins with no edits: its
-# Survey-Prefix is 0, and a journal of edits (edit.sh) begins anew.
+# 1. Edits are paused at the proxy by the file HIPSD_PAUSED. Edits in progress end.
+# 2. What was accepted is published, and backup.sh copies it into HIPSD_SERVERS, where a link with the port of NEW points to it. If an
+#    edit came past the proxy meanwhile, this is repeated.
+# 3. A second server starts over the copy. It must serve the same properties and coverage, and have no edits. If other users of this
+#    machine can't reach OLD (hipsd.nft), they must not reach NEW.
+# 4. NEW replaces OLD in HIPSD_SITE, and nginx reloads. The first server ends. Edits go on.
 #
-# These variables say how, with what stands here where nothing is said. The last three are commands; ADDRESS is set in them, and
-# FOLDER in the first.
-site=${HIPSD_SITE:-/etc/nginx/conf.d/hipsd.conf}
+# If a step fails, the first server and edits go on, and the status is 1. The new server has no edits: its Survey-Prefix is 0, and a
+# journal of edits (edit.sh) begins anew. After a reboot the new one starts.
+#
+# Variables, with their defaults. The last four are commands, which find ADDRESS, PORT and FOLDER set; HIPSD_STRANGER succeeds if an
+# ordinary user reaches the address.
+site=${HIPSD_SITE:-/etc/nginx/hipsd.port.conf}
+servers=${HIPSD_SERVERS:-/var/lib/hipsd}
 paused=${HIPSD_PAUSED:-/run/hipsd.paused}
 nginx_pid=${HIPSD_NGINX_PID:-/run/nginx.pid}
-# shellcheck disable=SC2016 # ADDRESS and FOLDER are for the shell that runs it
-begin=${HIPSD_BEGIN:-'systemd-run --quiet --unit="hipsd-${ADDRESS##*:}" --property=User=hipsd --property=WorkingDirectory="$FOLDER" \
-    --property=Restart=always --property=RestartSec=1 --property=RestartPreventExitStatus="1 2 3" /usr/local/bin/hipsd serve "$ADDRESS" 65536 64'}
+# shellcheck disable=SC2016 # PORT is for the shell that runs it
+begin=${HIPSD_BEGIN:-'systemctl enable --quiet --now "hipsd@$PORT"'}
 # shellcheck disable=SC2016
-finish=${HIPSD_FINISH:-'systemctl stop "hipsd-${ADDRESS##*:}" 2>/dev/null || systemctl disable --now hipsd'}
+finish=${HIPSD_FINISH:-'systemctl disable --quiet --now "hipsd@$PORT"'}
 reload=${HIPSD_RELOAD:-'nginx -t -q && nginx -s reload'}
+# shellcheck disable=SC2016
+stranger=${HIPSD_STRANGER:-'setpriv --reuid=nobody --regid=nogroup --clear-groups bash -c "exec 3<>/dev/tcp/\$0/\$1" "${ADDRESS%:*}" "$PORT" 2>/dev/null'}
 set -u
+# The server's user reads the copy.
+umask 022
 here=$(cd "$(dirname "$0")" && pwd) || exit 1
 
 say() {
     echo "rollover.sh: $*" >&2
 }
-if [ $# != 3 ]; then
-    say "the words are OLD NEW FOLDER"
+refuse() {
+    say "$*"
     exit 2
+}
+when=
+if [ "${1:-}" = --when ]; then
+    when=${2:-}
+    case $when in [1-9] | [1-9][0-9] | 100) ;; *) refuse "--when takes a number from 1 to 100" ;; esac
+    shift 2
 fi
-old=$1 new=$2 folder=$3
-if ! grep -qF "server $old;" "$site"; then
-    say "$site has no line 'server $old;'"
-    exit 2
+release=
+if [ "${1:-}" = --release-date ]; then
+    release=--release-date
+    shift
 fi
-if [ -e "$paused" ]; then
-    say "$paused is there: edits are paused already"
-    exit 2
-fi
-if (exec 3<>"/dev/tcp/${new%:*}/${new##*:}") 2>/dev/null; then
-    say "somebody listens at $new already"
-    exit 2
-fi
+case $# in
+    0)
+        old=$(sed -n 's/^ *server \([^ ;]*\)[ ;].*/\1/p' "$site" | sort -u)
+        case $old in '' | *[[:space:]]*) refuse "$site doesn't name one server: '$old'" ;; esac
+        new=${old%:*}:8081
+        [ "$new" != "$old" ] || new=${old%:*}:8080
+        ;;
+    2) old=$1 new=$2 ;;
+    *) refuse "usage: rollover.sh [--when PERCENT] [--release-date] [OLD NEW]" ;;
+esac
+grep -qE "server ${old//./\\.}[ ;]" "$site" || refuse "$site has no line 'server $old;'"
 work=$(mktemp -d) || exit 1
 started=
+
+# edits ADDRESS: how many edits the server has accepted. A batch that removes a leaf twice is refused in any state, and says so.
+edits() {
+    printf 'remove 0\nremove 0\n' | curl -s -D - -o "$work/body" --max-time 60 -H 'Content-Type:' --data-binary @- "http://$1/batch" |
+        tr -d '\r' | sed -n 's/^survey-edits: \([0-9]*\)$/\1/Ip'
+}
+# property KEY: a number in the properties of the server at OLD.
+property() {
+    sed -n "s/^$1 = \([0-9]\{1,9\}\)$/\1/p" "$work/old"
+}
+# full: whether the server has taken $when percent of the edits that it can take.
+full() {
+    curl -s -f -o "$work/old" --max-time 60 "http://$old/properties" || refuse "$old doesn't answer"
+    count=$(edits "$old")
+    [ -n "$count" ] || refuse "$old doesn't say how many edits it has taken"
+    leaves=$(find -L "$servers/${old##*:}/Norder$(property hips_order)" -name 'Npix*.fits' 2>/dev/null | wc -l)
+    [ -d "$servers/${old##*:}" ] || leaves=$(property survey_leaves)
+    width=$(property hips_tile_width)
+    tile=$((width * width * $(property survey_bitpix) / 8))
+    room=$((536870912 / (tile < 1024 ? 1024 : tile) - leaves))
+    [ "$room" -le 65536 ] || room=65536
+    say "$old has taken $count edits since its start, of $room that it can take beside the $leaves leaves it had then"
+    [ $((count * 100)) -ge $((room * when)) ]
+}
+# at ADDRESS COMMAND: one of the commands above.
+at() {
+    ADDRESS=$1 PORT=${1##*:} FOLDER=$servers/${1##*:} bash -c "$2"
+}
 # shellcheck disable=SC2317 # it is called by the trap
 undo() {
-    [ -z "$started" ] || ADDRESS=$new bash -c "$finish" || say "the server at $new can't be ended"
+    [ -z "$started" ] || at "$new" "$finish" || say "the server at $new can't be ended"
     rm -f "$paused"
     rm -rf "$work"
 }
-trap undo EXIT
+trap 'rm -rf "$work"' EXIT
 trap 'exit 1' INT TERM
+[ -z "$when" ] || full || exit 0
+[ ! -e "$paused" ] || refuse "$paused is there: edits are paused already"
+(exec 3<>"/dev/tcp/${new%:*}/${new##*:}") 2>/dev/null && refuse "somebody listens at $new already"
+trap undo EXIT
 fail() {
     say "$*. The server at $old goes on."
     exit 1
 }
 
-# turned: nginx reads its configuration anew, and what it has begun by the one before has ended.
+# turned: nginx has reloaded, and requests under its old configuration have ended.
 turned() {
     before=$(ps -o pid= --ppid "$(cat "$nginx_pid")") || return
     bash -c "$reload" || return
@@ -76,12 +127,7 @@ turned() {
     done
     return 1
 }
-# edits ADDRESS: how many edits the server has accepted. No leaf can be removed twice in one batch: so this one is refused in any state.
-edits() {
-    printf 'remove 0\nremove 0\n' | curl -s -D - -o "$work/body" --max-time 60 -H 'Content-Type:' --data-binary @- "http://$1/batch" |
-        tr -d '\r' | sed -n 's/^survey-edits: \([0-9]*\)$/\1/Ip'
-}
-# published ADDRESS: has the accepted edits published, and says how many they are.
+# published ADDRESS: publishes the accepted edits, and says how many they are.
 published() {
     curl -s -D - -o "$work/body" --max-time 600 -X POST "http://$1/publish" | tr -d '\r' | sed -n 's/^survey-prefix: \([0-9]*\)$/\1/Ip'
 }
@@ -90,12 +136,14 @@ published() {
 : >"$paused" || fail "$paused can't be written"
 turned || fail "nginx can't be told that edits are paused"
 
-# 2. A copy is made after the publication, so it has at least these edits; and no more where there are no more.
+# 2. The copy is made after the publication, so it has at least these edits; it has no more if there are no more. One copy for each port
+# is enough: the one of OLD is in use, and stays.
+mkdir -p "$servers" || fail "$servers can't be made"
 copied=
 for _ in 1 2 3; do
     count=$(published "$old")
-    [ -n "$count" ] || fail "nothing is published at $old: $(head -c 200 "$work/body")"
-    "$here/backup.sh" "$old" "$folder" || fail "there is no copy"
+    [ -n "$count" ] || fail "nothing is published at $old: $(head -c 200 "$work/body" 2>/dev/null)"
+    HIPSD_KEEP=1 "$here/backup.sh" ${release:+"$release"} "$old" "$servers/${new##*:}" || fail "there is no copy"
     if [ "$(edits "$old")" = "$count" ]; then
         copied=yes
         break
@@ -103,34 +151,39 @@ for _ in 1 2 3; do
     say "an edit came past the proxy while the copy was made; another is made"
 done
 [ -n "$copied" ] || fail "edits come past the proxy all the while"
-copy=$(realpath -e "$folder") || fail "there is no folder $folder"
 
 # 3.
 started=yes
-ADDRESS=$new FOLDER=$copy bash -c "$begin" || fail "no server can be started at $new"
+at "$new" "$begin" || fail "no server can be started at $new"
 ready=
 for _ in $(seq 1200); do
     curl -s -f -o "$work/new" --max-time 60 "http://$new/properties" && ready=yes && break
     sleep 0.25
 done
 [ -n "$ready" ] || fail "the server at $new doesn't answer"
+if at "$new" "$stranger"; then
+    at "$old" "$stranger" || fail "other users of this machine reach $new, and not $old: hipsd.nft has to name both ports"
+    say "any user of this machine may edit at $new, as at $old: load hipsd.nft"
+fi
 for path in properties Moc.fits; do
     curl -s -f -o "$work/old" --max-time 60 "http://$old/$path" || fail "$path can't be read at $old"
     curl -s -f -o "$work/new" --max-time 60 "http://$new/$path" || fail "$path can't be read at $new"
+    [ -z "$release" ] || sed -i '/^hips_release_date = /d' "$work/old" "$work/new"
     cmp -s "$work/old" "$work/new" || fail "the server at $new has another $path"
 done
+[ "$(edits "$new")" = 0 ] || fail "somebody has edited at $new"
 
 # 4.
 cp -p "$site" "$work/site" || fail "$site can't be read"
-# back: the proxy is turned to the old one again.
+# back: nginx goes to the old server again.
 back() {
     cp -p "$work/site" "$site" && turned
     fail "$1"
 }
-sed -i "s/server ${old//./\\.};/server $new;/" "$site" || fail "$site can't be written"
+sed -i "s/server ${old//./\\.}\([ ;]\)/server $new\1/" "$site" || fail "$site can't be written"
 turned || back "nginx doesn't take the address $new"
 [ "$(edits "$old")" = "$count" ] || back "an edit came past the proxy, and isn't in the copy"
 started=
 rm -f "$paused"
-ADDRESS=$old bash -c "$finish" || say "the server at $old can't be ended; nobody is sent to it any more"
-say "the server at $new has taken over, with $copy"
+at "$old" "$finish" || say "the server at $old can't be ended; nobody is sent to it any more"
+say "the server at $new has taken over, with $(realpath "$servers/${new##*:}")"

@@ -10,6 +10,7 @@ direction a pixel of the picture shows, which cell that is, and which number thi
 - While 16 leaves in view are published together over and over, through a proxy that delays each reply at random, each picture shows
   one generation, that which the page names.
 - A server that goes away is told of in words, and the picture stays; when it is back over its folder, that is shown.
+- What whoever looks at the page does with it, at three sizes (atlas_page.py).
 - An address without hipsd is told of in words; through the location of examples/nginx.conf the page is the same.
 
 Ends with status 1 and says what is wrong.
@@ -18,6 +19,7 @@ Ends with status 1 and says what is wrong.
 import io
 import os
 import random
+import re
 import shutil
 import signal
 import socket
@@ -40,7 +42,8 @@ from selenium.webdriver.chrome.service import Service
 from selenium.webdriver.common.action_chains import ActionChains
 from selenium.webdriver.common.by import By
 
-from gradient_survey import SURVEYS
+import atlas_page
+from gradient_survey import PAGE, SURVEYS
 from survey_files import tile_path
 
 sys.path.insert(0, str(Path(__file__).parent.parent / "examples/atlas"))
@@ -51,17 +54,24 @@ CHANGED = (0xFF, 0x7A, 0x1A)
 PAPER = (0xF6, 0xF4, 0xEE)
 MARGIN = 36
 PATIENCE = 30
-PLAIN = "grid=0&coverage=0&cells=0&changes=0&colours=grey&bend=0"
+PLAIN = "grid=0&coverage=0&cells=0&changes=0&catalogue=0&colours=grey&bend=0"
 
 
 class Delayed(Handler):
     """Replies come in another order than they were asked for."""
 
     most = 0.0
+    # The paths that were asked for, and how many bytes each reply had.
+    sent = []
 
     def pass_on(self, path):
         time.sleep(random.uniform(0, self.most))
         super().pass_on(path)
+
+    def ask(self, path):
+        answer = super().ask(path)
+        self.sent.append((path, len(answer[3])))
+        return answer
 
 
 class Trial:
@@ -81,7 +91,7 @@ class Trial:
 
     def serve(self, depth):
         """hipsd over the survey of that depth, and the page before it."""
-        self.survey = SURVEYS[depth]
+        self.survey = SURVEYS.get(depth, PAGE)
         self.place = self.folder / str(depth)
         if not self.place.exists():
             self.survey.write(self.place)
@@ -396,23 +406,27 @@ http {{ access_log off; client_body_temp_path {folder}/bodies; server {{ listen 
 
 
 def goes_through_nginx(trial):
-    """The page as the location of examples/nginx.conf serves it."""
+    """The page and a catalogue as the locations of examples/nginx.conf serve them."""
     examples = Path(__file__).resolve().parent.parent / "examples"
-    block = (examples / "nginx.conf").read_text().split("# atlas: begins.")[1].split("# atlas: ends.")[0].split("\n", 1)[1]
+    blocks = [text.split("\n", 1)[1].rsplit("\n", 1)[0] for text in re.findall(r"# (?:atlas|catalogue): begins\.(.*?)# \w+: ends\.", (examples / "nginx.conf").read_text(), re.DOTALL)]
+    block = "\n".join(blocks)
     with tempfile.TemporaryDirectory() as name, socket.socket() as free:
         folder = Path(name)
         shutil.copytree(examples / "atlas", folder / "atlas")
         free.bind(("127.0.0.1", 0))
         port = free.getsockname()[1]
         free.close()
+        atlas_page.catalogue_of(folder)
         for path in (folder, *folder.rglob("*")):
             path.chmod(0o755)
-        block = block.replace("/usr/local/share/doc/hipsd/examples/atlas", str(folder / "atlas"))
+        block = block.replace("/usr/local/share/doc/hipsd/examples/atlas", str(folder / "atlas")).replace("/srv/catalogue", str(folder / "catalogue"))
         (folder / "nginx.conf").write_text(NGINX.format(folder=folder, port=port, survey=trial.address, block=block))
         subprocess.run(["nginx", "-c", folder / "nginx.conf", "-p", folder], check=True, stderr=subprocess.DEVNULL)
         base, trial.base = trial.base, f"http://127.0.0.1:{port}"
         trial.open(trial.hash(NEAR[16]))
         trial.compare("through nginx", NEAR[16], trial.survey.deep)
+        if not trial.browser.execute_script("return !document.getElementById('has-catalogue').hidden"):
+            trial.blame("through nginx the page finds no catalogue")
         os.kill(int((folder / "nginx.pid").read_text()), signal.SIGTERM)
         trial.base = base
 
@@ -440,6 +454,10 @@ def main():
             goes_away(trial)
             says_what_is_wrong(trial)
             goes_through_nginx(trial)
+            trial.end()
+            trial.serve("page")
+            atlas_page.at_each_size(trial, Delayed.sent)
+            atlas_page.once(trial, Delayed.sent, atlas_page.catalogue_of(Path(folder)))
             for line in window.get_log("browser"):
                 if "TypeError" in line["message"] or "Uncaught" in line["message"]:
                     trial.blame("the browser says:", line["message"])

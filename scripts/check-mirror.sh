@@ -1,6 +1,6 @@
 #!/bin/bash
-# Tries copies of a running server: `hipsd mirror`, examples/backup.sh with its service and timer of systemd, and examples/rollover.sh
-# with nginx. What it starts it ends, and nothing is written outside a folder of its own.
+# Tries copies of a running server: `hipsd mirror`, examples/backup.sh, examples/rollover.sh with nginx, and their services and timers
+# of systemd. What it starts it ends, and nothing is written outside a folder of its own.
 #
 # - Twenty copies of a server that two editors edit and publish all the while, each of which `hipsd verify` reads again; each is of
 #   one published state, whose files survey_files.py makes of the edits, and all its files are these.
@@ -12,25 +12,12 @@
 #     scripts/check-mirror.sh [PROGRAM]
 #
 # PROGRAM is crates/hipsd/out/hipsd if none is named. Where a tool is missing this fails if CI=true, and else says what it left out.
-PATH=$PATH:/usr/sbin
 cd "$(dirname "$0")/.." || exit 1
-program=$(realpath -e "${1:-crates/hipsd/out/hipsd}") || { echo "check-mirror: there is no built hipsd" >&2; exit 1; }
+# shellcheck source-path=SCRIPTDIR source=check-common.sh
+. scripts/check-common.sh
 copies=20
-scripts=$PWD/scripts
 client=$scripts/mirror-client.py
-examples=$PWD/examples
-python=/usr/bin/python3
-export HIPSD_PROGRAM=$program HIPSD_LOG=error HIPSD_KEEP=$copies
-missing=
-command -v curl >/dev/null 2>&1 || missing="$missing curl"
-[ -x "$python" ] || missing="$missing python3"
-if [ -n "$missing" ]; then
-    echo "check-mirror: LEFT OUT, nothing was tried: not installed here:$missing"
-    [ "${CI:-}" = true ] && exit 1
-    exit 0
-fi
-
-folder=$(mktemp -d) || exit 1
+export HIPSD_PROGRAM=$program HIPSD_LOG=error HIPSD_KEEP=$copies HIPSD_TRIES=1 HIPSD_SERVERS=$folder/servers
 started=
 # shellcheck disable=SC2317 # it is called by the trap
 end() {
@@ -42,35 +29,10 @@ end() {
     rm -rf "$folder"
 }
 trap end EXIT
-wrong=0
-blame() {
-    echo "check-mirror: $*" >&2
-    wrong=1
-}
-# leaves_out PACKAGE: a tool isn't there.
-leaves_out() {
-    echo "check-mirror: left out, since it isn't installed here: $1"
-    [ "${CI:-}" = true ] && blame "$1 isn't installed"
-}
-free_port() {
-    "$python" -c 'import socket; s = socket.socket(); s.bind(("127.0.0.1", 0)); print(s.getsockname()[1])'
-}
-# listens PORT PROCESS: once somebody listens there; fails where the process has ended.
-listens() {
-    for _ in $(seq 600); do
-        (exec 3<>"/dev/tcp/127.0.0.1/$1") 2>/dev/null && return
-        kill -0 "$2" 2>/dev/null || return
-        sleep 0.05
-    done
-    return 1
-}
-# serve: hipsd over the survey without leaves, at $port, once it answers; its process is $server.
+# serve: hipsd over the survey without leaves.
 serve() {
-    cd "$folder/survey" || exit 1
-    "$program" serve "127.0.0.1:$port" 65536 64 >"$folder/output" 2>"$folder/log" &
-    server=$!
+    start
     started="$started $server"
-    listens "$port" "$server" || { cat "$folder/log" >&2; echo "check-mirror: hipsd doesn't listen" >&2; exit 1; }
     cd "$folder" || exit 1
 }
 # edited JOURNAL: once an edit is accepted.
@@ -91,7 +53,6 @@ refused() {
 }
 
 mkdir "$folder/survey" && "$client" describe "$folder/survey" || exit 1
-port=$(free_port)
 serve
 
 # ---- copies of a server that is edited and published all the while
@@ -145,11 +106,13 @@ kept=$(find "$folder" -maxdepth 1 -type d -name 'kept.[0-9]*Z' | wc -l)
 # A server over a copy goes on with it.
 (cd "$folder/kept/" && "$program" verify) >"$folder/body" 2>/dev/null || blame "a copy: $(cat "$folder/body")"
 
-# ---- the service and the timer
+# ---- the services and their timers
 if command -v systemd-analyze >/dev/null 2>&1; then
-    sed -e "s#=/usr/local/share/doc/hipsd/examples/#=$examples/#" "$examples/hipsd-backup.service" >"$folder/hipsd-backup.service"
-    cp "$examples/hipsd-backup.timer" "$folder"
-    systemd-analyze verify --man=no "$folder/hipsd-backup.service" "$folder/hipsd-backup.timer" >"$folder/body" 2>&1 || blame "systemd-analyze verify: $(cat "$folder/body")"
+    for unit in hipsd-backup hipsd-renew; do
+        sed "s#=/usr/local/share/doc/hipsd/examples/#=$examples/#" "$examples/$unit.service" >"$folder/$unit.service"
+        cp "$examples/$unit.timer" "$folder"
+    done
+    systemd-analyze verify --man=no "$folder"/hipsd-*.service "$folder"/hipsd-*.timer >"$folder/body" 2>&1 || blame "systemd-analyze verify: $(cat "$folder/body")"
     [ ! -s "$folder/body" ] || blame "systemd-analyze verify: $(cat "$folder/body")"
 else
     leaves_out systemd
@@ -160,9 +123,12 @@ fi
 # proxy_starts: nginx with the example, but for ports and folders of this check, in front of $port; two processes.
 proxy_starts() {
     plain=$(free_port)
-    sed -e "s/127.0.0.1:8080/127.0.0.1:$port/" -e "s/listen 80;/listen 127.0.0.1:$plain;/" -e '/listen \[::\]:/d' \
-        -e "s#/etc/nginx/hipsd.users#$folder/users#" -e "s#/var/cache/nginx-hipsd#$folder/cache#" -e "s#/run/hipsd.paused#$folder/paused#" \
-        "$examples/nginx.conf" >"$folder/site"
+    sed -e "s#/etc/nginx/hipsd.port.conf#$folder/port#" -e "s/listen 80;/listen 127.0.0.1:$plain;/" -e '/listen \[::\]:/d' \
+        -e "s#/etc/nginx/hipsd.users#$folder/users#" -e "s#/var/cache/nginx-hipsd#$folder/cache#" -e "s#/var/log/nginx#$folder#" \
+        -e "s#/run/hipsd[.]#$folder/#" "$examples/nginx.conf" >"$folder/site"
+    sed "s/127.0.0.1:8080/127.0.0.1:$port/" "$examples/hipsd.port.conf" >"$folder/port"
+    named=$folder/port
+    grep -q "include $named;" "$folder/site" || named=$folder/site
     printf '%s\n' 'worker_processes 2;' 'daemon off;' "pid $folder/nginx.pid;" "error_log $folder/nginx.log;" 'events { }' \
         "http { access_log off; client_body_temp_path $folder/bodies; include $folder/site; }" >"$folder/nginx.conf"
     nginx -c "$folder/nginx.conf" -p "$folder" 2>"$folder/refused" &
@@ -173,9 +139,9 @@ proxy_starts() {
 # rolls WORD ..: rollover.sh, with what it takes here; with another $begin, a second server is begun by that.
 rolls() {
     serves="cd \"\$FOLDER\" && { '$program' serve \"\$ADDRESS\" 65536 64 2>'$folder/new.log' & echo \$! >'$folder/served'; }"
-    HIPSD_SITE=$folder/site HIPSD_PAUSED=$folder/paused HIPSD_NGINX_PID=$folder/nginx.pid HIPSD_BEGIN=${begin:-$serves} \
+    HIPSD_SITE=$named HIPSD_STRANGER=false HIPSD_PAUSED=$folder/paused HIPSD_NGINX_PID=$folder/nginx.pid HIPSD_BEGIN=${begin:-$serves} \
         HIPSD_RELOAD="nginx -t -q -c '$folder/nginx.conf' -p '$folder' 2>/dev/null && kill -HUP $web" \
-        HIPSD_FINISH="if [ \"\$ADDRESS\" = 127.0.0.1:$port ]; then kill $server; else kill \$(cat '$folder/served') && rm '$folder/served'; fi" \
+        HIPSD_FINISH="if [ \"\$PORT\" = $port ]; then kill $server; else kill \$(cat '$folder/served') && rm '$folder/served'; fi" \
         "$examples/rollover.sh" "$@" >"$folder/said" 2>&1
 }
 # goes_on: the first server, and edits.
@@ -183,7 +149,7 @@ goes_on() {
     [ ! -e "$folder/paused" ] || blame "edits stay paused after $*"
     (exec 3<>"/dev/tcp/127.0.0.1/$next") 2>/dev/null && blame "the second server runs after $*"
     rm -f "$folder/served"
-    grep -qF "server 127.0.0.1:$port;" "$folder/site" || blame "the proxy is turned away after $*"
+    grep -qE "server 127[.]0[.]0[.]1:${port}[ ;]" "$named" || blame "the proxy is turned away after $*"
     kill -0 "$server" 2>/dev/null || blame "the first server has ended after $*"
 }
 # renewed: under readers and an editor.
@@ -195,11 +161,11 @@ renewed() {
     chmod 755 "$folder" && chmod 644 "$folder/users"
     proxy_starts || return
     # Where the copy is refused, and where no second server comes up.
-    HIPSD_PROGRAM=$folder/damaging rolls "127.0.0.1:$port" "127.0.0.1:$next" "$folder/kept" && blame "rollover.sh takes a copy that verify refuses"
+    HIPSD_PROGRAM=$folder/damaging rolls "127.0.0.1:$port" "127.0.0.1:$next" && blame "rollover.sh takes a copy that verify refuses"
     goes_on "a copy that verify refuses"
-    rolls "127.0.0.1:$port" "127.0.0.1:$port" "$folder/kept" && blame "rollover.sh takes an address where the first server listens"
+    rolls "127.0.0.1:$port" "127.0.0.1:$port" && blame "rollover.sh takes an address where the first server listens"
     goes_on "an address where the first server listens"
-    begin='exit 1' rolls "127.0.0.1:$port" "127.0.0.1:$next" "$folder/kept" && blame "rollover.sh goes on where no second server comes up"
+    begin='exit 1' rolls "127.0.0.1:$port" "127.0.0.1:$next" && blame "rollover.sh goes on where no second server comes up"
     goes_on "a second server that doesn't come up"
     "$client" edit 1 "127.0.0.1:$plain/edit" "$folder/journal" "$folder/stop" editor:secret 2>"$folder/editor" &
     editor=$!
@@ -210,7 +176,7 @@ renewed() {
         "$client" read "127.0.0.1:$plain" "$folder/replies.$name" "$folder/stop-readers" 2>"$folder/reader.$name" &
         readers="$readers $!"
     done
-    rolls "127.0.0.1:$port" "127.0.0.1:$next" "$folder/kept" || blame "rollover.sh: $(cat "$folder/said")"
+    rolls "127.0.0.1:$port" "127.0.0.1:$next" || blame "rollover.sh: $(cat "$folder/said")"
     [ ! -e "$folder/paused" ] || blame "edits stay paused"
     wait "$server"
     (exec 3<>"/dev/tcp/127.0.0.1/$port") 2>/dev/null && blame "the first server runs on"
@@ -223,15 +189,10 @@ renewed() {
     for reader in $readers; do wait "$reader" || blame "a reader: $(cat "$folder"/reader.*)"; done
     "$client" judge "$folder/journal" "$folder"/replies.* || blame "replies while a server was renewed"
     # All accepted edits are there.
-    HIPSD_KEEP=3 "$examples/backup.sh" "127.0.0.1:$next" "$folder/kept" >"$folder/body" 2>&1 || blame "backup.sh of the second server: $(cat "$folder/body")"
+    HIPSD_KEEP=3 "$examples/backup.sh" "@$named" "$folder/kept" >"$folder/body" 2>&1 || blame "backup.sh of the second server: $(cat "$folder/body")"
     "$client" last "$folder/journal" "$folder/kept" || blame "the second server"
 }
 if command -v nginx >/dev/null 2>&1; then renewed; else leaves_out nginx; fi
 
-if command -v shellcheck >/dev/null 2>&1; then
-    shellcheck "$examples/backup.sh" "$examples/rollover.sh" "$scripts/check-mirror.sh" || blame "shellcheck"
-else
-    leaves_out shellcheck
-fi
 [ "$wrong" = 0 ] && echo "check-mirror: all did as it must"
 exit "$wrong"

@@ -8,23 +8,9 @@
 #     scripts/check-operate.sh [PROGRAM]
 #
 # PROGRAM is crates/hipsd/out/hipsd if none is named. Where a tool is missing this fails if CI=true, and else says what it left out.
-PATH=$PATH:/usr/sbin
 cd "$(dirname "$0")/.." || exit 1
-program=$(realpath -e "${1:-crates/hipsd/out/hipsd}") || { echo "check-operate: there is no built hipsd" >&2; exit 1; }
-python=/usr/bin/python3
-top=$PWD
-scripts=$top/scripts
-examples=$top/examples
-missing=
-command -v curl >/dev/null 2>&1 || missing="$missing curl"
-[ -x "$python" ] || missing="$missing python3"
-if [ -n "$missing" ]; then
-    echo "check-operate: LEFT OUT, nothing was tried: not installed here:$missing"
-    [ "${CI:-}" = true ] && exit 1
-    exit 0
-fi
-
-folder=$(mktemp -d) || exit 1
+# shellcheck source-path=SCRIPTDIR source=check-common.sh
+. scripts/check-common.sh
 server=
 web=
 # shellcheck disable=SC2317 # it is called by the trap
@@ -34,36 +20,6 @@ end() {
     rm -rf "$folder"
 }
 trap end EXIT
-wrong=0
-blame() {
-    echo "check-operate: $*" >&2
-    wrong=1
-}
-# leaves_out PACKAGE: a tool isn't there.
-leaves_out() {
-    echo "check-operate: left out, since it isn't installed here: $1"
-    [ "${CI:-}" = true ] && blame "$1 isn't installed"
-}
-free_port() {
-    "$python" -c 'import socket; s = socket.socket(); s.bind(("127.0.0.1", 0)); print(s.getsockname()[1])'
-}
-# listens PORT PROCESS: once somebody listens there; fails where the process has ended.
-listens() {
-    for _ in $(seq 600); do
-        (exec 3<>"/dev/tcp/127.0.0.1/$1") 2>/dev/null && return
-        kill -0 "$2" 2>/dev/null || return
-        sleep 0.05
-    done
-    return 1
-}
-
-# start: hipsd over the survey in $folder/survey, at $port, once it answers.
-start() {
-    cd "$folder/survey" || exit 1
-    "$program" serve "127.0.0.1:$port" 65536 64 >"$folder/output" 2>"$folder/log" &
-    server=$!
-    listens "$port" "$server" || { cat "$folder/log" >&2; echo "check-operate: hipsd doesn't listen" >&2; exit 1; }
-}
 # stop: ends it.
 stop() {
     kill "$server" 2>/dev/null
@@ -101,18 +57,19 @@ Path("survey.conf").write_bytes(Survey("operate", "Survey operate", top=5, low=3
 Path("../leaf").write_bytes(image(8, 8, range(64), ("ORDER", 5), ("NPIX", 7)))
 Path("../other").write_bytes(image(8, 8, range(64, 128), ("ORDER", 5), ("NPIX", 7)))
 PYTHON
-port=$(free_port)
 direct=http://127.0.0.1:$port
 
 # ---- nginx
 
-# proxy_starts: nginx with the example, but for ports and folders of this check, in front of $port. With a certificate by TLS too.
+# proxy_starts: nginx with the example, but for ports and folders of this check, in front of $port. With a certificate by TLS too; then
+# edits that come plain from this machine are taken all the same here (check_attacks.py tries that they aren't).
 proxy_starts() {
     plain=$(free_port)
     secure=$(free_port)
-    sed -e "s/127.0.0.1:8080/127.0.0.1:$port/" -e "s/listen 80;/listen 127.0.0.1:$plain;/" -e '/listen \[::\]:/d' \
-        -e "s#/etc/nginx/hipsd.users#$folder/users#" -e "s#/var/cache/nginx-hipsd#$folder/cache#" "$examples/nginx.conf" >"$folder/site"
-    [ -s "$folder/hipsd.pem" ] && sed -i -e 's/^\( *\)#tls /\1/' -e "s/listen 443/listen 127.0.0.1:$secure/" -e '/listen \[::\]:/d' \
+    sed -e "s#include /etc/nginx/hipsd.port.conf;#server 127.0.0.1:$port max_conns=48;#" -e "s/listen 80;/listen 127.0.0.1:$plain;/" \
+        -e '/listen \[::\]:/d' -e "s#/etc/nginx/hipsd.users#$folder/users#" -e "s#/var/cache/nginx-hipsd#$folder/cache#" \
+        -e "s#/var/log/nginx#$folder#" -e "s#/run/hipsd[.]#$folder/#" "$examples/nginx.conf" >"$folder/site"
+    [ -s "$folder/hipsd.pem" ] && sed -i -e '/#tls if /d' -e 's/^\( *\)#tls /\1/' -e "s/listen 443/listen 127.0.0.1:$secure/" -e '/listen \[::\]:/d' \
         -e "s#/etc/ssl/certs/hipsd.pem#$folder/hipsd.pem#" -e "s#/etc/ssl/private/hipsd.key#$folder/hipsd.key#" "$folder/site"
     printf '%s\n' 'worker_processes 1;' 'daemon off;' "pid $folder/nginx.pid;" "error_log $folder/nginx.log;" 'events { }' \
         "http { access_log off; client_body_temp_path $folder/bodies; include $folder/site; }" >"$folder/nginx.conf"
@@ -140,7 +97,7 @@ by_tls() {
     asks 200 --interface "$own" $tls -u editor:secret -X POST "https://hips.example.org:$secure/edit/publish"
 }
 
-# edits_by_tls: edit.sh through the proxy, by HTTP/2, with a password from ~/.netrc.
+# edits_by_tls: edit.sh through the proxy, with a password from ~/.netrc.
 edits_by_tls() {
     printf 'resolve = hips.example.org:%s:127.0.0.1\ncacert = "%s/hipsd.pem"\n' "$secure" "$folder" >"$folder/.curlrc"
     echo 'machine hips.example.org login editor password secret' >"$folder/.netrc"
@@ -199,11 +156,11 @@ away() {
     asks 200 "$proxy/survey/properties"
 }
 
-# as_given: the file as it is, by the steps of examples/README.md, with Debian's own nginx.conf; in a network and with mounts of
+# as_given: the file as it is, by the steps of docs/OPERATING.md, with Debian's own nginx.conf; in a network and with mounts of
 # its own, where this may make them.
 as_given() {
     if [ ! -e /proc/net/if_inet6 ] || [ ! -d /etc/nginx/sites-enabled ] || ! unshare -n -m ip link set lo up >/dev/null 2>&1; then
-        echo "check-operate: left out, since no network and mounts of its own can be made here: nginx.conf by the steps of examples/README.md"
+        echo "check-operate: left out, since no network and mounts of its own can be made here: nginx.conf by the steps of docs/OPERATING.md"
         return
     fi
     mkdir -p "$folder/given"
@@ -216,6 +173,7 @@ for place in /var/cache /run /var/log/nginx /etc/ssl/private; do mkdir -p "$plac
 cp -a /etc/ssl/certs "$1/certs"
 mount --bind "$1/certs" /etc/ssl/certs
 sed 's/hips[.]example[.]org/survey.your.org/' "$2/nginx.conf" >/etc/nginx/conf.d/hipsd.conf
+cp "$2/hipsd.port.conf" /etc/nginx
 rm -f /etc/nginx/sites-enabled/default
 install -m 640 -o root -g www-data /dev/null /etc/nginx/hipsd.users
 printf 'editor:%s\n' "$(echo secret | openssl passwd -6 -stdin)" >>/etc/nginx/hipsd.users
@@ -246,7 +204,7 @@ SHELL
 leaf=Norder5/Dir0/Npix7.fits
 start
 if command -v nginx >/dev/null 2>&1; then
-    # The steps of examples/README.md.
+    # The steps of docs/OPERATING.md.
     if command -v openssl >/dev/null 2>&1; then
         printf 'editor:%s\n' "$(echo secret | openssl passwd -6 -stdin)" >"$folder/users"
         openssl req -x509 -newkey rsa:2048 -nodes -days 2 -subj /CN=hips.example.org -addext subjectAltName=DNS:hips.example.org \
@@ -276,6 +234,8 @@ fi
 
 # ---- edit.sh
 
+# Nothing here gets better by trying again (check_attacks.py has what does).
+export HIPSD_TRIES=1
 # edit WORD ..: edit.sh at $direct, what it writes in $folder/body.
 edit() {
     HIPSD=$direct "$examples/edit.sh" "$@" >"$folder/body" 2>&1
@@ -359,7 +319,7 @@ looked() {
 # looks_back JOURNAL: files of earlier states, by the journal of `journaled`.
 looks_back() {
     looked 0 '' "$1"
-    [ "$(tr '\n' ';' <"$folder/body")" = "1 put Norder5/Dir0/Npix8.fits;2 add $leaf;4 batch;4 published;5 put $leaf;5 published;" ] ||
+    [ "$(sed 's/ [0-9-]*T[0-9:]*Z / /' "$folder/body" | tr '\n' ';')" = "1 put Norder5/Dir0/Npix8.fits;2 add $leaf;4 batch;4 published;5 put $leaf;5 published;" ] ||
         blame "look-back.sh lists the states $(cat "$folder/body")"
     looked 1 "after 1 edits there was no $leaf" "$1" 1 "$leaf"
     for edits in 2 4; do
@@ -408,7 +368,7 @@ journaled() {
     unset HIPSD_JOURNAL
     cmp -s "$folder/leaf" "$journal/00000002.body" || blame "the journal has another tile"
     cmp -s "$folder/batch" "$journal/00000004.body" || blame "the journal has another batch"
-    [ "$(cat "$journal/00000002.edit" "$journal/00000002.answer")" = "add $leaf
+    [ "$(sed 's/ [^ ]*Z$//' "$journal/00000002.edit" "$journal/00000002.answer")" = "add $leaf
 201 2" ] || blame "the second entry of the journal: $(cat "$journal"/00000002.[ea]*)"
     for path in properties "$leaf" Norder3/Dir0/Npix0.fits; do curl -s "$direct/$path"; done >"$folder/before"
     looks_back "$journal"
@@ -477,7 +437,7 @@ journaled() {
 }
 
 cat >"$folder/silent.py" <<'PYTHON'
-"""silent.py PORT SERVER: hands on GET, takes a PUT to the server's own port, and ends the connection without a word."""
+"""silent.py PORT SERVER: hands on GET and POST, takes a PUT to the server's own port, and ends the connection without a word."""
 import sys
 from http.client import HTTPConnection
 from http.server import BaseHTTPRequestHandler, HTTPServer
@@ -486,13 +446,17 @@ from http.server import BaseHTTPRequestHandler, HTTPServer
 class Silent(BaseHTTPRequestHandler):
     def do_GET(self):
         server = HTTPConnection("127.0.0.1", int(sys.argv[2]))
-        server.request("GET", self.path)
+        server.request(self.command, self.path, self.rfile.read(int(self.headers["Content-Length"] or 0)))
         reply = server.getresponse()
         body = reply.read()
         self.send_response(reply.status)
         self.send_header("Content-Length", str(len(body)))
+        if "Survey-Edits" in reply.headers:
+            self.send_header("Survey-Edits", reply.headers["Survey-Edits"])
         self.end_headers()
         self.wfile.write(body)
+
+    do_POST = do_GET
 
     def do_PUT(self):
         server = HTTPConnection("127.0.0.1", int(sys.argv[2]))
@@ -900,6 +864,7 @@ service() {
     exposure=$(systemd-analyze security --offline=true "$1" 2>/dev/null | sed -n 's/.*exposure level for .*: \([0-9]*\)\.\([0-9]\).*/\1\2/p')
     [ "${exposure:-100}" -le 11 ] || blame "systemd-analyze security: ${exposure:-nothing} tenths in place of 11"
     grep -q '^RestartPreventExitStatus=1 2 3$' "$1" || blame "the service starts again where its folder is wrong"
+    for limit in TasksMax= MemoryMax= MemorySwapMax=0 SocketBindDeny=any SocketBindAllow=tcp:8080-8081; do grep -q "^$limit" "$1" || blame "the service has no $limit"; done
     grep -q '^Description=.*not with the edits' "$1" || blame "the service doesn't say what a restart goes on with"
 }
 
@@ -909,15 +874,15 @@ installs() {
     PROGRAM=$program DESTDIR=$root "$scripts/install.sh" /usr >"$folder/body" 2>&1 || blame "install.sh: $(cat "$folder/body")"
     PROGRAM=$program DESTDIR=$root "$scripts/install.sh" /usr >"$folder/body" 2>&1 || blame "install.sh, again: $(cat "$folder/body")"
     (cd "$folder/survey" && "$root/usr/bin/hipsd" export) >"$folder/body" 2>/dev/null || blame "what is installed doesn't run: $(cat "$folder/body")"
-    for file in share/man/man1/hipsd.1 lib/systemd/system/hipsd.service lib/systemd/system/hipsd-backup.service lib/systemd/system/hipsd-backup.timer \
-        lib/sysusers.d/hipsd.conf share/doc/hipsd/examples/README.md; do
+    for file in share/man/man1/hipsd.1 lib/systemd/system/hipsd@.service lib/systemd/system/hipsd-backup.service lib/systemd/system/hipsd-backup.timer \
+        lib/sysusers.d/hipsd.conf share/doc/hipsd/OPERATING.md; do
         [ -s "$root/usr/$file" ] || blame "install.sh: there is no $file"
     done
     for script in edit.sh look-back.sh backup.sh rollover.sh; do
         [ -x "$root/usr/share/doc/hipsd/examples/$script" ] || blame "$script can't be run where it is installed"
     done
     grep -rqE '@(PREFIX|VERSION|REVISION|TOOLCHAIN)@' "$root/usr/share/man" "$root/usr/lib" && blame "install.sh leaves a word unfilled"
-    grep -q '^ExecStart=/usr/bin/hipsd serve 127.0.0.1:' "$root/usr/lib/systemd/system/hipsd.service" || blame "the service starts another program"
+    grep -q '^ExecStart=/usr/bin/hipsd serve 127.0.0.1:%i ' "$root/usr/lib/systemd/system/hipsd@.service" || blame "the service starts another program"
     grep -q '^ExecStart=/usr/share/doc/hipsd/examples/backup.sh ' "$root/usr/lib/systemd/system/hipsd-backup.service" || blame "the backup's service starts another script"
     grep -q '=/usr/bin/hipsd ' "$root/usr/lib/systemd/system/hipsd-backup.service" || blame "the backup's service takes another program"
     if command -v mandoc >/dev/null 2>&1; then
@@ -930,8 +895,8 @@ installs() {
     fi
     if command -v systemd-analyze >/dev/null 2>&1; then
         # It looks for the program where the service says.
-        sed "s#=/usr/bin/hipsd#=$root/usr/bin/hipsd#" "$root/usr/lib/systemd/system/hipsd.service" >"$folder/hipsd.service"
-        service "$folder/hipsd.service"
+        sed "s#=\(+*\)/usr/#=\1$root/usr/#" "$root/usr/lib/systemd/system/hipsd@.service" >"$folder/hipsd@8081.service"
+        service "$folder/hipsd@8081.service"
         mkdir -p "$root/etc"
         systemd-sysusers --dry-run --root="$root" "$root/usr/lib/sysusers.d/hipsd.conf" 2>&1 | grep -q "Creating user 'hipsd'" || blame "systemd-sysusers makes no user"
     else
@@ -970,9 +935,9 @@ SHELL
 }
 if command -v nft >/dev/null 2>&1; then port_for_the_proxy; else leaves_out nftables; fi
 
-# The scripts that operators and editors run.
+# The scripts that operators and editors run, and those that try them.
 if command -v shellcheck >/dev/null 2>&1; then
-    shellcheck "$examples/edit.sh" "$examples/look-back.sh" "$scripts/install.sh" "$scripts/install-tools.sh" "$scripts/check-operate.sh" || blame "shellcheck"
+    shellcheck -x "$examples"/*.sh "$scripts"/install*.sh "$scripts/sample.sh" "$scripts/check-operate.sh" "$scripts/check-mirror.sh" "$scripts/check-units.sh" || blame "shellcheck"
 else
     leaves_out shellcheck
 fi

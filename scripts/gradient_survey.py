@@ -15,11 +15,11 @@ TYPES = {8: ">u1", 16: ">i2", 32: ">i4", 64: ">i8"}
 class Gradient:
     """A survey by its depth, the order of its leaves, the bits of a column, and how its numbers rise: from `low` at right ascension 0
     and the south pole by `rise` in all. Leaves lie within `radius` degrees of a place; pixels within half a degree of the declination
-    `strip` are blank."""
+    `strip` are blank. `more` are lines of its description."""
 
-    def __init__(self, depth, top, bits, low, rise, blank, place=(0, 0), radius=180, strip=None, scale="1.0E0", zero="0.0E0"):
+    def __init__(self, depth, top, bits, low, rise, blank, place=(0, 0), radius=180, strip=None, scale="1.0E0", zero="0.0E0", more=""):
         self.depth, self.top, self.bits, self.low, self.rise, self.blank = depth, top, bits, low, rise, blank
-        self.strip, self.scale, self.zero = strip, scale, zero
+        self.strip, self.scale, self.zero, self.more = strip, scale, zero, more
         self.edited = {}
         cells = numpy.arange(12 * 4**top)
         centres = numpy.array(healpy.pix2vec(2**top, cells, nest=True))
@@ -82,7 +82,7 @@ class Gradient:
             f"creator_did = ivo://example/P/gradient\nobs_title = A gradient of {self.depth} bits\n"
             "hips_release_date = 2024-05-01T00:00Z\nhips_status = public master clonable\n"
             f"hips_order = {self.top}\nhips_tile_width = {2**self.bits}\nsurvey_bitpix = {self.depth}\n"
-            f"survey_bscale = {self.scale}\nsurvey_bzero = {self.zero}\nsurvey_blank = {self.blank}\n"
+            f"survey_bscale = {self.scale}\nsurvey_bzero = {self.zero}\nsurvey_blank = {self.blank}\n{self.more}"
         )
         for leaf in self.leaves:
             path = folder / tile_path(self.top, int(leaf))
@@ -97,3 +97,7 @@ SURVEYS = {
                  scale="5.0E-1", zero="1.0E3"),
     64: Gradient(64, top=5, bits=4, low=-(4 * 10**18), rise=8 * 10**18, blank=-(2**63), place=(0, 90), radius=20),
 }
+
+# One whose description says where a page begins, and that there are coarser tiles.
+PAGE = Gradient(16, top=4, bits=6, low=-16000, rise=32000, blank=-32768, place=(80, 20), radius=30,
+                more="hips_order_min = 0\nhips_initial_ra = 82.5\nhips_initial_dec = 19.5\nhips_initial_fov = 20\nhips_pixel_cut = -9000 9000\n")

@@ -3,10 +3,10 @@
 #
 #     scripts/install.sh [--remove] [PREFIX]
 #
-# PREFIX is /usr/local if none is named. It gets bin/hipsd, share/man/man1/hipsd.1, lib/systemd/system/hipsd.service with
-# hipsd-backup.service and hipsd-backup.timer, lib/sysusers.d/hipsd.conf and share/doc/hipsd with the examples and FORMATS.md; systemd finds those of /usr/local and /usr. The
-# program is crates/hipsd/out/hipsd, or the one in the environment variable PROGRAM. With DESTDIR all goes below that folder, as a
-# package wants it. Nothing is started, no user is made, and /etc and the survey's folder stay as they are.
+# PREFIX is /usr/local if none is named. It gets bin/hipsd, share/man/man1/hipsd.1, the units of examples/ in lib/systemd/system,
+# lib/sysusers.d/hipsd.conf and share/doc/hipsd with the examples, FORMATS.md and OPERATING.md; systemd finds those of /usr/local
+# and /usr. The program is crates/hipsd/out/hipsd, or the one in the environment variable PROGRAM. With DESTDIR all goes below that
+# folder, as a package wants it. Nothing is started, no user is made, and /etc and the survey's folder stay as they are.
 set -eu
 cd "$(dirname "$0")/.."
 program=${PROGRAM:-crates/hipsd/out/hipsd}
@@ -53,7 +53,7 @@ named() {
 filled() {
     revision=$(git rev-parse --short HEAD 2>/dev/null) || revision='an unknown revision'
     sed -e "s#@PREFIX@#$prefix#g" -e "s#@VERSION@#$(named VERSION)#g" -e "s#@REVISION@#$revision#g" -e "s#@TOOLCHAIN@#$(named TOOLCHAIN)#g" \
-        -e "s#=/usr/local/\(bin\|share\)/#=$prefix/\1/#g" "$1"
+        -e "s#=\(+\?\)/usr/local/\(bin\|share\)/#=\1$prefix/\2/#g" "$1"
 }
 
 # examples: the files below examples/.
@@ -68,31 +68,44 @@ install_all() {
     fi
     work=$(mktemp -d)
     trap 'rm -rf "$work"' EXIT
-    filled examples/hipsd.service >"$work/unit"
-    filled examples/hipsd-backup.service >"$work/backup"
     filled docs/hipsd.1 >"$work/manual"
     [ ! -e "$list" ] || take_away
     mkdir -p "$doc"
     put 755 "$program" bin/hipsd
     put 644 "$work/manual" share/man/man1/hipsd.1
-    put 644 "$work/unit" lib/systemd/system/hipsd.service
-    put 644 "$work/backup" lib/systemd/system/hipsd-backup.service
-    put 644 examples/hipsd-backup.timer lib/systemd/system/hipsd-backup.timer
+    for unit in examples/*.service examples/*.timer; do
+        filled "$unit" >"$work/unit"
+        put 644 "$work/unit" "lib/systemd/system/${unit#*/}"
+    done
     put 644 examples/hipsd.sysusers lib/sysusers.d/hipsd.conf
     put 644 docs/FORMATS.md share/doc/hipsd/FORMATS.md
+    put 644 docs/OPERATING.md share/doc/hipsd/OPERATING.md
     for name in $(examples); do
         mode=644
         [ ! -x "examples/$name" ] || mode=755
         put "$mode" "examples/$name" "share/doc/hipsd/examples/$name"
     done
     [ -z "${DESTDIR:-}" ] || return 0
+    running=$(running)
+    if [ -n "$running" ]; then
+        echo "process $running goes on with the program that it was started with. To renew it without an outage, as root:" \
+            "systemctl daemon-reload && $prefix/share/doc/hipsd/examples/rollover.sh"
+        return
+    fi
     case $prefix in
-        /usr | /usr/local) echo "next, as root: systemd-sysusers && systemctl daemon-reload && systemctl enable --now hipsd" ;;
+        /usr | /usr/local) echo "next, as root: systemd-sysusers && systemctl daemon-reload && systemctl enable --now hipsd@8080" ;;
         *)
             echo "next, as root, since systemd doesn't look below $prefix: systemd-sysusers $prefix/lib/sysusers.d/hipsd.conf &&" \
-                "systemctl link $prefix/lib/systemd/system/hipsd.service && systemctl enable --now hipsd"
+                "systemctl link $prefix/lib/systemd/system/hipsd* && systemctl enable --now hipsd@8080"
             ;;
     esac
+}
+
+# running: the processes that were started with the program that stood at $prefix/bin/hipsd.
+running() {
+    for process in /proc/[0-9]*; do
+        case $(readlink "$process/exe") in "$prefix/bin/hipsd" | "$prefix/bin/hipsd (deleted)") echo "${process#/proc/}" ;; esac
+    done | paste -s -d ' '
 }
 
 # take_away: what is in the list, and the folders that are hipsd's own.
@@ -109,7 +122,15 @@ remove_all() {
         exit 1
     fi
     take_away
-    echo "hipsd is no more below $into. A service that runs goes on until: systemctl disable --now hipsd && systemctl daemon-reload"
+    echo "hipsd is no more below $into. A server that runs goes on until: systemctl disable --now hipsd@8080 hipsd@8081"
+    echo "What was not installed from here stays:"
+    root=${DESTDIR:-}
+    for path in "$root"/etc/nginx/conf.d/hipsd.conf "$root"/etc/nginx/hipsd.* "$root"/etc/ssl/private/hipsd.key "$root"/etc/ssl/certs/hipsd.pem \
+        "$root"/etc/systemd/system/hipsd* "$root"/etc/systemd/system/*.wants/hipsd* "$root"/var/cache/nginx-hipsd "$root"/var/lib/hipsd \
+        "$root"/var/lib/hipsd-backup "$root"/srv/survey; do
+        { [ ! -e "$path" ] && [ ! -L "$path" ]; } || echo "    $path"
+    done
+    [ -n "$root" ] || ! getent passwd hipsd >/dev/null || echo "    the user hipsd"
 }
 
 if [ -n "$remove" ]; then remove_all; else install_all; fi

@@ -2,8 +2,12 @@
 # Builds hipsd without proving it, has it serve a small survey on the loopback, and edits the survey with curl: a leaf tile is put
 # and published, and the tile above it is fetched before and after. Then the server ends by itself, since it was told to serve
 # one connection.
+#
+#     scripts/sample.sh [PORT]
 cd "$(dirname "$0")/../crates/hipsd" || exit 1
-command -v curl >/dev/null 2>&1 || { echo "sample: there is no curl here" >&2; exit 1; }
+for tool in rt curl; do
+    command -v "$tool" >/dev/null 2>&1 || { echo "sample: there is no $tool here; CONTRIBUTING.md says what is needed" >&2; exit 1; }
+done
 folder=$(mktemp -d) || exit 1
 trap 'rm -rf "$folder"' EXIT
 
@@ -47,13 +51,22 @@ rt try --seconds 900 --data survey.conf="$folder/survey.conf" -- serve "127.0.0.
 server=$!
 
 # All requests of one curl are of one connection, the one that is served. Until the server listens curl tries again.
-curl -s --retry 600 --retry-delay 1 --retry-connrefused -i -o "$folder/before" "$base/Norder3/Dir0/Npix0.fits" \
+curl -s --retry 900 --retry-delay 1 --retry-connrefused -i -o "$folder/before" "$base/Norder3/Dir0/Npix0.fits" \
     --next -s -i -o "$folder/put" -T "$folder/leaf" -H 'Expect:' "$base/Norder4/Dir0/Npix0.fits" \
     --next -s -i -o "$folder/published" -X POST "$base/publish" \
-    --next -s -D "$folder/head" -o "$folder/tile" "$base/Norder3/Dir0/Npix0.fits"
-asked=$?
+    --next -s -D "$folder/head" -o "$folder/tile" "$base/Norder3/Dir0/Npix0.fits" &
+client=$!
+seconds=0
+while kill -0 "$server" 2>/dev/null; do
+    sleep 1
+    seconds=$((seconds + 1))
+    [ $((seconds % 5)) != 0 ] || echo "... $seconds seconds"
+done
 wait "$server"
 ended=$?
+[ "$ended" = 0 ] || kill "$client" 2>/dev/null
+wait "$client"
+asked=$?
 if [ "$asked" != 0 ] || [ "$ended" != 0 ]; then
     cat "$folder/output" "$folder/errors" >&2
     echo "sample: curl ended with status $asked, rt try with $ended" >&2

@@ -32,10 +32,10 @@ export function shader({ low, high, bend }) {
     };
 }
 
-/** The values between which nearly all lie, for the first picture. */
-export function usualRange(layer) {
+/** The values between which nearly all lie of some tiles. */
+export function usualRange(tiles) {
     const values = [];
-    for (const tile of layer.tiles.values()) {
+    for (const tile of tiles) {
         const step = Math.max(1, Math.floor(tile.numbers.length / 64));
         for (let place = 0; place < tile.numbers.length; place += step) {
             const value = tile.value(place);

@@ -34,6 +34,26 @@ export class Image {
         return numbers.length === other.numbers.length && numbers.every((number, place) => number === other.numbers[place]);
     }
 
+    /** Whether two tiles show the same within a cell below theirs: that of a number, so many orders deeper. */
+    equalsWithin(other, cell, deeper) {
+        const bits = Math.log2(this.width);
+        if (deeper > bits) return false;
+        const side = this.width >> deeper;
+        let [x, y] = [0, 0];
+        for (let bit = 0; bit < deeper; bit++) {
+            x |= (Math.floor(cell / 4 ** bit) & 1) << bit;
+            y |= ((Math.floor(cell / 4 ** bit) >> 1) & 1) << bit;
+        }
+        // Lines of a tile go with x, from the top, and columns with y; the bottom line is the first.
+        const bottom = this.width - (x + 1) * side;
+        for (let line = bottom; line < bottom + side; line++) {
+            for (let place = line * this.width + y * side; place < line * this.width + (y + 1) * side; place++) {
+                if (this.numbers[place] !== other.numbers[place]) return false;
+            }
+        }
+        return true;
+    }
+
     isBlank() {
         return this.numbers.every((number) => number === this.blank);
     }

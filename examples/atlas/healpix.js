@@ -8,34 +8,44 @@ const ROW_OF_FACE = [2, 2, 2, 2, 3, 3, 3, 3, 4, 4, 4, 4];
 const COLUMN_OF_FACE = [1, 3, 5, 7, 0, 2, 4, 6, 1, 3, 5, 7];
 
 /** Sets `place` to where a direction stands. */
-export function locate([x, y, z], place) {
-    const quarters = ((Math.atan2(y, x) * 2) / Math.PI + 4) % 4;
-    if (Math.abs(z) <= 2 / 3) locateInBelt(quarters, z, place);
-    else locateInCap(quarters, z, Math.hypot(x, y), place);
+export function locate(direction, place) {
+    find(direction, place);
+    place.x = whole(place.u);
+    place.y = whole(place.v);
     return place;
 }
 
-function locateInBelt(quarters, z, place) {
+/** Sets `place` to the face that has a direction, and to how far along it that stands: u and v from 0 to 1. */
+export function find([x, y, z], place) {
+    const quarters = ((Math.atan2(y, x) * 2) / Math.PI + 4) % 4;
+    place.isBelt = Math.abs(z) <= 2 / 3;
+    if (place.isBelt) findInBelt(quarters, z, place);
+    else findInCap(quarters, z, Math.hypot(x, y), place);
+    return place;
+}
+
+function findInBelt(quarters, z, place) {
     const falling = 0.5 + quarters - 0.75 * z;
     const rising = 0.5 + quarters + 0.75 * z;
     const left = Math.floor(falling);
     const right = Math.floor(rising);
     if (left === right) place.face = (left & 3) + 4;
     else place.face = left < right ? left & 3 : (right & 3) + 8;
-    place.x = whole(rising - right);
-    place.y = whole(1 - (falling - left));
+    place.u = rising - right;
+    place.v = 1 - (falling - left);
 }
 
-function locateInCap(quarters, z, sine, place) {
+function findInCap(quarters, z, sine, place) {
     const column = Math.min(Math.floor(quarters), 3);
     const along = quarters - column;
     const width = sine / Math.sqrt((1 + Math.abs(z)) / 3);
     place.face = z > 0 ? column : column + 8;
-    place.x = whole(z > 0 ? 1 - (1 - along) * width : along * width);
-    place.y = whole(z > 0 ? 1 - along * width : (1 - along) * width);
+    place.u = z > 0 ? 1 - (1 - along) * width : along * width;
+    place.v = z > 0 ? 1 - along * width : (1 - along) * width;
 }
 
-function whole(part) {
+/** A part from 0 to 1 as a whole number of DEEP bits. */
+export function whole(part) {
     return Math.max(0, Math.min(SIDE - 1, Math.floor(part * SIDE)));
 }
 
@@ -60,12 +70,16 @@ export function cellOf(order, { face, x, y }) {
     return face * 4 ** order + interleave(column >> 10, line >> 10) * 4 ** 10 + interleave(column & 1023, line & 1023);
 }
 
-/** Points along the border of a cell, so many for each of its four sides. */
-export function border(order, cell, points) {
+/** The face of a cell of an order, and its column and line there. */
+export function partOf(order, cell) {
     const face = Math.floor(cell / 4 ** order);
     const within = cell - face * 4 ** order;
-    const left = gather(within);
-    const low = gather(within >> 1);
+    return [face, gather(within), gather(within >> 1)];
+}
+
+/** Points along the border of a cell, so many for each of its four sides. */
+export function border(order, cell, points) {
+    const [face, left, low] = partOf(order, cell);
     const corners = [[0, 0], [1, 0], [1, 1], [0, 1], [0, 0]];
     const directions = [];
     for (let side = 0; side < 4; side++) {
@@ -82,9 +96,8 @@ export function border(order, cell, points) {
 
 /** The direction of a cell's centre. */
 export function centre(order, cell) {
-    const face = Math.floor(cell / 4 ** order);
-    const within = cell - face * 4 ** order;
-    return direction(face, (gather(within) + 0.5) / 2 ** order, (gather(within >> 1) + 0.5) / 2 ** order);
+    const [face, column, line] = partOf(order, cell);
+    return direction(face, (column + 0.5) / 2 ** order, (line + 0.5) / 2 ** order);
 }
 
 /** The number whose even bits are those of x, and whose odd bits those of y; at most 15 bits each. */

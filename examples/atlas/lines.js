@@ -1,6 +1,7 @@
 // What is drawn over the pixels: the equatorial grid and its numbers, the borders of cells, and those that changed.
 
-import { border, centre, fromDegrees } from "./healpix.js";
+import { border, centre, fromDegrees, toDegrees } from "./healpix.js";
+import { fromGalactic, toGalactic } from "./position.js";
 
 const INK = "rgba(255, 255, 255, 0.45)";
 const SHADE = "rgba(16, 19, 28, 0.22)";
@@ -22,18 +23,30 @@ export class Lines {
 
     /** Clears the picture's lines; widths and letters are for a screen with so many pixels to a point. */
     begin(projection, width, height, density) {
-        this.canvas.width = width;
-        this.canvas.height = height;
+        if (this.canvas.width !== width || this.canvas.height !== height) Object.assign(this.canvas, { width, height });
+        else this.brush.clearRect(0, 0, width, height);
         Object.assign(this, { projection, width, height, density });
         this.brush.font = `${11 * density}px system-ui, "DejaVu Sans", sans-serif`;
         this.brush.lineJoin = "round";
     }
 
     /** Meridians and parallels, with their degrees. */
-    grid(view) {
+    grid(view, isGalactic) {
         const step = this.projection.isWhole ? 30 : STEPS.find((degrees) => view.width / degrees >= LINES_WANTED) ?? STEPS.at(-1);
-        if (this.projection.isWhole) this.wholeGrid(step);
-        else this.partGrid(view, step);
+        this.isGalactic = isGalactic;
+        if (this.projection.isWhole && isGalactic) this.wholeGalacticGrid(step);
+        else if (this.projection.isWhole) this.wholeGrid(step);
+        else this.partGrid(isGalactic ? galacticView(view) : view, step);
+    }
+
+    wholeGalacticGrid(step) {
+        for (let l = 0; l < 360; l += step) {
+            this.gridLine(range(-90, 90, 2).map((b) => this.point(l, b)));
+            const at = this.point(l, 0);
+            this.number(`${l}°`, ...shifted(at, 3, -7, this.density), "left", NUMBERS);
+        }
+        for (let b = -90 + step; b < 90; b += step) this.gridLine(range(0, 360, 2).map((l) => this.point(l, b)));
+        this.edge();
     }
 
     wholeGrid(step) {
@@ -65,7 +78,7 @@ export class Lines {
 
     partGrid(view, step) {
         const places = Math.max(0, Math.ceil(-Math.log10(step)));
-        const reach = view.width * 0.75;
+        const reach = Math.min(120, view.width * 0.75 * Math.max(1, this.height / this.width));
         const [lowest, highest] = [Math.max(-90, view.dec - reach), Math.min(90, view.dec + reach)];
         const isPole = lowest <= -88 || highest >= 88;
         const wide = isPole ? 180 : Math.min(180, reach / Math.cos((Math.max(-lowest, highest) * Math.PI) / 180));
@@ -74,13 +87,13 @@ export class Lines {
             if (Math.abs(dec) > 90 - 1e-9) continue;
             const line = range(view.ra - wide, view.ra + wide, wide / 60).map((ra) => this.point(ra, dec));
             this.gridLine(line);
-            this.numberAtEdge(line, `${signed(dec, places)}°`, "left");
+            this.numberAtEdges(line, `${signed(dec, places)}°`, ["left", "bottom"]);
         }
         const first = Math.ceil((view.ra - wide) / across) * across;
         for (let ra = first; ra < view.ra + wide; ra += across) {
             const line = range(lowest, highest, (highest - lowest) / 60).map((dec) => this.point(ra, dec));
             this.gridLine(line);
-            this.numberAtEdge(line, `${(((ra % 360) + 360) % 360).toFixed(Math.max(0, Math.ceil(-Math.log10(across))))}°`, "bottom");
+            this.numberAtEdges(line, `${(((ra % 360) + 360) % 360).toFixed(Math.max(0, Math.ceil(-Math.log10(across))))}°`, ["bottom", "left"]);
         }
     }
 
@@ -91,10 +104,16 @@ export class Lines {
     }
 
     point(ra, dec) {
-        return this.projection.toScreen(fromDegrees(ra, dec));
+        const direction = fromDegrees(ra, dec);
+        return this.projection.toScreen(this.isGalactic ? fromGalactic(direction) : direction);
     }
 
-    /** A number where a line crosses the left or the bottom edge of the picture. */
+    /** A number at the edge of the picture where a line crosses it: the first of the edges, or the other in a grid that is turned. */
+    numberAtEdges(points, text, [edge, other]) {
+        if (!this.numberAtEdge(points, text, edge) && this.isGalactic) this.numberAtEdge(points, text, other);
+    }
+
+    /** A number where a line crosses the left or the bottom edge of the picture, if it does. */
     numberAtEdge(points, text, edge) {
         const inset = 8 * this.density;
         const [axis, level] = edge === "left" ? [0, inset] : [1, this.height - inset];
@@ -103,13 +122,13 @@ export class Lines {
             if (!one || !other || one[axis] < level === other[axis] < level) continue;
             const part = (level - one[axis]) / (other[axis] - one[axis]);
             const [column, line] = one.map((from, which) => from + (other[which] - from) * part);
-            if (edge === "left" && line < this.height - CORNER * this.density) {
-                this.number(text, column, line - 7 * this.density, "left", NUMBERS);
-            } else if (edge === "bottom" && column < this.width - CORNER * this.density) {
-                this.number(text, column + 4 * this.density, line, "left", NUMBERS);
-            }
-            return;
+            const corner = CORNER * this.density;
+            if (edge === "left" ? line < corner / 2 || line > this.height - corner : column < 0 || column > this.width - corner) continue;
+            const [x, y] = edge === "left" ? [column, line - 7 * this.density] : [column + 4 * this.density, line];
+            this.number(text, x, y, "left", NUMBERS);
+            return true;
         }
+        return false;
     }
 
     /** The borders of cells, with their numbers where there is room. */
@@ -122,12 +141,9 @@ export class Lines {
         }
     }
 
-    /** The cells that the last publication changed; those of order 3 only where it isn't known which of their parts did. */
-    changed({ ofSky, order, inView }, shownOrder) {
-        const isFiner = order !== null && order === shownOrder;
-        const known = new Set(isFiner ? inView.map((cell) => Math.floor(cell / 4 ** (order - 3))) : []);
-        if (isFiner) for (const cell of inView) this.cell(order, cell, CHANGED, 2.5);
-        for (const cell of ofSky) if (!known.has(cell)) this.cell(3, cell, CHANGED, shownOrder === null ? 2.5 : 1);
+    /** The cells that the last publication changed. */
+    changed({ order, cells }) {
+        for (const cell of cells) this.cell(order, cell, CHANGED, 2.5);
     }
 
     cell(order, cell, colour, width) {
@@ -160,6 +176,12 @@ export class Lines {
         this.brush.fillStyle = colour;
         this.brush.fillText(text, column, line);
     }
+}
+
+/** A view whose middle is told in galactic coordinates. */
+function galacticView(view) {
+    const [ra, dec] = toDegrees(toGalactic(fromDegrees(view.ra, view.dec)));
+    return { ...view, ra, dec };
 }
 
 function range(first, last, step) {

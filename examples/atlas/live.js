@@ -1,10 +1,16 @@
 // Keeps one generation of a survey shown, and goes to the next one when it is whole. Every reply names the edits that it shows, its
 // prefix; a generation takes only replies of its own prefix. What is shown stays until all that is in view has come of the next one.
+// Of that only the tiles come that have changed, as far as their ancestors of a coarse order show it. A change that is too small
+// for these is found a little later: once no other generation has come for some seconds, each tile that was kept is looked at itself.
 
 import { Generation, SurveyFault, ask } from "./survey.js";
 
 const PAUSE = 1000;
 const PAUSE_FOR_OLDER = 300;
+const PAUSE_FOR_OTHERS = 20;
+const QUIET = 2500;
+// Looking at tiles that were kept costs at most so many bytes a second.
+const BYTES_TO_CHECK = 100_000;
 const FETCHES_AT_ONCE = 6;
 const MOST_TILES = 600;
 // A cache before the server may answer from the generation before for a second; a server that began anew does so for longer.
@@ -20,11 +26,12 @@ class Overtaken extends Error {
 
 export class Live {
     /**
-     * `inView` says of a generation which tiles the picture needs: {order, cells}, with order null where the mosaic is enough.
-     * `onChange` is called whenever `shown`, `changes`, `isWhole` or `fault` is another.
+     * `page.inView` says of a generation which tiles the picture needs: {order, cells}, with order null where the mosaic is enough;
+     * `page.opened` is called when it is known which tiles the first generation has, and `page.changed` whenever `shown`, `changes`,
+     * `isWhole` or `fault` is another.
      */
-    constructor(address, inView, onChange) {
-        Object.assign(this, { address, inView, onChange });
+    constructor(address, page) {
+        Object.assign(this, { address, page });
         this.shown = null;
         this.coming = null;
         this.changes = null;
@@ -48,7 +55,7 @@ export class Live {
     /** The picture shows another part of the sky: fetches what it lacks. */
     viewed() {
         const generation = this.coming ?? this.shown;
-        if (generation?.sky && !this.isAway) this.fill(generation).catch((fault) => this.stopped(generation, fault));
+        if (generation?.coverage && !this.isAway) this.fill(generation).catch((fault) => this.stopped(generation, fault));
     }
 
     /** Asks which generation is the newest. */
@@ -65,8 +72,9 @@ export class Live {
         const newest = this.coming ?? this.shown;
         this.olderReplies = newest && prefix < newest.prefix ? this.olderReplies + 1 : 0;
         const isAnew = this.isAway || this.olderReplies >= OLDER_REPLIES_BEFORE_ANEW;
-        if (!newest || prefix > newest.prefix || isAnew) this.begin(prefix);
+        if (!newest || prefix > newest.prefix || isAnew) this.begin(prefix, isAnew);
         else if (this.fault) this.viewed();
+        else if (this.shown?.unsure.size > 0 && performance.now() - this.since > QUIET) this.check(this.shown);
     }
 
     lost(fault) {
@@ -75,54 +83,100 @@ export class Live {
         this.tell(fault);
     }
 
-    /** Fetches a generation, beside the one that is shown. */
-    begin(prefix) {
-        const generation = new Generation(prefix);
+    /** Fetches a generation, beside the one that is shown. A server that began anew may have other edits under the same number. */
+    begin(prefix, isAnew = false) {
+        const generation = new Generation(prefix, isAnew ? null : this.shown);
         this.coming = generation;
         this.isAway = false;
         this.olderReplies = 0;
-        this.load(generation).catch((fault) => this.stopped(generation, fault));
+        this.load(generation, isAnew).catch((fault) => this.stopped(generation, fault));
     }
 
-    async load(generation) {
+    async load(generation, isAnew) {
+        generation.isAnew = isAnew;
         await generation.open((path) => this.get(generation, path));
-        if (this.shown === null && this.coming === generation) this.show(generation);
+        if (this.shown === null && this.coming === generation) {
+            this.page.opened(generation);
+            this.show(generation);
+        }
         await this.fill(generation);
     }
 
-    /** Fetches the tiles in view that a generation lacks, some at once; and shows it when none is lacking. */
+    /** Fetches what a generation lacks in view, some files at once; and shows it when none is lacking. */
     async fill(generation) {
-        const get = (path) => this.get(generation, path);
-        const next = async () => {
-            while (this.isCurrent(generation)) {
-                const { order } = this.inView(generation);
-                const cell = this.lacking(generation).find((lacking) => !generation.isFetching(order, lacking));
-                if (cell === undefined) return;
-                await generation.fetchTile(get, order, cell);
-                if (generation === this.shown) this.onChange();
-            }
-        };
-        await Promise.all(Array.from({ length: FETCHES_AT_ONCE }, next));
+        if (generation.isFilling) return;
+        generation.isFilling = true;
+        try {
+            await Promise.all(Array.from({ length: FETCHES_AT_ONCE }, () => this.fetchNext(generation)));
+        } finally {
+            generation.isFilling = false;
+        }
         if (this.isCurrent(generation) && this.lacking(generation).length === 0) this.filled(generation);
     }
 
+    async fetchNext(generation) {
+        while (this.isCurrent(generation)) {
+            const wanted = this.lacking(generation);
+            if (wanted.length === 0) return;
+            const file = wanted.find(({ path }) => !generation.fetching.has(path));
+            if (file === undefined) await pause(PAUSE_FOR_OTHERS);
+            else {
+                await generation.fetch((path) => this.get(generation, path), file);
+                if (generation === this.shown) this.page.changed();
+            }
+        }
+    }
+
     filled(generation) {
-        generation.tidy(this.inView(generation), MOST_TILES);
+        generation.tidy(this.page.inView(generation), MOST_TILES);
         if (generation === this.coming) this.show(generation);
         else if (this.fault) this.tell(null);
-        else this.onChange();
+        else this.page.changed();
     }
 
     show(generation) {
-        this.changes = this.shown && generation.changesSince(this.shown, this.inView(generation));
+        this.changes = this.shown && !generation.isAnew ? generation.changesSince(this.shown, this.page.inView(generation)) : null;
+        generation.earlier = null;
         this.shown = generation;
         this.coming = null;
+        this.since = performance.now();
         this.tell(null);
     }
 
+    /** Looks at tiles in view that were kept of the generation before, one after another, as long as the bytes of this second last. */
+    async check(generation) {
+        if (this.isChecking) return;
+        this.isChecking = true;
+        this.bytesLeft = Math.min(BYTES_TO_CHECK, (this.bytesLeft ?? 0) + BYTES_TO_CHECK);
+        const get = async (path) => {
+            const bytes = await this.get(generation, path);
+            this.bytesLeft -= bytes?.byteLength ?? 0;
+            return bytes;
+        };
+        try {
+            const { order, cells } = this.page.inView(generation);
+            for (const cell of cells) {
+                if (!generation.keeps(order, cell)) continue;
+                if (this.bytesLeft <= 0 || !this.isCurrent(generation) || generation !== this.shown) return;
+                if (await generation.check(get, order, cell)) this.changes?.cells.push(cell);
+                this.page.changed();
+            }
+        } catch (fault) {
+            this.stopped(generation, fault);
+        } finally {
+            this.isChecking = false;
+        }
+    }
+
+    /** Whether each tile in view is known to be of the generation that is shown. */
+    get isSure() {
+        if (!this.isWhole) return false;
+        const { order, cells } = this.page.inView(this.shown);
+        return this.shown.unsure.size === 0 || !cells.some((cell) => this.shown.keeps(order, cell));
+    }
+
     lacking(generation) {
-        const { order, cells } = this.inView(generation);
-        return order === null ? [] : cells.filter((cell) => generation.lacks(order, cell));
+        return generation.lacking(this.page.inView(generation));
     }
 
     isCurrent(generation) {
@@ -157,7 +211,7 @@ export class Live {
 
     tell(fault) {
         this.fault = fault;
-        this.onChange();
+        this.page.changed();
     }
 }
 

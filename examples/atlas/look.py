@@ -1,13 +1,14 @@
 #!/usr/bin/python3
 """Shows a survey in a browser on one's own machine: the atlas page beside it, and the survey as hipsd serves it.
 
-    examples/atlas/look.py SERVER [PORT]     a running hipsd, http://127.0.0.1:8080
-    examples/atlas/look.py FOLDER [PORT]     a survey folder, which hipsd is started over until this ends
+    examples/atlas/look.py SERVER [PORT [CATALOGUE]]     a running hipsd, http://127.0.0.1:8080
+    examples/atlas/look.py FOLDER [PORT [CATALOGUE]]     a survey folder, which hipsd is started over until this ends
 
-PORT is where the page is then, 8000 if it isn't said. Whoever looks can read, and edits nothing: GET and HEAD alone are passed on.
+PORT is where the page is then, 8000 if it isn't said. CATALOGUE is a folder that catalog.sh made, which the page shows over the sky. Whoever looks can read, and edits nothing: GET and HEAD alone are passed on.
 The program is crates/hipsd/out/hipsd, or the one that HIPSD_PROGRAM names.
 """
 
+import contextlib
 import http.client
 import os
 import signal
@@ -28,21 +29,24 @@ class Handler(SimpleHTTPRequestHandler):
     """One connection of a browser, with one to the survey's server, which it keeps."""
 
     protocol_version = "HTTP/1.1"
-    extensions_map = {".html": "text/html", ".css": "text/css", ".js": "text/javascript", "": "application/octet-stream"}
+    extensions_map = {".html": "text/html", ".tsv": "text/tab-separated-values", ".css": "text/css", ".js": "text/javascript", "": "application/octet-stream"}
 
     def __init__(self, *words, **more):
         self.server_of_survey = None
         super().__init__(*words, directory=PAGE, **more)
 
     def do_GET(self):
-        if self.path == "/":
+        if self.headers.get("Host", "").partition(":")[0] not in ("127.0.0.1", "localhost"):
+            # A page from elsewhere may have led its own name to this address (DNS rebinding).
+            self.send_error(421)
+        elif self.path == "/":
             self.send_response(302)
             self.send_header("Location", "/atlas/")
             self.send_header("Content-Length", "0")
             self.end_headers()
         elif self.path.startswith("/survey/"):
             self.pass_on(self.path.removeprefix("/survey"))
-        elif self.path.startswith("/atlas/"):
+        elif self.path.startswith("/atlas/") or (self.path.startswith("/catalogue/") and self.server.catalogue):
             super().do_GET() if self.command == "GET" else super().do_HEAD()
         else:
             self.send_error(404)
@@ -50,7 +54,8 @@ class Handler(SimpleHTTPRequestHandler):
     do_HEAD = do_GET
 
     def translate_path(self, path):
-        return super().translate_path(path.removeprefix("/atlas"))
+        self.directory = os.fspath(self.server.catalogue if path.startswith("/catalogue/") else PAGE)
+        return super().translate_path(path.removeprefix("/catalogue").removeprefix("/atlas"))
 
     def pass_on(self, path):
         """What the survey's server answers; 502 where it doesn't."""
@@ -67,7 +72,9 @@ class Handler(SimpleHTTPRequestHandler):
         self.send_header("Content-Length", str(len(body)))
         self.end_headers()
         if self.command == "GET":
-            self.wfile.write(body)
+            # A browser that goes to another page breaks off.
+            with contextlib.suppress(ConnectionError):
+                self.wfile.write(body)
 
     def ask(self, path):
         """A connection that was kept may have been closed meanwhile: then a new one is made."""
@@ -97,11 +104,12 @@ class Handler(SimpleHTTPRequestHandler):
         pass
 
 
-def page_server(survey, port=0, handler=Handler):
-    """A server on the loopback of the page and of the survey at an address with a port."""
+def page_server(survey, port=0, handler=Handler, catalogue=None):
+    """A server on the loopback of the page, of the survey at an address with a port, and of a catalogue's folder."""
     server = ThreadingHTTPServer(("127.0.0.1", port), handler)
     server.daemon_threads = True
     server.survey = survey
+    server.catalogue = catalogue
     return server
 
 
@@ -115,13 +123,14 @@ def started(folder):
 
 
 def main():
-    if len(sys.argv) not in (2, 3):
+    if len(sys.argv) not in (2, 3, 4):
         sys.exit(__doc__)
     signal.signal(signal.SIGTERM, signal.default_int_handler)
-    named, port = sys.argv[1], int(sys.argv[2]) if len(sys.argv) == 3 else 8000
+    named, port = sys.argv[1], int(sys.argv[2]) if len(sys.argv) > 2 else 8000
+    catalogue = Path(sys.argv[3]) if len(sys.argv) > 3 else None
     hipsd, survey = (None, urlsplit(named).netloc) if "://" in named else started(named)
     try:
-        with page_server(survey, port) as server:
+        with page_server(survey, port, catalogue=catalogue) as server:
             print(f"The atlas is at http://127.0.0.1:{port}/atlas/ (Ctrl-C ends it); the survey is served at http://{survey}")
             server.serve_forever()
     except KeyboardInterrupt:

@@ -20,6 +20,7 @@ obs_title = A made sky
 hips_release_date = 2024-05-01T00:00Z
 hips_status = public master clonable
 hips_order = {ORDER}
+hips_order_min = 0
 hips_tile_width = {2**BITS}
 survey_bitpix = 16
 survey_blank = {BLANK}

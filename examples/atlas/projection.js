@@ -1,7 +1,7 @@
 // Where a direction stands in the picture, and back. Both projections keep areas; north is up and east to the left. Points of the
 // picture are counted in its pixels from the top left corner.
 
-import { fromDegrees, toDegrees } from "./healpix.js";
+import { border, fromDegrees, partOf, toDegrees } from "./healpix.js";
 
 export const WHOLE_SKY = 360;
 const WIDEST_PART = 180;
@@ -17,9 +17,29 @@ export function boundedWidth(width, least) {
     return width > WIDEST_PART ? WHOLE_SKY : Math.max(width, least);
 }
 
+class Projection {
+    /** The order, face, column and line of a cell. */
+    tileOf(order, cell) {
+        return [order, ...partOf(order, cell)];
+    }
+
+    /** Whole pixels around a cell in a picture; all of them where its border isn't all there, or crosses the picture's edge. */
+    boundsOf(order, cell, width, height) {
+        const points = border(order, cell, 4).map((direction) => this.toScreen(direction));
+        if (points.some((point) => point === null)) return [0, 0, width, height];
+        const [columns, lines] = [0, 1].map((axis) => points.map((point) => point[axis]));
+        const slack = (Math.max(...columns) - Math.min(...columns)) / 8 + 2;
+        if (slack > width / 20) return [0, 0, width, height];
+        const bounds = [Math.min(...columns) - slack, Math.min(...lines) - slack, Math.max(...columns) + slack, Math.max(...lines) + slack];
+        const [left, top, right, bottom] = bounds.map((bound, side) => Math.max(0, Math.min(side % 2 ? height : width, Math.round(bound))));
+        return right > left && bottom > top ? [left, top, right, bottom] : null;
+    }
+}
+
 /** The whole sky as an ellipse, around a meridian. */
-class Mollweide {
+class Mollweide extends Projection {
     constructor(view, width, height) {
+        super();
         this.middle = [width / 2, height / 2];
         this.half = Math.max(1, Math.min(width / 2 - MARGIN, height - 2 * MARGIN));
         this.ra = view.ra;
@@ -71,8 +91,9 @@ function slopeOf(z) {
 }
 
 /** A part of the sky around a direction: Lambert's azimuthal projection. */
-class EqualArea {
+class EqualArea extends Projection {
     constructor(view, width, height) {
+        super();
         this.middle = [width / 2, height / 2];
         this.scale = width / 4 / Math.sin((view.width * Math.PI) / 720);
         this.centre = fromDegrees(view.ra, view.dec);

@@ -1,6 +1,7 @@
 // A survey as a server gives it: its files, each with the generation that its reply names, and one generation of it as it is known.
 
 import { FitsFault, cutMosaic, readCoverage, readImage } from "./fits.js";
+import { partOf } from "./healpix.js";
 
 const PATIENCE = 20_000;
 
@@ -59,6 +60,21 @@ export class Coverage {
         return range !== undefined && range[0] < (cell + 1) * leaves;
     }
 
+    /** The faces as pictures above each other, of cells of an order: 255 where there is a leaf at or under the cell. */
+    map(order) {
+        const side = 2 ** order;
+        const found = new Uint8Array(12 * side * side);
+        const shift = 4 ** Math.max(0, this.order - order);
+        const copies = 4 ** Math.max(0, order - this.order);
+        for (const [first, end] of this.ranges) {
+            for (let cell = Math.floor(first / shift) * copies; cell < Math.ceil(end / shift) * copies; cell++) {
+                const [face, column, line] = partOf(order, cell);
+                found[(face * side + line) * side + column] = 255;
+            }
+        }
+        return found;
+    }
+
     /** The first range that ends behind a leaf. */
     rangeAfter(leaf) {
         let [low, high] = [0, this.ranges.length];
@@ -88,24 +104,47 @@ class Layer {
     }
 }
 
-/** One generation of a survey, as far as its files were fetched: all of them are answered by the same published edits. */
+/** Cells of the mosaic, and the bits of a column there. */
+const SKY_ORDER = 3;
+const SKY_WIDTH = 64;
+/** So many bits of a coarse tile's column show a tile of the order in view, which is 4 of its pixels wide. */
+const PIXEL_BITS_OF_A_TILE = 2;
+/** A mosaic costs as much as so many coarse tiles that come before it. */
+const COARSE_SHARE = 4;
+
+/**
+ * One generation of a survey, as far as its files were fetched: all of them are answered by the same published edits. `earlier` is the
+ * one that is shown, of the same server: tiles of it are kept where their ancestors of a coarse order show no change.
+ */
 export class Generation {
-    constructor(prefix) {
+    constructor(prefix, earlier = null) {
         this.prefix = prefix;
+        this.earlier = earlier;
         this.layers = new Map();
         this.fetching = new Set();
+        this.sky = null;
+        // Tiles that were kept, and not compared themselves.
+        this.unsure = new Set();
     }
 
-    /** Fetches what a picture of the whole sky needs. `get` asks for a path, and its answer is of this generation. */
+    /** Fetches what says which tiles there are. `get` asks for a path, and its answer is of this generation. */
     async open(get) {
-        const [properties, coverage, mosaic] = await Promise.all(["properties", "Moc.fits", "Norder3/Allsky.fits"].map(get));
+        const [properties, coverage] = await Promise.all(["properties", "Moc.fits"].map(get));
         if (!properties || !coverage) throw new SurveyFault("The server has no properties or no Moc.fits.");
         this.properties = readProperties(properties);
-        this.order = Number(this.properties.get("hips_order"));
-        this.width = Number(this.properties.get("hips_tile_width"));
+        this.order = this.number("hips_order");
+        this.width = this.number("hips_tile_width");
+        this.least = Math.min(this.number("hips_order_min") ?? SKY_ORDER, SKY_ORDER);
+        this.skyBits = Math.log2(Math.min(this.width, SKY_WIDTH));
         this.coverage = new Coverage(read("Moc.fits", coverage, readCoverage));
-        const cells = mosaic ? read("Norder3/Allsky.fits", mosaic, (bytes) => cutMosaic(readImage(bytes))) : new Map();
-        this.sky = new Layer(3, Math.min(this.width, 64), cells);
+        const is = (name) => this.properties.get(name) === this.earlier.properties.get(name);
+        if (this.earlier && !["hips_order", "hips_order_min", "hips_tile_width", "survey_bitpix"].every(is)) this.earlier = null;
+    }
+
+    /** The number that a key of the properties has, null where it has none. */
+    number(key) {
+        const value = parseFloat(this.properties.get(key));
+        return Number.isFinite(value) ? value : null;
     }
 
     /** The tiles of an order, as far as they are here. */
@@ -114,41 +153,117 @@ export class Generation {
         return this.layers.get(order);
     }
 
+    /** The layers that show an order, the finest first; null is the mosaic. */
+    shownBy(order) {
+        const finest = order === null ? SKY_ORDER + this.skyBits : order + this.layer(order).bits;
+        const isShown = (layer) => layer && layer.order + layer.bits <= finest && (layer.tiles.size > 0 || layer.order === order);
+        return [...this.layers.values(), this.sky].filter(isShown).sort((one, other) => other.order + other.bits - one.order - one.bits);
+    }
+
     lacks(order, cell) {
         return this.coverage.touches(order, cell) && !this.layer(order).tiles.has(cell);
     }
 
-    isFetching(order, cell) {
-        return this.fetching.has(tilePath(order, cell));
+    /** The files that a view lacks, those that are to be fetched next first: coarse tiles, then those of its order, or the mosaic. */
+    lacking({ order, cells }) {
+        const above = this.above(order);
+        const coarse = this.coarse(order, cells).filter((cell) => this.lacks(above, cell));
+        if (coarse.length > 0) return coarse.map((cell) => ({ path: tilePath(above, cell), order: above, cell, isCoarse: true }));
+        if (order === null) return this.sky ? [] : [{ path: "Norder3/Allsky.fits", order: null }];
+        this.keep(order, cells);
+        return cells.filter((cell) => this.lacks(order, cell)).map((cell) => ({ path: tilePath(order, cell), order, cell }));
     }
 
-    async fetchTile(get, order, cell) {
-        const path = tilePath(order, cell);
+    /** The order of the coarse tiles for an order in view: the coarsest in which a tile of it still has some pixels to a side. */
+    above(order) {
+        return order === null ? this.least : Math.min(order, Math.max(this.least, order - Math.log2(this.width) + PIXEL_BITS_OF_A_TILE));
+    }
+
+    /** The cells of that order above those in view; none where they are no shorter way. */
+    coarse(order, cells) {
+        const above = this.above(order);
+        if (order !== null) return order > above ? [...new Set(cells.map((cell) => Math.floor(cell / 4 ** (order - above))))] : [];
+        if (this.earlier || this.sky || above === SKY_ORDER) return [];
+        const all = Array.from({ length: 12 * 4 ** above }, (_, cell) => cell);
+        const isShort = all.length * this.width ** 2 * COARSE_SHARE <= 768 * 4 ** this.skyBits;
+        return isShort ? all : [];
+    }
+
+    /** Keeps tiles of the generation before that their ancestors show as unchanged. */
+    keep(order, cells) {
+        if (!this.earlier) return;
+        const { tiles } = this.layer(order);
+        for (const cell of cells) {
+            if (tiles.has(cell) || !this.isUnchanged(order, cell)) continue;
+            tiles.set(cell, this.earlier.layer(order).tiles.get(cell));
+            this.unsure.add(tilePath(order, cell));
+        }
+    }
+
+    /** Whether a tile of the generation before is here, and the pixels of its ancestor are the same. */
+    isUnchanged(order, cell) {
+        const { earlier } = this;
+        const above = this.above(order);
+        if (order === above || !this.coverage.touches(order, cell) || !earlier.layer(order).tiles.has(cell)) return false;
+        const leading = Math.floor(cell / 4 ** (order - above));
+        const [now, before] = [this, earlier].map((generation) => generation.layer(above).tiles.get(leading));
+        return now !== undefined && before !== undefined && now.equalsWithin(before, cell - leading * 4 ** (order - above), order - above);
+    }
+
+    /** Fetches what is lacking. */
+    async fetch(get, { path, order, cell }) {
         this.fetching.add(path);
         try {
             const bytes = await get(path);
-            if (!bytes) throw new SurveyFault(`The coverage has leaves at ${path}, and the server has no such file.`);
-            this.layer(order).tiles.set(cell, read(path, bytes, readImage));
+            if (order === null) this.sky = this.cut(path, bytes);
+            else if (!bytes) throw new SurveyFault(`The coverage has leaves at ${path}, and the server has no such file.`);
+            else this.layer(order).tiles.set(cell, read(path, bytes, readImage));
         } finally {
             this.fetching.delete(path);
         }
     }
 
+    cut(path, bytes) {
+        const mosaic = bytes && read(path, bytes, readImage);
+        const layer = new Layer(SKY_ORDER, Math.min(this.width, SKY_WIDTH), mosaic ? cutMosaic(mosaic) : new Map());
+        layer.mosaic = mosaic;
+        return layer;
+    }
+
+    /** Whether a tile was kept, and not looked at since. */
+    keeps(order, cell) {
+        return order !== null && this.unsure.has(tilePath(order, cell));
+    }
+
+    /** Looks at a tile that was kept: whether it is another after all. */
+    async check(get, order, cell) {
+        const path = tilePath(order, cell);
+        const bytes = await get(path);
+        this.unsure.delete(path);
+        const { tiles } = this.layer(order);
+        const found = bytes && read(path, bytes, readImage);
+        if (!found || found.equals(tiles.get(cell))) return false;
+        tiles.set(cell, found);
+        return true;
+    }
+
     /** Forgets the tiles that aren't in view, once there are many. */
-    tidy(inView, most) {
+    tidy({ order, cells }, most) {
         for (const layer of this.layers.values()) {
             if (layer.tiles.size <= most) continue;
-            const kept = layer.order === inView.order ? new Set(inView.cells) : new Set();
+            const kept = new Set(layer.order === order ? cells : layer.order === this.above(order) ? this.coarse(order, cells) : []);
             for (const cell of layer.tiles.keys()) if (!kept.has(cell)) layer.tiles.delete(cell);
         }
     }
 
-    /** The cells whose tiles differ from those of an earlier generation: of order 3, and of the order in view. */
+    /** The cells in view whose tiles differ from those of an earlier generation; those of order 3 where the mosaic is shown. */
     changesSince(earlier, { order, cells }) {
-        const ofSky = changed(this.sky, earlier.sky, [...new Set([...this.sky.tiles.keys(), ...earlier.sky.tiles.keys()])]);
-        const known = cells.filter((cell) => !earlier.lacks(order, cell));
-        const inView = order === null ? [] : changed(this.layer(order), earlier.layer(order), known);
-        return { ofSky, order, inView };
+        if (order !== null) {
+            const known = cells.filter((cell) => !earlier.lacks(order, cell));
+            return { order, cells: changed(this.layer(order), earlier.layer(order), known) };
+        }
+        if (!this.sky || !earlier.sky) return null;
+        return { order: SKY_ORDER, cells: changed(this.sky, earlier.sky, [...new Set([...this.sky.tiles.keys(), ...earlier.sky.tiles.keys()])]) };
     }
 }
 
@@ -156,7 +271,8 @@ export class Generation {
 function changed(layer, earlier, cells) {
     return cells.filter((cell) => {
         const [now, before] = [layer.tiles.get(cell), earlier.tiles.get(cell)];
-        if (!now || !before) return !(now ?? before)?.isBlank() && now !== before;
+        if (now === before) return false;
+        if (!now || !before) return !(now ?? before)?.isBlank();
         return !now.equals(before);
     });
 }

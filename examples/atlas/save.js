@@ -1,0 +1,22 @@
+// The picture as a file.
+
+const KEPT = 10_000;
+
+/** Saves canvases over each other on a ground, with a line of words at the top, as a PNG. */
+export function savePicture(canvases, [width, height], density, ground, words) {
+    const canvas = Object.assign(document.createElement("canvas"), { width, height });
+    const brush = canvas.getContext("2d");
+    brush.fillStyle = ground;
+    brush.fillRect(0, 0, width, height);
+    brush.imageSmoothingEnabled = false;
+    for (const layer of canvases) brush.drawImage(layer, 0, 0, width, height);
+    brush.font = `${12 * density}px sans-serif`;
+    Object.assign(brush, { lineWidth: 3 * density, strokeStyle: "rgba(15, 18, 28, 0.7)", fillStyle: "#ffffff" });
+    brush.strokeText(words, 8 * density, 16 * density);
+    brush.fillText(words, 8 * density, 16 * density);
+    canvas.toBlob((blob) => {
+        const link = Object.assign(document.createElement("a"), { href: URL.createObjectURL(blob), download: "atlas.png" });
+        link.click();
+        setTimeout(() => URL.revokeObjectURL(link.href), KEPT);
+    });
+}

@@ -1,0 +1,50 @@
+// What the page says in words and numbers.
+
+import { cellOf } from "./healpix.js";
+import { Reader } from "./picture.js";
+
+export function counted(count, one, many = `${one}s`) {
+    return `${count.toLocaleString("en")} ${count === 1 ? one : many}`;
+}
+
+export function short(value) {
+    return Number.isInteger(value) && Math.abs(value) < 1e9 ? String(value) : value.toPrecision(5);
+}
+
+export function facts(properties) {
+    const [bits, leaves, order] = ["survey_bitpix", "survey_leaves", "hips_order"].map((name) => properties.get(name));
+    return `${counted(Number(leaves), "leaf tile", "leaf tiles")} of order ${order}, ${properties.get("hips_tile_width")} pixels wide, ${bits} bits`;
+}
+
+export function faultText(fault, generation) {
+    const shown = generation ? ` What is shown is the survey after ${counted(generation.prefix, "published edit")}.` : "";
+    return `${fault.message}${shown} It is asked again each second.`;
+}
+
+export function newsText(changes) {
+    if (!changes) return "";
+    const { order, cells } = changes;
+    return `The last publication changed ${counted(cells.length, "tile")} of order ${order}${order === 3 ? "" : " in view"}.`;
+}
+
+/** What stands at a place, of the finest of the layers that has it: {text, value, order, cell}, the tile that was looked at. */
+export function readingOf(layers, coverage, place) {
+    const readers = layers.map((layer) => new Reader(layer, coverage));
+    const reader = readers.find((some) => some.at(place.face, place.x, place.y) || some.isBlank) ?? readers[0];
+    if (!reader) return { text: "", value: NaN };
+    const tile = reader.at(place.face, place.x, place.y);
+    const { layer } = reader;
+    const pixelOrder = layer.order + layer.bits;
+    const cell = cellOf(layer.order, place);
+    const where = `cell ${layer.order}/${cell}, pixel ${pixelOrder}/${cellOf(pixelOrder, place)}`;
+    if (!tile) return { text: `${where}: no data`, value: NaN, order: layer.order, cell };
+    const value = tile.value(reader.index);
+    const text = `${where}: ${Number.isNaN(value) ? "blank" : numberText(tile, reader.index, value)}`;
+    return { text, value, order: layer.order, cell };
+}
+
+/** The stored number, and its value where that is another. */
+function numberText(tile, index, value) {
+    const stored = String(tile.numbers[index]);
+    return tile.scale === 1 && tile.zero === 0 ? stored : `${short(value)} (stored ${stored})`;
+}

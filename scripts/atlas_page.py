@@ -1,0 +1,517 @@
+"""What whoever looks at the atlas page does with it, tried at three sizes of the screen: atlas-client.py calls `at_each_size` and
+`once`, and says what `trial` is.
+
+- Positions that are written, and those that the page doesn't take; what stands under a pointer, after arrow keys, under a finger.
+- How many milliseconds of the browser's main thread a frame takes while the view moves; the first picture, also on a slow line; how
+  many bytes come for it, and for a publication; a change that coarser tiles don't show.
+- A tile that examples/edit-tile.py edits.
+- The scale bar, the colour bar, cuts that are typed, galactic coordinates, Back and Forward, files that are saved, dark and light.
+- A server that begins anew; a catalogue over the sky; the picture that WebGL draws.
+"""
+
+import io
+import os
+import re
+import subprocess
+import tempfile
+import time
+from pathlib import Path
+from urllib.parse import parse_qs
+
+import healpy
+import numpy
+from astropy import units
+from astropy.coordinates import SkyCoord
+from PIL import Image
+from selenium.webdriver.common.action_chains import ActionChains
+from selenium.webdriver.common.by import By
+from selenium.webdriver.common.keys import Keys
+
+from survey_files import tile_path
+
+EXAMPLES = Path(__file__).resolve().parent.parent / "examples"
+SIZES = {"1280 by 800": (1280, 800, False), "1920 by 1080": (1920, 1080, False), "390 by 844": (390, 844, True)}
+VIEW = (80, 20, 30)
+# What a busy machine of two processors meets; a page that fetches or draws too much is far beyond.
+MOST_MILLISECONDS_A_FRAME = 50
+MOST_FIRST, MOST_FIRST_ON_A_SLOW_LINE = 8, 12
+MOST_BYTES_OF_A_PUBLICATION = 200_000
+LEAST_FINGER = 40
+FRAMES = """
+const done = arguments[arguments.length - 1], canvas = document.getElementById("lines"), begun = performance.now();
+let frames = 0;
+const next = () => {
+    const key = frames++ % 40 < 20 ? "ArrowLeft" : "ArrowRight";
+    canvas.dispatchEvent(new KeyboardEvent("keydown", { key }));
+    if (performance.now() - begun < 1000) requestAnimationFrame(next);
+    else done([frames, performance.now() - begun]);
+};
+requestAnimationFrame(next);
+"""
+
+
+def resize(trial, width, height, is_touch):
+    metrics = {"width": width, "height": height, "deviceScaleFactor": 1, "mobile": is_touch}
+    trial.browser.execute_cdp_cmd("Emulation.setDeviceMetricsOverride", metrics)
+    trial.browser.execute_cdp_cmd("Emulation.setTouchEmulationEnabled", {"enabled": is_touch, "maxTouchPoints": 5})
+
+
+def script(trial, text, *words):
+    return trial.browser.execute_script(text, *words)
+
+
+def view_of(trial):
+    """The view that the page's address has."""
+    words = parse_qs(script(trial, "return location.hash.slice(1)"))
+    return tuple(float(words.get(name, ["nan"])[0]) for name in ("ra", "dec", "width"))
+
+
+def turn(trial, view, *switches):
+    """The page goes to a view, without being opened anew."""
+    script(trial, "location.hash = arguments[0]", trial.hash(view, *switches))
+    time.sleep(0.1)
+    trial.wait("whole")
+
+
+def shown_order(trial):
+    """The order of the tiles that are shown; 3 where it is the mosaic."""
+    text = script(trial, "return document.getElementById('shown').textContent")
+    return int(text[-1]) if "order" in text else 3
+
+
+def is_said(trial, what, text, found):
+    if text not in found:
+        trial.blame(f"{what}: no '{text}' in '{found}'")
+
+
+def wait_for(trial, what, condition, seconds=15):
+    until = time.monotonic() + seconds
+    while time.monotonic() < until:
+        if condition():
+            return
+        time.sleep(0.05)
+    trial.blame(f"{what}: not within {seconds} seconds")
+
+
+# ---- at each size
+
+
+def at_each_size(trial, sent):
+    for name, (width, height, is_touch) in SIZES.items():
+        resize(trial, width, height, is_touch)
+        first_picture(trial, name, sent)
+        ruler(trial, name)
+        publication(trial, name, sent)
+        if is_touch:
+            touches(trial, name)
+        else:
+            reads(trial, name)
+        searches(trial, name)
+        frames(trial, name)
+    resize(trial, *SIZES["1280 by 800"])
+
+
+def first_picture(trial, name, sent):
+    # What the page before asked for may still come.
+    trial.browser.get("about:blank")
+    time.sleep(0.3)
+    sent.clear()
+    trial.open(trial.hash(VIEW))
+    first = script(trial, "return Number(document.body.dataset.first) / 1000")
+    paths = [path for path, _ in sent]
+    size = sum(size for _, size in sent)
+    if not first or first > MOST_FIRST:
+        trial.blame(f"{name}: the first picture comes after {first} s")
+    if "/Norder3/Allsky.fits" in paths:
+        trial.blame(f"{name}: the mosaic is fetched for a view of {VIEW[2]} degrees")
+    orders = [int(path.split("/")[1].removeprefix("Norder")) for path in paths if path.startswith("/Norder")]
+    if orders != sorted(orders) or orders[:1] != [0]:
+        trial.blame(f"{name}: tiles don't come by the coarsest order first: {orders}")
+    trial.compare(f"{name}, {VIEW[2]} degrees", VIEW, shown_order(trial) + trial.survey.bits)
+    print(f"check-atlas: {name}: first picture after {first:.2f} s, whole view {size / 1e6:.2f} MB in {len(sent)} files")
+
+
+def searches(trial, name):
+    """Positions that are written; what isn't taken is said, and the next one is taken."""
+    place = trial.browser.find_element(By.ID, "place")
+    if not place.is_displayed():
+        script(trial, "document.getElementById('fold').click()")
+    few = slice(None if name == "1280 by 800" else 1)
+    for text, said in (("M 31", "Names of objects aren't known"), ("83 99", "−90 to +90"), ("83", "two angles"), ("5h60m 22", "below 60"))[few]:
+        place.clear()
+        place.send_keys(text, Keys.ENTER)
+        is_said(trial, f"{name}: '{text}'", said, script(trial, "return document.getElementById('refused').textContent"))
+    for text, expected in (("84.0 +21.5", (84, 21.5)), ("80, 20", (80, 20)), ("5h36m00s +21d30m00s", (84, 21.5)), ("05:20:00 +20:00:00", (80, 20)),
+                           ("5 36 0 +21 30 0", (84, 21.5)), ("5h 20m 20°", (80, 20)))[few]:
+        place.clear()
+        place.send_keys(text, Keys.ENTER)
+        wait_for(trial, f"{name}: '{text}' leads to {view_of(trial)}", lambda expected=expected: view_of(trial)[:2] == expected, 10)
+        if script(trial, "return document.getElementById('refused').textContent"):
+            trial.blame(f"{name}: '{text}' is taken, and still refused")
+    if script(trial, "return document.body.dataset.controls") == "open":
+        script(trial, "document.getElementById('fold').click()")
+
+
+def reading_is(trial, what, at):
+    """The position, the pixel and its number that stand at a point of the picture, by wcslib and healpy."""
+    survey, view = trial.survey, view_of(trial)
+    rect = trial.browser.find_element(By.ID, "lines").rect
+    ra, dec = trial.wcs((round(rect["height"]), round(rect["width"])), *view).all_pix2world([at[0]], [at[1]], 0)
+    said = re.search(r"RA ([\d.]+)°  Dec ([+−][\d.]+)°", script(trial, "return document.getElementById('position').textContent"))
+    found = said and (float(said[1]), float(said[2].replace("−", "-")))
+    if not found or abs(found[0] - ra[0]) > 0.002 or abs(found[1] - dec[0]) > 0.002:
+        trial.blame(f"{what}: {found} is said at {at}, which is {ra[0]}, {dec[0]}")
+        return
+    text = script(trial, "return document.getElementById('value').textContent")
+    value = re.search(r"cell \d+/\d+, pixel (\d+)/(\d+): (-?\d+|blank|no data)", text)
+    if not value:
+        trial.blame(f"{what}: '{text}' is said")
+        return
+    order = int(value[1])
+    pixel = int(healpy.ang2pix(2**order, ra[0], dec[0], nest=True, lonlat=True))
+    number = survey.numbers(order, numpy.array([pixel]))[0]
+    is_same = value[3] in ("blank", "no data") if numpy.isnan(number) else value[3] == str(int(number))
+    if int(value[2]) != pixel or not is_same:
+        trial.blame(f"{what}: '{text}' is said where pixel {order}/{pixel} has {number}")
+
+
+def reads(trial, name):
+    canvas = trial.browser.find_element(By.ID, "lines")
+    script(trial, "arguments[0].addEventListener('pointermove', (event) => { window.at = [event.offsetX, event.offsetY]; })", canvas)
+    ActionChains(trial.browser).move_to_element_with_offset(canvas, 60, 40).perform()
+    reading_is(trial, f"{name}, under the pointer", script(trial, "return window.at"))
+    canvas.send_keys(Keys.ARROW_LEFT, Keys.ARROW_UP)
+    time.sleep(0.3)
+    trial.wait("whole")
+    if view_of(trial)[0] == VIEW[0]:
+        trial.blame(f"{name}: arrow keys don't move the view")
+    reading_is(trial, f"{name}, after arrow keys", script(trial, "return window.at"))
+    mark = script(trial, "const mark = document.getElementById('mark'); return mark.hidden ? null : parseFloat(mark.style.left)")
+    value = float(script(trial, "return document.getElementById('value').textContent").rsplit(" ", 1)[1])
+    low, high = trial.levels(VIEW)
+    if mark is None or abs(mark - 100 * min(1, max(0, (value - low) / (high - low)))) > 1:
+        trial.blame(f"{name}: the colour bar's mark is at {mark} for {value} between {low} and {high}")
+    ActionChains(trial.browser).move_to_element(trial.browser.find_element(By.ID, "title")).perform()
+    if trial.text("position") or trial.text("value"):
+        trial.blame(f"{name}: outside of the picture stands '{trial.text('position')}'")
+
+
+def fingers(trial, kind, *points):
+    touched = [{"x": x, "y": y, "id": at} for at, (x, y) in enumerate(points)]
+    trial.browser.execute_cdp_cmd("Input.dispatchTouchEvent", {"type": kind, "touchPoints": touched})
+
+
+def touches(trial, name):
+    """A tap reads, two fingers zoom, controls fold away, and what is touched is large enough."""
+    rect = trial.browser.find_element(By.ID, "lines").rect
+    if rect["height"] < 600:
+        trial.blame(f"{name}: the sky gets {rect['height']} of 844 pixels")
+    if trial.browser.find_element(By.ID, "controls").is_displayed():
+        trial.blame(f"{name}: the controls aren't folded away")
+    x, y = 150, 200
+    fingers(trial, "touchStart", (x, rect["y"] + y))
+    fingers(trial, "touchEnd")
+    reading_is(trial, f"{name}, under a finger", (x, y))
+    before = view_of(trial)[2]
+    middle = 195, rect["y"] + 300
+    fingers(trial, "touchStart", (middle[0] - 40, middle[1]), (middle[0] + 40, middle[1]))
+    for apart in (50, 60, 70, 80):
+        fingers(trial, "touchMove", (middle[0] - apart, middle[1]), (middle[0] + apart, middle[1]))
+    fingers(trial, "touchEnd")
+    wait_for(trial, f"{name}: two fingers leave a width of {view_of(trial)[2]}", lambda: 0.4 * before < view_of(trial)[2] < 0.65 * before, 10)
+    trial.wait("whole")
+    script(trial, "document.getElementById('fold').click()")
+    small = script(trial, """return [...document.querySelectorAll("button, select, a.button, label.switch, input:not([type=checkbox])")]
+        .map((one) => [one.id || one.textContent, one.getBoundingClientRect()]).filter(([, box]) => box.width > 0 && Math.min(box.width, box.height) < arguments[0])
+        .map(([name, box]) => `${name} ${box.width} by ${box.height}`)""", LEAST_FINGER)
+    if small or not trial.browser.find_element(By.ID, "controls").is_displayed():
+        trial.blame(f"{name}: too small for a finger: {small}")
+    script(trial, "document.getElementById('fold').click()")
+
+
+def ruler(trial, name):
+    """The scale bar is as long as it says, and the field as wide."""
+    width = trial.browser.find_element(By.ID, "lines").rect["width"]
+    pixel = numpy.degrees(4 * numpy.sin(numpy.radians(VIEW[2]) / 4) / width)
+    bar = script(trial, "return document.getElementById('scale-bar').getBoundingClientRect().width")
+    found = re.match(r"([\d.]+)°, ([\d.]+)° × ", script(trial, "return document.getElementById('scale-text').textContent"))
+    if not found or abs(bar * pixel - float(found[1])) > pixel or abs(float(found[2]) - width * pixel) > 0.1:
+        trial.blame(f"{name}: a bar of {bar} pixels of {pixel} degrees says '{found and found[0]}'")
+
+
+def publication(trial, name, sent):
+    """A leaf in view."""
+    survey = trial.survey
+    leaf = int(healpy.ang2pix(2**survey.top, *VIEW[:2], nest=True, lonlat=True)) + list(SIZES).index(name)
+    kept = survey.file(leaf)
+    before = int(trial.state()[1])
+    sent.clear()
+    trial.ask("PUT", "/" + tile_path(survey.top, leaf), survey.file(leaf, 15000))
+    begun = time.monotonic()
+    trial.ask("POST", "/publish")
+    trial.wait("whole", str(before + 1))
+    seconds = time.monotonic() - begun
+    paths, size = [path for path, _ in sent], sum(size for _, size in sent)
+    survey.edited[leaf] = 15000
+    if name != "390 by 844":
+        trial.compare(f"{name}, after a publication", VIEW, survey.deep)
+    if size > MOST_BYTES_OF_A_PUBLICATION or "/Norder3/Allsky.fits" in paths:
+        trial.blame(f"{name}: a publication of one leaf costs {size} bytes: {paths}")
+    print(f"check-atlas: {name}: a publication costs a page {size / 1000:.0f} kB, and is seen after {seconds:.1f} s; fifty pages, {50 * size / 1e6:.1f} MB")
+    del survey.edited[leaf]
+    trial.ask("PUT", "/" + tile_path(survey.top, leaf), kept)
+    trial.ask("POST", "/publish")
+    trial.wait("whole", str(before + 2))
+
+
+def frames(trial, name):
+    """Milliseconds of the main thread for a frame of a view that moves, and how many come a second."""
+    told = []
+    for what, view in (("30 degrees", VIEW), ("whole sky", (40, 0, 360))):
+        turn(trial, view, "grid=1&coverage=1&cells=0&changes=1&colours=dusk&bend=0")
+        trial.browser.execute_cdp_cmd("Performance.enable", {"timeDomain": "threadTicks"})
+        before = thread_seconds(trial)
+        count, milliseconds = trial.browser.execute_async_script(FRAMES)
+        spent = 1000 * (thread_seconds(trial) - before) / count
+        told.append(f"{what} {1000 * count / milliseconds:.0f} frames a second, {spent:.0f} ms of the main thread each")
+        if spent > MOST_MILLISECONDS_A_FRAME:
+            trial.blame(f"{name}: a frame of {what} takes {spent:.0f} ms of the main thread")
+    print(f"check-atlas: {name}: {'; '.join(told)}")
+
+
+def thread_seconds(trial):
+    return {one["name"]: one["value"] for one in trial.browser.execute_cdp_cmd("Performance.getMetrics", {})["metrics"]}["ThreadTime"]
+
+
+# ---- once
+
+
+def small_change(trial, sent):
+    """One pixel more by one, which the mean of 256 doesn't show: the page finds it a little later, and slowly."""
+    survey, view = trial.survey, (80, 20, 12)
+    resize(trial, 700, 420, False)
+    trial.open(trial.hash(view))
+    leaf = int(healpy.ang2pix(2**survey.top, *view[:2], nest=True, lonlat=True))
+    data = bytearray(survey.file(leaf))
+    place = 2880 + 2 * (2**survey.bits + 1) * 2 ** (survey.bits - 1)
+    data[place + 1] ^= 1
+    before = int(trial.state()[1])
+    trial.ask("PUT", "/" + tile_path(survey.top, leaf), bytes(data))
+    sent.clear()
+    begun = time.monotonic()
+    trial.ask("POST", "/publish")
+    trial.wait("whole", str(before + 1))
+    wait_for(trial, "a small change isn't looked for", lambda: script(trial, "return document.body.dataset.sure") == "1", 25)
+    rate = sum(size for _, size in sent) / (time.monotonic() - begun)
+    is_said(trial, "a small change", "changed 1 tile of order 4", script(trial, "return document.getElementById('news').textContent"))
+    if rate > MOST_BYTES_OF_A_PUBLICATION:
+        trial.blame(f"looking for a small change costs {rate} bytes a second")
+    print(f"check-atlas: a change that coarser tiles don't show is found after {time.monotonic() - begun:.1f} s, by {rate / 1000:.0f} kB a second")
+    resize(trial, *SIZES["1280 by 800"])
+
+
+def once(trial, sent, catalogue):
+    small_change(trial, sent)
+    edits_by_astropy(trial)
+    on_a_slow_line(trial, sent)
+    begins_as_told(trial)
+    cuts_are_typed(trial)
+    is_galactic(trial)
+    goes_back(trial)
+    saves(trial)
+    turns_dark(trial)
+    draws_by_webgl(trial)
+    shows_sources(trial, catalogue)
+    begins_anew(trial)
+
+
+def edits_by_astropy(trial):
+    """examples/edit-tile.py adds to each pixel that isn't blank, and to no other."""
+    survey = trial.survey
+    leaf = int(survey.leaves[7])
+    path = tile_path(survey.top, leaf)
+    numbers = numpy.array(survey.stored(leaf * 4**survey.bits + numpy.arange(4**survey.bits)), ">i2")
+    numbers[5:9] = survey.blank
+    header, data = survey.file(leaf)[:2880], numbers.tobytes()
+    trial.ask("PUT", "/" + path, header + data + bytes(-len(data) % 2880))
+    trial.ask("POST", "/publish")
+    done = subprocess.run([EXAMPLES / "edit-tile.py", f"http://{trial.address}", path, "100"], capture_output=True, text=True, timeout=60)
+    trial.ask("POST", "/publish")
+    found = numpy.frombuffer(trial.ask("GET", "/" + path)[2880:2880 + len(data)], ">i2")
+    if done.returncode != 0 or not numpy.array_equal(found, numpy.where(numbers == survey.blank, numbers, numbers + 100)):
+        trial.blame("edit-tile.py ends by", done.returncode, done.stderr[-300:])
+    trial.ask("PUT", "/" + path, survey.file(leaf))
+    trial.ask("POST", "/publish")
+
+
+def on_a_slow_line(trial, sent):
+    """4 Mbit/s and 80 ms: the whole sky by its coarsest tiles, before the mosaic is there."""
+    trial.browser.execute_cdp_cmd("Network.enable", {})
+    line = {"offline": False, "latency": 80, "downloadThroughput": 500_000, "uploadThroughput": 500_000}
+    trial.browser.execute_cdp_cmd("Network.emulateNetworkConditions", line)
+    for what, words in (("whole sky", trial.hash((40, 0, 360))), ("30 degrees", trial.hash(VIEW))):
+        trial.browser.get("about:blank")
+        sent.clear()
+        trial.browser.get(f"{trial.base}/atlas/{words}")
+        wait_for(trial, f"slow line, {what}: a picture", lambda: script(trial, "return document.body?.dataset.first"), 30)
+        first = float(script(trial, "return document.body.dataset.first || 99000")) / 1000
+        if first > MOST_FIRST_ON_A_SLOW_LINE:
+            trial.blame(f"slow line, {what}: the first picture comes after {first} s")
+        print(f"check-atlas: 4 Mbit/s, 80 ms, {what}: first picture after {first:.2f} s")
+    trial.browser.get("about:blank")
+    line.update({"latency": 0, "downloadThroughput": -1, "uploadThroughput": -1})
+    trial.browser.execute_cdp_cmd("Network.emulateNetworkConditions", line)
+
+
+def begins_as_told(trial):
+    """hips_initial_ra, _dec, _fov and hips_pixel_cut, where the page's address says nothing."""
+    trial.open("")
+    words = parse_qs(script(trial, "return location.hash.slice(1)"))
+    if view_of(trial) != (82.5, 19.5, 20.0) or script(trial, "return document.getElementById('low-value').value") != "-9000":
+        trial.blame("without a view in its address the page begins with", view_of(trial), words)
+
+
+def cuts_are_typed(trial):
+    turn(trial, VIEW)
+    for name, text, expected in (("low", "-1234.5", "-1234.5"), ("high", "1e4", "10000")):
+        box = trial.browser.find_element(By.ID, f"{name}-value")
+        box.clear()
+        box.send_keys("much", Keys.TAB)
+        if box.get_attribute("aria-invalid") != "true":
+            trial.blame("a cut that is no number isn't marked")
+        box.clear()
+        box.send_keys(text, Keys.TAB)
+        found = parse_qs(script(trial, "return location.hash.slice(1)"))[name][0]
+        if found != expected or box.get_attribute("aria-invalid"):
+            trial.blame("a cut of", text, "becomes", found)
+
+
+def is_galactic(trial):
+    turn(trial, VIEW, "grid=1&galactic=1&coverage=0&cells=0&changes=0&colours=grey&bend=0")
+    canvas = trial.browser.find_element(By.ID, "lines")
+    script(trial, "arguments[0].addEventListener('pointermove', (event) => { window.at = [event.offsetX, event.offsetY]; })", canvas)
+    ActionChains(trial.browser).move_to_element_with_offset(canvas, 60, 40).perform()
+    at, rect = script(trial, "return window.at"), canvas.rect
+    ra, dec = trial.wcs((round(rect["height"]), round(rect["width"])), *VIEW).all_pix2world([at[0]], [at[1]], 0)
+    there = SkyCoord(ra[0] * units.deg, dec[0] * units.deg, frame="icrs").galactic
+    said = re.match(r"l ([\d.]+)°  b ([+−][\d.]+)°", script(trial, "return document.getElementById('position').textContent"))
+    if not said or abs(float(said[1]) - there.l.deg) > 0.002 or abs(float(said[2].replace("−", "-")) - there.b.deg) > 0.002:
+        trial.blame("galactic coordinates are", said and said[0], "in place of", there)
+    place = trial.browser.find_element(By.ID, "place")
+    place.send_keys("184.5 -5.8", Keys.ENTER)
+    crab = SkyCoord(184.5 * units.deg, -5.8 * units.deg, frame="galactic").icrs
+    wait_for(trial, f"a galactic position leads to {view_of(trial)}", lambda: numpy.allclose(view_of(trial)[:2], (crab.ra.deg, crab.dec.deg), atol=1e-4), 10)
+
+
+def goes_back(trial):
+    trial.open(trial.hash(VIEW))
+    place = trial.browser.find_element(By.ID, "place")
+    for text in ("81 20", "82 21"):
+        place.clear()
+        place.send_keys(text, Keys.ENTER)
+        wait_for(trial, "a position", lambda text=text: view_of(trial)[:2] == tuple(map(float, text.split())), 10)
+    for step, expected in ((trial.browser.back, (81, 20)), (trial.browser.back, VIEW[:2]), (trial.browser.forward, (81, 20)), (trial.browser.back, VIEW[:2])):
+        step()
+        wait_for(trial, f"Back and Forward lead to {view_of(trial)} in place of {expected}", lambda expected=expected: view_of(trial)[:2] == expected, 10)
+    trial.wait("whole")
+    trial.compare("after Back and Forward", VIEW, trial.survey.deep)
+
+
+def saves(trial):
+    """The picture and the tile under the pointer, as files."""
+    with tempfile.TemporaryDirectory() as folder:
+        trial.browser.execute_cdp_cmd("Browser.setDownloadBehavior", {"behavior": "allow", "downloadPath": folder})
+        canvas = trial.browser.find_element(By.ID, "lines")
+        ActionChains(trial.browser).move_to_element_with_offset(canvas, 20, 20).perform()
+        for name in ("save", "tile"):
+            trial.browser.find_element(By.ID, name).click()
+        found = lambda kind: [path for path in Path(folder).iterdir() if path.suffix == kind]  # noqa: E731
+        wait_for(trial, f"saved: {os.listdir(folder)}", lambda: found(".png") and found(".fits"))
+        for path in found(".png"):
+            image = Image.open(io.BytesIO(path.read_bytes()))
+            if image.size != (round(canvas.rect["width"]), round(canvas.rect["height"])):
+                trial.blame("the picture that is saved has", image.size)
+            shown = numpy.asarray(image.convert("RGB"))[200:, :].astype(int)
+            apart = (abs(shown - trial.shot()[200:, :].astype(int)).max(axis=2) > 1).mean()
+            if apart > 0.001:
+                trial.blame("the picture that is saved is another:", apart)
+        for path in found(".fits"):
+            if path.read_bytes() != trial.ask("GET", "/" + path.name.replace("_", "/")):
+                trial.blame("the tile that is saved isn't the server's")
+
+
+def turns_dark(trial):
+    colour = lambda: script(trial, "return getComputedStyle(document.body).backgroundColor")  # noqa: E731
+    before = colour()
+    script(trial, "document.getElementById('dark').click()")
+    if colour() == before or max(map(int, re.findall(r"\d+", colour())[:3])) > 80:
+        trial.blame("dark is", colour())
+    script(trial, "document.getElementById('dark').click()")
+    if colour() != before:
+        trial.blame("light is", colour())
+
+
+def draws_by_webgl(trial):
+    """While the view moves: here by a processor, which draws the same as a card, only slowly."""
+    resize(trial, 620, 360, False)
+    trial.base, words = trial.base + "/atlas/?draw=gpu", trial.base
+    try:
+        for what, view in (("30 degrees", VIEW), ("whole sky", (40, 0, 360))):
+            trial.browser.get("about:blank")
+            trial.browser.get(trial.base + trial.hash(view))
+            trial.wait("whole")
+            order = shown_order(trial)
+            script(trial, """window.still = setInterval(() => document.getElementById("lines").dispatchEvent(new WheelEvent("wheel", { deltaY: 0, cancelable: true })), 60)""")
+            time.sleep(1.5)
+            if script(trial, "return document.getElementById('moving').hidden"):
+                trial.blame("WebGL isn't there, or isn't used")
+            trial.compare(f"by WebGL, {what}", view, order + trial.survey.bits, 0.995)
+            script(trial, "clearInterval(window.still)")
+    finally:
+        trial.base = words
+        resize(trial, *SIZES["1280 by 800"])
+
+
+def shows_sources(trial, catalogue):
+    """Rings where the sources are, and the row of one that is clicked."""
+    trial.page.catalogue = catalogue
+    view = (80, 20, 20)
+    trial.open(trial.hash(view, "grid=0&coverage=0&cells=0&changes=0&colours=grey&bend=0&catalogue=1"))
+    wait_for(trial, "no catalogue is shown", lambda: script(trial, "return !document.getElementById('has-catalogue').hidden"), 10)
+    is_said(trial, "the catalogue's name", "Made sources (3 sources)", script(trial, "return document.getElementById('catalogue-title').textContent"))
+    time.sleep(0.6)
+    picture = trial.shot()
+    columns, lines = trial.wcs(picture.shape[:2], *view).all_world2pix([80, 83], [20, 22], 0)
+    for column, line in zip(columns, lines):
+        near = picture[round(line) - 9:round(line) + 10, round(column) - 9:round(column) + 10].astype(int)
+        if ((near[:, :, 0] > 220) & (near[:, :, 2] < 120)).sum() < 10:
+            trial.blame("no ring is at the source at", column, line)
+    canvas = trial.browser.find_element(By.ID, "lines")
+    ActionChains(trial.browser).move_to_element_with_offset(canvas, round(columns[1] - canvas.rect["width"] / 2), round(lines[1] - canvas.rect["height"] / 2)).click().perform()
+    is_said(trial, "a source that is clicked", "second", trial.text("source"))
+    is_said(trial, "a source that is clicked", "7.25", trial.text("source"))
+    trial.page.catalogue = None
+
+
+def begins_anew(trial):
+    """A restart without a publication is no change."""
+    trial.stop()
+    trial.start()
+    trial.open(trial.hash(VIEW))
+    trial.stop()
+    trial.wait("away")
+    trial.start()
+    trial.wait("whole", "0")
+    news = script(trial, "return document.getElementById('news').textContent")
+    if news:
+        trial.blame("a server that begins anew without a publication:", news)
+
+
+def catalogue_of(folder):
+    """A catalogue of three sources, as examples/catalog.sh makes it."""
+    rows = ["80\t20\tA\t5\tfirst", "83\t22\tB\t7.25\tsecond", "200\t-60\tC\t9\tthird"]
+    text = "# Completeness = 3 / 3\nra\tdec\tid\tmag\tnote\n" + "".join(f"{row}\n" for row in rows)
+    (folder / "catalogue/Norder1").mkdir(parents=True)
+    (folder / "catalogue/Norder1/Allsky.tsv").write_text(text)
+    (folder / "catalogue/properties").write_text("obs_title = Made sources\ndataproduct_type = catalog\nhips_order = 1\nhips_cat_nrows = 3\n")
+    return folder / "catalogue"

@@ -1,0 +1,628 @@
+#!/usr/bin/python3
+"""Tries what keeps a survey over the days: examples/export.sh, backup.sh, rollover.sh, drain.sh, nginx-copy.conf and
+nginx-readers.conf; scripts/install.sh and sample.sh.
+
+    scripts/check_renewal.py [PROGRAM [TEST ..]]
+
+PROGRAM is crates/hipsd/out/hipsd if none is named. What it starts it ends, and nothing is written outside a folder of its own.
+"""
+
+import functools
+import http.client
+import os
+import re
+import shutil
+import signal
+import socket
+import subprocess
+import sys
+import tempfile
+import time
+import unittest
+from pathlib import Path
+
+TOP = Path(__file__).resolve().parent.parent
+sys.path.insert(0, str(TOP / "scripts"))
+os.environ["PATH"] += ":/usr/sbin"
+from survey_files import Survey, image, tile_path
+
+PROGRAM = str(Path(sys.argv[1] if sys.argv[1:] else TOP / "crates/hipsd/out/hipsd").resolve())
+EXAMPLES = TOP / "examples"
+SURVEY = Survey("renewal", "Survey renewal", top=5, low=3, width=8)
+ROOT = os.geteuid() == 0
+
+
+def free_port():
+    with socket.socket() as probe:
+        probe.bind(("127.0.0.1", 0))
+        return probe.getsockname()[1]
+
+
+def listens(port, process):
+    """Waits until somebody listens there."""
+    for _ in range(600):
+        with socket.socket() as probe:
+            if probe.connect_ex(("127.0.0.1", port)) == 0:
+                return
+        if process.poll() is not None:
+            break
+        time.sleep(0.05)
+    raise AssertionError(f"nobody listens at {port}")
+
+
+def tile(leaf):
+    return image(8, 8, range(leaf, leaf + 64), ("ORDER", 5), ("NPIX", leaf))
+
+
+class Case(unittest.TestCase):
+    """A folder of its own, and servers that end with the test."""
+
+    def setUp(self):
+        self.folder = Path(tempfile.mkdtemp())
+        self.folder.chmod(0o755)
+        self.addCleanup(shutil.rmtree, self.folder)
+        (self.folder / "tmp").mkdir()
+
+    def survey(self, name, *leaves):
+        folder = self.folder / name
+        folder.mkdir()
+        (folder / "survey.conf").write_bytes(SURVEY.description())
+        for leaf in leaves:
+            path = folder / tile_path(5, leaf)
+            path.parent.mkdir(parents=True, exist_ok=True)
+            path.write_bytes(tile(leaf))
+        return folder
+
+    def appears(self, path):
+        for _ in range(600):
+            if path.exists():
+                return
+            time.sleep(0.05)
+        self.fail(f"{path} doesn't appear")
+
+    def tool(self, name, text):
+        """A program in the folder bin, which a path may begin with."""
+        (self.folder / "bin").mkdir(exist_ok=True)
+        (self.folder / "bin" / name).write_text(text, encoding="ascii")
+        (self.folder / "bin" / name).chmod(0o755)
+
+    def begin(self, *words, **more):
+        process = subprocess.Popen(words, stdout=subprocess.DEVNULL, stderr=subprocess.DEVNULL, **more)
+        self.addCleanup(process.wait)
+        self.addCleanup(process.terminate)
+        return process
+
+    def nginx(self, folder, port, text):
+        """nginx with these lines, its files in the folder, once it listens at the port."""
+        (folder / "nginx.conf").write_text(NGINX.format(folder, text, "user www-data; " if ROOT else ""), encoding="ascii")
+        process = self.begin("nginx", "-c", folder / "nginx.conf", "-p", folder)
+        listens(port, process)
+        return process
+
+    def serve(self, folder):
+        """The address of a server over the folder."""
+        port = free_port()
+        server = self.begin(PROGRAM, "serve", f"127.0.0.1:{port}", "65536", "4", cwd=folder)
+        listens(port, server)
+        return f"127.0.0.1:{port}"
+
+    def asks(self, address, method, path, body=None):
+        """Code, fields and body of a reply; a server that starts is waited for."""
+        for _ in range(200):
+            connection = http.client.HTTPConnection(address, timeout=20)
+            try:
+                connection.request(method, "/" + path, body)
+                reply = connection.getresponse()
+                return reply.status, reply.headers, reply.read()
+            except ConnectionError:
+                time.sleep(0.05)
+            finally:
+                connection.close()
+        raise AssertionError(f"nobody answers at {address}")
+
+    def edit(self, address, leaf):
+        self.assertIn(self.asks(address, "PUT", tile_path(5, leaf), tile(leaf))[0], (201, 204))
+
+    def script(self, status, name, *words, **environment):
+        """What a script of examples/ says, where it ends with this status."""
+        known = {"TMPDIR": str(self.folder / "tmp"), "HIPSD_PROGRAM": PROGRAM, "HIPSD_LOG": "warn", "HIPSD_SERVERS": str(self.folder / "servers"), "HIPSD_UNITS": str(self.folder / "units")}
+        ran = subprocess.run([EXAMPLES / name, *map(str, words)], env={**os.environ, **known, **environment}, stdout=subprocess.PIPE,
+                             stderr=subprocess.STDOUT, text=True, timeout=60, check=False)
+        self.assertEqual(ran.returncode, status, ran.stdout)
+        self.assertEqual(list((self.folder / "tmp").iterdir()), [])
+        return ran.stdout
+
+
+class Export(Case):
+    """A survey folder is exported, and nothing goes unasked."""
+
+    def files(self):
+        return {str(path.relative_to(self.shelf)) for path in self.shelf.rglob("*") if path.is_file()}
+
+    def order(self, order):
+        text = (self.shelf / "survey.conf").read_text(encoding="ascii")
+        (self.shelf / "survey.conf").write_text(re.sub("hips_order = .*", f"hips_order = {order}", text), encoding="ascii")
+
+    def test_nothing_goes_unasked(self):
+        self.shelf = self.survey("shelf", 0, 7, 8)
+        leaves = self.files()
+        said = self.script(0, "export.sh", self.shelf)
+        made = self.files() - leaves
+        self.assertEqual(len(made), 7)
+        self.assertIn("3 leaf tiles are there", said)
+        for line in "properties: 1", "Moc.fits: 1", "Norder3/Allsky.fits: 1", "tiles of order 3: 1", "tiles of order 4: 3":
+            self.assertIn(f"        {line}\n", said)
+        self.assertNotIn("would go", said)
+        self.assertEqual(self.script(0, "export.sh", self.shelf), "verified 10\n")
+
+        # A wrong order: all would go, and nothing does. What is no path of a HiPS never goes.
+        for stray in "Norder3/Dir0/Npix05.fits", "Norder3/Dir0/Npix768.fits", "Norder5/Dir10000/Npix8.fits", "Norder12/Dir0/Npix0.fits", "notes/Npix1.fits":
+            (self.shelf / stray).parent.mkdir(parents=True, exist_ok=True)
+            (self.shelf / stray).write_bytes(b"")
+        all_there = self.files()
+        self.order(8)
+        said = self.script(1, "export.sh", self.shelf)
+        self.assertEqual(self.files(), all_there)
+        for line in "Norder3/Allsky.fits: 1", "tiles of order 3: 1", "tiles of order 4: 3", "tiles of order 5: 3", "With hips_order = 5 ":
+            self.assertIn(line, said)
+        self.assertIn("with --remove these files go", said)
+        self.order(12)
+        self.assertIn("nothing is exported, since hipsd verify ended with status 2", self.script(1, "export.sh", self.shelf))
+        self.assertEqual(self.files(), all_there)
+
+        # What it says would go is what goes.
+        self.order(4)
+        said = self.script(1, "export.sh", self.shelf)
+        self.assertIn("3 leaf tiles are there", said)
+        self.assertIn("would go, since this survey doesn't have them:\n        tiles of order 5: 3\n", said)
+        self.assertIn("exported 7\n", self.script(0, "export.sh", "--remove", self.shelf))
+        self.assertEqual(all_there - self.files(), {tile_path(5, leaf) for leaf in (0, 7, 8)})
+
+    def test_the_words(self):
+        self.assertIn("usage: export.sh", self.script(2, "export.sh"))
+        self.assertIn("usage: export.sh", self.script(2, "export.sh", self.folder, "--remove"))
+        self.script(2, "export.sh", self.folder / "nothing")
+
+
+class Backup(Case):
+    """The copies that stay."""
+
+    def setUp(self):
+        super().setUp()
+        self.address = self.serve(self.survey("survey", 7))
+        self.link = self.folder / "kept"
+
+    def copies(self):
+        return sorted(path for path in self.folder.glob("kept.[0-9]*Z") if path.is_dir())
+
+    def older(self, *days):
+        """Copies of days long ago."""
+        made = [self.folder / f"kept.200001{day:02}T000000Z" for day in days]
+        for copy in made:
+            copy.mkdir()
+        return made
+
+    def test_a_folder_in_use_stays(self):
+        served, named, shown, served_by, free = self.older(1, 2, 3, 4, 5)
+        (served / "survey.conf").write_bytes(SURVEY.description())
+        self.serve(served)
+        (self.folder / "units").mkdir()
+        (self.folder / "units" / "other.service").write_text(f"[Service]\nWorkingDirectory={named}\n", encoding="ascii")
+        (self.folder / "other").symlink_to(shown.name)
+        (self.folder / "servers").mkdir()
+        (self.folder / "servers" / "8081").symlink_to(served_by)
+        for _ in range(2):
+            said = self.script(0, "backup.sh", self.address, self.link, HIPSD_KEEP="1")
+            self.assertEqual(self.copies(), [served, named, shown, served_by, self.link.resolve()])
+            self.assertIn(f"{served} is in use", said)
+        self.assertFalse(free.exists())
+
+    @unittest.skipUnless(ROOT, "only root can be another user")
+    def test_folders_of_others(self):
+        nobody = ["setpriv", "--reuid=65534", "--regid=65534", "--clear-groups"]
+        if subprocess.run([*nobody, "test", "-x", PROGRAM], check=False).returncode:
+            self.skipTest("nobody may not run the program where it lies")
+        old, = self.older(1)
+        for path in self.folder, old:
+            os.chown(path, 65534, 65534)
+        # Root opens nothing there: here its lock would be another's file, and that file empty.
+        victim = self.folder / "victim"
+        victim.write_text("text", encoding="ascii")
+        (self.folder / "kept.lock").symlink_to(victim)
+        self.assertIn(f"{self.folder} belongs to nobody, mode 755", self.script(2, "backup.sh", self.address, self.link))
+        self.assertEqual(victim.read_text(encoding="ascii"), "text")
+        (self.folder / "kept.lock").unlink()
+        # Its owner does; but he doesn't see the folder of a server of root's.
+        ran = subprocess.run([*nobody, EXAMPLES / "backup.sh", self.address, self.link], env={**os.environ, "HIPSD_PROGRAM": PROGRAM, "HIPSD_KEEP": "1"},
+                             stdout=subprocess.PIPE, stderr=subprocess.STDOUT, text=True, timeout=60, check=False)
+        self.assertEqual(ran.returncode, 0, ran.stdout)
+        self.assertIn("a hipsd of another user runs", ran.stdout)
+        self.assertTrue(old.exists())
+
+    def test_folders_that_others_write(self):
+        (self.folder / "open").mkdir()
+        (self.folder / "open").chmod(0o1777)
+        (self.folder / "open" / "mine").mkdir()
+        self.assertIn("mode 1777", self.script(2, "backup.sh", self.address, self.folder / "open" / "kept"))
+        self.script(0, "backup.sh", self.address, self.folder / "open" / "mine" / "kept")
+        (self.folder / "open").chmod(0o777)
+        self.assertIn("mode 777", self.script(2, "backup.sh", self.address, self.folder / "open" / "mine" / "kept"))
+
+    def test_another_try(self):
+        port = free_port()
+        begun = time.monotonic()
+        self.assertEqual(self.script(1, "backup.sh", f"127.0.0.1:{port}", self.link, HIPSD_TRIES="2").count("tried again"), 1)
+        self.assertGreater(time.monotonic() - begun, 1)
+        # It goes where the proxy has been turned to meanwhile.
+        (self.folder / "port").write_text(f"server 127.0.0.1:{port};\n", encoding="ascii")
+        self.tool("turning", f'#!/bin/sh\n{PROGRAM} "$@" || {{ status=$?; echo "server {self.address};" >{self.folder}/port; exit $status; }}\n')
+        said = self.script(0, "backup.sh", f"@{self.folder / 'port'}", self.link, HIPSD_PROGRAM=str(self.folder / "bin" / "turning"))
+        self.assertIn(f"hipsd mirror 127.0.0.1:{port} ended with status 6, and is tried again in 1 seconds", said)
+        self.assertIn("names no server", self.script(2, "backup.sh", f"@{self.folder / 'nothing'}", self.link))
+        # Of two that are named, where one is away: that of the later server.
+        (self.folder / "port").write_text(f"server 127.0.0.1:1;\n  server {self.address} max_conns=9;\n", encoding="ascii")
+        self.assertIn("hipsd mirror 127.0.0.1:1 ended with status 6", self.script(0, "backup.sh", f"@{self.folder / 'port'}", self.link, HIPSD_TRIES="2"))
+
+    def date(self, other=None):
+        """The release date of the last copy, which becomes another one."""
+        text = (self.link / "properties").read_text(encoding="ascii")
+        self.assertEqual(text.rsplit("survey_leaves", 1)[0], (self.link / "survey.conf").read_text(encoding="ascii"))
+        if other:
+            for name in "properties", "survey.conf":
+                path = self.link / name
+                path.write_text(re.sub("hips_release_date = .*", f"hips_release_date = {other}", path.read_text(encoding="ascii")), encoding="ascii")
+        return re.search("hips_release_date = (.*)", text).group(1)
+
+    def test_the_release_date(self):
+        copy = "--release-date", self.address, self.link
+        self.script(0, "backup.sh", *copy[1:])
+        self.assertEqual(self.date("2020-01-02T03:04Z"), "2024-05-01T00:00Z")
+        self.script(0, "backup.sh", *copy)
+        self.assertEqual(self.date(), "2020-01-02T03:04Z")
+        self.edit(self.address, 8)
+        self.asks(self.address, "POST", "publish")
+        before = time.strftime("%Y-%m-%dT%H:%MZ", time.gmtime())
+        self.script(0, "backup.sh", *copy)
+        self.assertTrue(before <= self.date() <= time.strftime("%Y-%m-%dT%H:%MZ", time.gmtime()), self.date())
+
+    def test_a_deadline(self):
+        """A peer that takes the connection and says next to nothing."""
+        with socket.create_server(("127.0.0.1", 0)) as peer:
+            begun = time.monotonic()
+            said = self.script(1, "backup.sh", f"127.0.0.1:{peer.getsockname()[1]}", self.link, HIPSD_DEADLINE="1")
+        self.assertLess(time.monotonic() - begun, 9)
+        self.assertIn("takes more than 1 seconds", said)
+        self.assertFalse(self.link.exists())
+
+
+class Drain(Case):
+    """A server ends."""
+
+    def drain(self, address, away="away"):
+        words = {"HIPSD_SITE": str(self.folder / "port"), "HIPSD_AWAY": str(self.folder / away)}
+        ran = subprocess.Popen([EXAMPLES / "drain.sh", address], env={**os.environ, **words}, stdout=subprocess.PIPE, stderr=subprocess.STDOUT, text=True)
+        self.addCleanup(ran.kill)
+        return ran
+
+    def ends(self, ran, text):
+        said = ran.communicate(timeout=20)[0]
+        self.assertEqual((ran.returncode, said), (0, text))
+
+    def test_what_is_asked_is_answered(self):
+        address = self.serve(self.survey("survey", 7))
+        (self.folder / "port").write_text(f"server {address} max_conns=9;\n", encoding="ascii")
+        for leaf in 8, 9:
+            self.edit(address, leaf)
+        self.asks(address, "POST", "publish")
+        self.edit(address, 10)
+        with socket.create_connection(address.split(":")) as client:
+            client.sendall(b"GET /Moc.fits HTTP/1.1\r\n")
+            ran = self.drain(address)
+            self.appears(self.folder / "away")
+            with self.assertRaises(subprocess.TimeoutExpired):
+                ran.wait(2)
+            client.sendall(b"Host: hipsd\r\nConnection: close\r\n\r\n")
+            reply = client.makefile("rb").read()
+            self.assertTrue(reply.startswith(b"HTTP/1.1 200 OK"), reply)
+        self.ends(ran, f"drain.sh: {address} ends, and with it the 3 edits since its start, 1 of them never published\n")
+
+    @unittest.skipUnless(shutil.which("nginx") or os.environ.get("CI") == "true", "nginx isn't installed")
+    def test_nginx_answers_by_itself(self):
+        address, port = self.serve(self.survey("survey", 7)), free_port()
+        (self.folder / "port").write_text(f"server {address} max_conns=9;\n", encoding="ascii")
+        text = (EXAMPLES / "nginx.conf").read_text(encoding="ascii")
+        for there, here in ("listen [::]:80;", ""), ("listen 80;", f"listen 127.0.0.1:{port};"), ("/etc/nginx/hipsd.port.conf", f"{self.folder}/port"):
+            self.assertIn(there, text)
+            text = text.replace(there, here)
+        self.nginx(self.folder, port, re.sub("/(run|var/cache|var/log/nginx|etc/nginx)/(nginx-)?hipsd", f"{self.folder}/hipsd", text))
+        web = f"127.0.0.1:{port}"
+        self.assertEqual(self.asks(web, "GET", "survey/properties")[0], 200)
+        ran = self.drain(address, "hipsd.away")
+        self.appears(self.folder / "hipsd.away")
+        for method, path in ("GET", "survey/properties"), ("POST", "edit/publish"):
+            code, fields, _ = self.asks(web, method, path)
+            self.assertEqual((code, fields["Retry-After"]), (503, "5"))
+        ran.kill()
+        ran.communicate()
+        (self.folder / "hipsd.away").unlink()
+        self.assertEqual(self.asks(web, "GET", "survey/properties")[0], 200)
+
+    def test_the_proxy_is_elsewhere(self):
+        address = self.serve(self.survey("survey", 7))
+        (self.folder / "port").write_text(f"server {address}0;\n", encoding="ascii")
+        self.ends(self.drain(address), f"drain.sh: {address} ends, and with it the 0 edits since its start, 0 of them never published\n")
+        self.assertFalse((self.folder / "away").exists())
+
+    def test_it_has_ended(self):
+        address = f"127.0.0.1:{free_port()}"
+        self.ends(self.drain(address), f"drain.sh: {address} ends, and doesn't say how many edits go with it\n")
+
+
+SYSTEMCTL = """#!/bin/sh
+# systemctl enable or disable --quiet --now hipsd@PORT, in the folder {0}
+echo "$*" >>{0}/calls
+port=${{4#hipsd@}}
+if [ "$1" = enable ]; then
+    : >{0}/enabled.$port
+    cd {0}/servers/$port && {{ {1} serve 127.0.0.1:$port 65536 4 >/dev/null 2>&1 & echo $! >{0}/process.$port; }}
+else
+    rm {0}/enabled.$port
+    process=$(cat {0}/process.$port)
+    rm {0}/process.$port
+    kill "$process"
+    while readlink "/proc/$process/exe" >/dev/null; do sleep 0.05; done
+fi
+"""
+NGINX = """{2}worker_processes 1;
+daemon off;
+pid {0}/nginx.pid;
+error_log {0}/nginx.log;
+events {{ }}
+http {{
+    access_log off;
+    client_body_temp_path {0}/bodies;
+    proxy_temp_path {0}/replies;
+    {1}
+}}
+"""
+PROXY = """
+    client_max_body_size 9m;
+    upstream survey {{ include {0}/port; }}
+    server {{ listen 127.0.0.1:{1}; location / {{ proxy_pass http://survey/; }} }}
+"""
+
+
+@unittest.skipUnless(shutil.which("nginx") or os.environ.get("CI") == "true", "nginx isn't installed")
+class Rollover(Case):
+    """A server is renewed by the units of systemd, in whose place a script starts and ends the servers; nginx is before it."""
+
+    def setUp(self):
+        super().setUp()
+        self.old, self.new = free_port(), free_port()
+        (self.folder / "servers").mkdir()
+        (self.folder / "servers" / str(self.old)).symlink_to(self.survey("survey", 7))
+        self.tool("systemctl", SYSTEMCTL.format(self.folder, PROGRAM))
+        (self.folder / "port").write_text(f"# the port\nserver 127.0.0.1:{self.old} max_conns=9;\n", encoding="ascii")
+        web = free_port()
+        self.web = f"127.0.0.1:{web}"
+        self.addCleanup(self.end_all)
+        self.boot(self.old)
+        self.proxy = self.nginx(self.folder, web, PROXY.format(self.folder, web))
+
+    def boot(self, *ports):
+        """Starts the servers that are enabled, and these."""
+        for port in {*ports, *(int(path.suffix[1:]) for path in self.folder.glob("enabled.*"))}:
+            subprocess.run([self.folder / "bin/systemctl", "enable", "--quiet", "--now", f"hipsd@{port}"], check=True)
+            self.asks(f"127.0.0.1:{port}", "GET", "properties")
+        (self.folder / "calls").unlink()
+
+    def end_all(self):
+        for process in self.folder.glob("process.*"):
+            os.kill(int(process.read_text(encoding="ascii")), signal.SIGKILL)
+
+    def roll(self, status, *words, **environment):
+        return self.script(status, "rollover.sh", *words, **{
+            "PATH": f"{self.folder}/bin:{os.environ['PATH']}", "HIPSD_SITE": str(self.folder / "port"), "HIPSD_PAUSED": str(self.folder / "paused"),
+            "HIPSD_NGINX_PID": str(self.folder / "nginx.pid"), "HIPSD_RELOAD": f"kill -HUP {self.proxy.pid}", **environment})
+
+    def named(self):
+        return (self.folder / "port").read_text(encoding="ascii")
+
+    def test_a_renewed_server_outlives_a_reboot(self):
+        self.edit(self.web, 8)
+        said = self.roll(0, f"127.0.0.1:{self.old}", f"127.0.0.1:{self.new}")
+        if ROOT:
+            self.assertIn(f"any user of this machine may edit at 127.0.0.1:{self.new}", said)
+        self.assertEqual(self.named(), f"# the port\nserver 127.0.0.1:{self.new} max_conns=9;\n")
+        self.assertEqual((self.folder / "calls").read_text(encoding="ascii"),
+                         f"enable --quiet --now hipsd@{self.new}\ndisable --quiet --now hipsd@{self.old}\n")
+        self.end_all()
+        self.boot()
+        self.assertEqual([path.name for path in self.folder.glob("process.*") if path.suffix == f".{self.old}"], [])
+        self.assertEqual(self.asks(self.web, "GET", tile_path(5, 8))[0], 200)
+
+        # To and fro, with backups beside it: the folder of the server that runs stays.
+        for one, other in (self.new, self.old), (self.old, self.new):
+            self.edit(self.web, one % 100 + 9)
+            self.roll(0, "--release-date", f"127.0.0.1:{one}", f"127.0.0.1:{other}")
+            for _ in range(2):
+                self.script(0, "backup.sh", f"@{self.folder / 'port'}", self.folder / "servers" / "backup", HIPSD_KEEP="1")
+            folder = (self.folder / "servers" / str(other)).resolve()
+            self.assertTrue((folder / "properties").exists())
+            self.assertEqual(Path(f"/proc/{(self.folder / f'process.{other}').read_text(encoding='ascii').strip()}/cwd").resolve(), folder)
+        self.assertLessEqual(len(list((self.folder / "servers").glob("*Z"))), 3)
+        self.assertNotIn(b"hips_release_date = 2024-05", self.asks(self.web, "GET", "properties")[2])
+
+    def stays(self, said, text):
+        """The first server goes on, as it was."""
+        self.assertIn(text, said)
+        self.assertIn(f"The server at 127.0.0.1:{self.old} goes on", said)
+        self.assertIn(f"server 127.0.0.1:{self.old} max_conns=9;", self.named())
+        self.assertFalse((self.folder / "paused").exists())
+        self.assertEqual([path.suffix for path in self.folder.glob("enabled.*")], [f".{self.old}"])
+        self.assertEqual(self.asks(self.web, "GET", tile_path(5, 7))[0], 200)
+
+    def test_a_port_that_others_reach(self):
+        words = f"127.0.0.1:{self.old}", f"127.0.0.1:{self.new}"
+        self.stays(self.roll(1, *words, HIPSD_STRANGER=f"[ $PORT = {self.new} ]"), "hipsd.nft has to name both ports")
+        (self.folder / "leaf").write_bytes(tile(9))
+        begin = f'systemctl enable --quiet --now "hipsd@$PORT" && curl -s --retry 9 --retry-connrefused -T {self.folder}/leaf "http://$ADDRESS/{tile_path(5, 9)}"'
+        self.stays(self.roll(1, *words, HIPSD_STRANGER="false", HIPSD_BEGIN=begin), f"somebody has edited at 127.0.0.1:{self.new}")
+        (self.folder / "port").write_text("# nothing\n", encoding="ascii")
+        self.assertIn("doesn't name one server", self.roll(2))
+
+
+    def test_before_it_is_full(self):
+        words = "--when", "1", f"127.0.0.1:{self.old}", f"127.0.0.1:{self.new}"
+        self.assertIn("has taken 0 edits since its start, of 65536 that it can take beside the 1 leaves", self.roll(0, *words))
+        for first in range(0, 656, 41):
+            batch = b"".join(b"put %d %d\n" % (leaf, len(tile(leaf))) + tile(leaf) for leaf in range(first, first + 41))
+            self.assertEqual(self.asks(self.web, "POST", "batch", batch)[2], b"accepted 41\n")
+        self.assertIn("has taken 656 edits", self.roll(0, "--when", "2", *words[2:]))
+        self.assertIn(str(self.old), self.named())
+        self.assertIn(f"127.0.0.1:{self.new} has taken over", self.roll(0, *words))
+        self.assertIn(str(self.new), self.named())
+        self.assertIn("has taken 0 edits since its start, of 65536 that it can take beside the 656 leaves", self.roll(0, *words[:2], words[3], words[2]))
+        self.assertIn("--when takes", self.roll(2, "--when", "0"))
+
+
+@unittest.skipUnless(shutil.which("nginx") or os.environ.get("CI") == "true", "nginx isn't installed")
+class Readers(Case):
+    """Two machines with copies, and nginx before them; each is an address of this machine."""
+
+    def setUp(self):
+        super().setUp()
+        self.leaves = {7: list(range(7, 71))}
+        self.address = self.serve(self.survey("survey", 7))
+        self.machines, front = [self.folder / "one", self.folder / "two"], (EXAMPLES / "nginx-readers.conf").read_text(encoding="ascii")
+        self.copiers = []
+        for number, machine in enumerate(self.machines, 1):
+            port = free_port()
+            machine.mkdir()
+            text = (EXAMPLES / "nginx-copy.conf").read_text(encoding="ascii").replace("/var/lib/hipsd-backup/", f"{machine}/")
+            self.copiers.append(self.nginx(machine, port, self.at(text, port)))
+            front = front.replace(f"copy-{number}.example.org:80", f"127.0.0.1:{port}")
+            self.one = f"127.0.0.1:{port}"
+        port = free_port()
+        (self.folder / "front").mkdir()
+        self.nginx(self.folder / "front", port, self.at(front, port))
+        self.web = f"127.0.0.1:{port}"
+
+    def at(self, text, port):
+        return re.sub(r"listen \[::\]:80;", "", text).replace("listen 80;", f"listen 127.0.0.1:{port};")
+
+    def copy(self, machine):
+        """The time of a new copy, in digits: not that of another one."""
+        time.sleep(1)
+        self.script(0, "backup.sh", self.address, machine / "survey")
+        return int(re.sub("[^0-9]", "", (machine / "survey").resolve().name.split(".")[1]))
+
+    def seen(self, states):
+        """Which copies readers at 32 addresses see, each of them one, and each file that of the copy's state."""
+        seen = set()
+        for reader in range(2, 34):
+            prefixes = set()
+            for path in "properties", "Moc.fits", "Norder3/Allsky.fits", tile_path(3, 0), tile_path(5, 7), tile_path(5, 8):
+                connection = http.client.HTTPConnection(self.web, timeout=20, source_address=(f"127.0.0.{reader}", 0))
+                connection.request("GET", f"/survey/{path}")
+                reply = connection.getresponse()
+                body = reply.read()
+                connection.close()
+                prefix = int(reply.getheader("Survey-Prefix"))
+                wanted = states[prefix](path)
+                self.assertEqual((reply.status, body if wanted else b""), (200, wanted) if wanted else (404, b""), path)
+                self.assertEqual(reply.getheader("Access-Control-Allow-Origin"), "*")
+                prefixes.add(prefix)
+            self.assertEqual(len(prefixes), 1)
+            seen |= prefixes
+        return seen
+
+    def test_each_reader_sees_one_copy(self):
+        one, two = self.machines
+        self.assertEqual(self.asks(self.one, "GET", "survey/properties")[0], 503)
+        states, now = {}, functools.lru_cache(None)(functools.partial(SURVEY.file, dict(self.leaves)))
+        states |= {self.copy(machine): now for machine in self.machines}
+        self.assertEqual(self.seen(states), set(states))
+        self.leaves[8] = list(range(8, 72))
+        self.edit(self.address, 8)
+        self.asks(self.address, "POST", "publish")
+        # The one has the new state before the other has it.
+        now = functools.lru_cache(None)(functools.partial(SURVEY.file, dict(self.leaves)))
+        older = max(states)
+        newer = self.copy(one)
+        states[newer] = now
+        self.assertEqual(self.seen(states), {older, newer})
+        newest = self.copy(two)
+        states[newest] = now
+        self.assertEqual(self.seen(states), {newer, newest})
+        # One machine is away: its readers see the other copy.
+        self.copiers[1].terminate()
+        self.copiers[1].wait()
+        self.assertEqual(self.seen(states), {newer})
+        for method, path, code in ("PUT", tile_path(5, 7), 403), ("POST", "publish", 403), ("GET", "survey.conf", 404), ("GET", "../copy/etc/passwd", 404):
+            self.assertEqual(self.asks(self.web, method, f"survey/{path}", b"x" if method != "GET" else None)[0], code, path)
+
+
+class Sample(Case):
+    """scripts/sample.sh, with what stands here in place of rt."""
+
+    def sample(self, status, rt):
+        if rt:
+            self.tool("rt", f"#!/bin/sh\n{rt}\n")
+        begun = time.monotonic()
+        ran = subprocess.run([TOP / "scripts/sample.sh", str(free_port())], env={**os.environ, "PATH": f"{self.folder}/bin:/usr/bin:/bin"},
+                             stdout=subprocess.PIPE, stderr=subprocess.STDOUT, text=True, timeout=60, check=False)
+        self.assertEqual(ran.returncode, status, ran.stdout)
+        self.assertLess(time.monotonic() - begun, 20)
+        return ran.stdout
+
+    @unittest.skipIf(shutil.which("rt", path="/usr/bin:/bin"), "rt is where all programs are")
+    def test_without_rt(self):
+        self.assertIn("there is no rt here", self.sample(1, None))
+
+    def test_a_build_that_fails(self):
+        said = self.sample(1, "echo no such crate >&2; exit 3")
+        self.assertIn("no such crate", said)
+        self.assertIn("rt try with 3", said)
+
+    def test_progress(self):
+        said = self.sample(0, f'sleep 5.5; cp "${{5#*=}}" {self.folder} && cd {self.folder} && shift 6 && exec {PROGRAM} "$@"')
+        self.assertIn("... 5 seconds\n", said)
+        self.assertIn("\n    8000 8000 0003 8000\n", said)
+
+
+class Install(Case):
+    """scripts/install.sh, below a folder."""
+
+    def install(self, *words, **environment):
+        ran = subprocess.run([TOP / "scripts/install.sh", *words], env={**os.environ, "PROGRAM": PROGRAM, **environment}, stdout=subprocess.PIPE,
+                             stderr=subprocess.STDOUT, text=True, timeout=60, check=True)
+        return ran.stdout
+
+    def test_over_a_running_server(self):
+        prefix = str(self.folder / "prefix")
+        self.assertIn("systemctl enable --now hipsd@8080", self.install(prefix))
+        server = self.begin(f"{prefix}/bin/hipsd", "serve", f"127.0.0.1:{free_port()}", "65536", "4", cwd=self.survey("survey"))
+        while not os.readlink(f"/proc/{server.pid}/exe").startswith(prefix):
+            time.sleep(0.01)
+        for _ in range(2):
+            said = self.install(prefix)
+            self.assertIn(f"process {server.pid} goes on with the program that it was started with", said)
+            self.assertIn(f"{prefix}/share/doc/hipsd/examples/rollover.sh", said)
+            self.assertNotIn("enable --now", said)
+
+    def test_what_stays(self):
+        self.install(DESTDIR=str(self.folder))
+        units = [path.name for path in EXAMPLES.iterdir() if path.suffix in (".service", ".timer")]
+        self.assertEqual(sorted(os.listdir(self.folder / "usr/local/lib/systemd/system")), sorted(units))
+        names = ["etc/nginx/hipsd.users", "etc/ssl/private/hipsd.key", "var/lib/hipsd-backup/survey", "etc/systemd/system/hipsd@.service.d/override.conf"]
+        for name in names:
+            (self.folder / name).parent.mkdir(parents=True, exist_ok=True)
+            (self.folder / name).write_text("", encoding="ascii")
+        said = self.install("--remove", DESTDIR=str(self.folder))
+        stays = [line.removeprefix(f"    {self.folder}/") for line in said.splitlines() if line.startswith("    ")]
+        self.assertEqual(stays, ["etc/nginx/hipsd.users", "etc/ssl/private/hipsd.key", "etc/systemd/system/hipsd@.service.d", "var/lib/hipsd-backup"])
+
+
+if __name__ == "__main__":
+    unittest.main(argv=[sys.argv[0], *sys.argv[2:]])
