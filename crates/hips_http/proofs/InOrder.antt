@@ -14,7 +14,7 @@ use Rattle.hips_http.specs.Moment.{Moment, ReadsWhere}
 use Rattle.hips_http.specs.SessionRun.{room_of, IsServed}
 use Rattle.hips_http.specs.Progress.{IsServedTo}
 use Rattle.hips_http.specs.Readings.{NeedsNext, FollowsReplies}
-use Rattle.hips_http.proofs.ReadLemmas.{reads_for, reads_none}
+use Rattle.http_frame.proofs.ReadLemmas.{reads_for, reads_none}
 use Rattle.hips_http.proofs.ReadRequests.{NeedsAmong}
 
 -- so many replies are the first outputs, and were flushed

@@ -7,7 +7,6 @@ pub mod FileLemmas
 pub mod Runs
 pub mod Truncated
 pub mod Steps
-pub mod ReadLemmas
 pub mod ReadRequests
 pub mod InOrder
 pub mod Flushed

@@ -16,7 +16,7 @@ use Rattle.hips_http.specs.Answers.{Asking}
 use Rattle.hips_http.specs.SessionRun.{AreRequests, most_requests}
 use Rattle.hips_http.specs.Readings.{NeedsRest, NeedsNext, HoldsBehind}
 use Rattle.hips_http.proofs.Runs.{requests_push}
-use Rattle.hips_http.proofs.ReadLemmas.{AllGave, reads_none, reads_for, reads_gave, reads_then, reads_consume, all_gave_both}
+use Rattle.http_frame.proofs.ReadLemmas.{AllGave, reads_none, reads_for, reads_gave, reads_then, reads_consume, all_gave_both}
 
 -- ---- more bytes behind
 

@@ -63,14 +63,7 @@ pub(crate) fn read_leaves<R: Clock + Log, S: Source, K: Sink>(
     for number in numbers {
         let request = Request::leaf(leaf_cell(&survey.conf, *number), tiles.len());
         ask(rt, peer, &request, Due::Survey(survey.pinned))?;
-        let taken = take_leaf(
-            alloc,
-            peer.body(),
-            &survey.conf,
-            *number,
-            steps,
-            &mut tiles,
-        );
+        let taken = take_leaf(alloc, peer.body(), &survey.conf, *number, steps, &mut tiles);
         say_refused(rt, &request, &taken);
         taken?;
         progress.leaf_read(rt, peer.body().len());

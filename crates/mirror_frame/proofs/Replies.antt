@@ -120,8 +120,8 @@ pub cut_while : {S : Type 0} (left : S → Option (List ℕ)) (readings : S → 
 cut_while left readings due held n size prefix begins rest rest_is count count_is a b came reads =
     reads_for left readings (IsShort count) (IsCutReply due) rest held came
     (λ more short.
-        let less : length (rest ++ more) < count = short in
-        cut_reply due held more n size prefix begins (subst (λ bytes. length (bytes ++ more) < size) rest_is (omega (arith, less, count_is))))
+    let less : length (rest ++ more) < count = short in
+    cut_reply due held more n size prefix begins (subst (λ bytes. length (bytes ++ more) < size) rest_is (omega (arith, less, count_is))))
     a b reads
 
 -- why no head was read is why no reply was

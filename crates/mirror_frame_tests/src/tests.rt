@@ -7,7 +7,7 @@ use mirror_frame::*;
 use std::alloc::{AllocError, Global};
 use std::str;
 use std::test::Fail;
-use survey_link::{MemSink, MemSource};
+use survey_link::{MemSink, MemSource, NullSink};
 use tile_path::Path;
 
 // The bytes of a row as text, which an assertion shows.
@@ -37,9 +37,17 @@ fn sends(
 ) -> Result<bool, AllocError>
     requires { HasOrder ask.now }
 {
+    let mut src = source(alloc, b"", 1, &[])?;
     let mut sink = MemSink::new(alloc, room, Vec::new(alloc))?;
-    let well = send(&mut sink, ask).is_ok();
-    Ok(well == whole && sink.bytes() == bytes)
+    let mut received = Received::new(alloc)?;
+    let mut peer = Peer {
+        src: &mut src,
+        sink: &mut sink,
+        received: &mut received,
+    };
+    let stop = if whole { Stop::Cut } else { Stop::WriteFault };
+    let asked = peer.ask(ask, Due::Any);
+    Ok(asked == Err(stop) && sink.bytes() == bytes)
 }
 
 #[test]
@@ -117,9 +125,14 @@ fn first(
     requires { 0 < piece }
 {
     let mut src = source(alloc, bytes, piece, &[])?;
-    let mut inbox = Inbox::new(alloc);
-    match read_reply(&mut src, &mut inbox, due) {
-        Ok(_) => Ok(Ok(inbox.body)),
+    let mut received = Received::new(alloc)?;
+    let mut peer = Peer {
+        src: &mut src,
+        sink: &mut NullSink::new(),
+        received: &mut received,
+    };
+    match peer.ask(&Ask::Pin, due) {
+        Ok(_) => Ok(Ok(Vec::from_slice(alloc, peer.body())?)),
         Err(stop) => Ok(Err(stop)),
     }
 }
@@ -369,21 +382,30 @@ static TWO: &[u8] =
 fn what_comes_behind_a_reply_stays(rt: HostRuntime) -> Result<(), Fail> {
     let alloc = rt.alloc();
     let mut src = source(alloc, TWO, 9000, &[])?;
-    let mut inbox = Inbox::new(alloc);
-    assert!(rt; read_reply(&mut src, &mut inbox, Due::Survey(7)) == Ok(Some(7)));
-    assert!(rt; inbox.body.as_slice() == b"hello".as_slice());
-    assert!(rt; read_reply(&mut src, &mut inbox, Due::Survey(7)) == Ok(Some(7)));
-    assert!(rt;
-        inbox.body.as_slice() == b"ab".as_slice() && inbox.held.as_slice() == b"rest".as_slice()
-    );
+    let mut received = Received::new(alloc)?;
+    let mut peer = Peer {
+        src: &mut src,
+        sink: &mut NullSink::new(),
+        received: &mut received,
+    };
+    assert!(rt; peer.ask(&Ask::Pin, Due::Survey(7)) == Ok(Some(7)));
+    assert!(rt; peer.body() == b"hello".as_slice());
+    assert!(rt; peer.ask(&Ask::Pin, Due::Survey(7)) == Ok(Some(7)));
+    assert!(rt; peer.body() == b"ab".as_slice());
+    assert!(rt; peer.ask(&Ask::Pin, Due::Survey(7)) == Err(Stop::Cut));
     Ok(())
 }
 
 // What is read first, where the reading with that number fails.
 fn first_over(alloc: Global, fails: u64) -> Result<Result<Option<u32>, Stop>, AllocError> {
     let mut src = source(alloc, WHOLE, 20, &[fails])?;
-    let mut inbox = Inbox::new(alloc);
-    Ok(read_reply(&mut src, &mut inbox, Due::Pinned))
+    let mut received = Received::new(alloc)?;
+    let mut peer = Peer {
+        src: &mut src,
+        sink: &mut NullSink::new(),
+        received: &mut received,
+    };
+    Ok(peer.ask(&Ask::Pin, Due::Pinned))
 }
 
 #[test]

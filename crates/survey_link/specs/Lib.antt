@@ -8,4 +8,3 @@ pub mod Faults
 pub mod ShelfPath
 pub mod Folder
 pub mod Inbox
-pub mod Turns

@@ -2,7 +2,7 @@ use Rattle.std.proofs.Common.{[], refl}
 use Rattle.hips_http.specs.Moment.{connection_of}
 use Rattle.hips_http.specs.SessionRun.{room_of}
 use Rattle.hips_http.specs.Readings.{NeedsNext}
-use Rattle.hips_http.proofs.ReadLemmas.{reads_none}
+use Rattle.http_frame.proofs.ReadLemmas.{reads_none}
 use Rattle.hips_http.proofs.InOrder.{order_from, served_from, reads_from, no_order}
 use Rattle.hips_http.proofs.Whole.{no_memory_served, no_memory_goes, goes_from}
 use Rattle.hips_http.proofs.connection.session_in.Goals as goal

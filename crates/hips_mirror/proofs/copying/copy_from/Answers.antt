@@ -271,10 +271,11 @@ returns-clause-copied g c =
     let reply = body_of c.ask.new.peer in
     let whole = copied_whole g.S.Source g.K.Sink s.pinned s.conf s.counted x ns ts keys body few told same c.read_mosaic.new.peer c.ask.new.peer came reply
     (one_reached g.S.Source g.K.Sink s.pinned Unpin c.unpin.result.ask Any c.read_mosaic.new.peer c.ask.new.peer c.unpin.ensures.ask refl (λ bytes rest. IsReply Any bytes reply rest)
-    c.in_ok-ask.ensures.asked c.in_ok-ask.ensures.read c.ask.ensures.goes) in
-    (s.pinned,
-    subst (λ (made : GenerationContent). Reaches g.S.Source g.K.Sink s.pinned (asks made.conf.shape.top (keys_of made.leaves)) (λ bytes rest. IsCopy bytes made.conf (leaf_map made.leaves)) x c.ask.new.peer) (sym made)
-    (subst (λ ks. Reaches g.S.Source g.K.Sink s.pinned (asks s.conf.shape.top ks) (λ bytes rest. IsCopy bytes s.conf (leaf_map ts)) x c.ask.new.peer) (sym keys) whole))
+    c.in_ok-ask.ensures.asked c.in_ok-ask.ensures.read c.ask.ensures.goes) in (
+      s.pinned,
+      subst (λ (made : GenerationContent). Reaches g.S.Source g.K.Sink s.pinned (asks made.conf.shape.top (keys_of made.leaves)) (λ bytes rest. IsCopy bytes made.conf (leaf_map made.leaves)) x c.ask.new.peer) (sym made)
+          (subst (λ ks. Reaches g.S.Source g.K.Sink s.pinned (asks s.conf.shape.top ks) (λ bytes rest. IsCopy bytes s.conf (leaf_map ts)) x c.ask.new.peer) (sym keys) whole),
+    )
 
 pub returns-in_err-numbers-clause-goes : goal.returns-in_err-numbers-clause-goes
 returns-in_err-numbers-clause-goes g c =

@@ -13,10 +13,11 @@ use Rattle.hips_mirror.proofs.description.read_description.Goals as goal
 pub returns-in_err-pinned-clause-refused : goal.returns-in_err-pinned-clause-refused
 returns-in_err-pinned-clause-refused g c =
     if_err_from (λ refusal. (k : ℕ) × IsRefusedIn g.S.Source g.K.Sink k (Pin ∷ File Properties ∷ []) (λ bytes. Refuses bytes refusal) c.args.peer.now c.pin.new.peer refusal)
-    c.from_residual.result c.in_err-pinned.field-0.0 (err_from_is_err_and c.from_residual.result c.from_residual.ensures.1)
-    (0,
-    stopped_more g.S.Source g.K.Sink 0 (Pin ∷ []) (File Properties ∷ []) (λ bytes. RefusesReply Pinned 0 bytes c.in_err-pinned.field-0.0) (λ bytes. Refuses bytes c.in_err-pinned.field-0.0) _ _ c.in_err-pinned.field-0.0 (λ bytes why. at_pin why)
-    c.in_err-pinned.ensures.refused)
+    c.from_residual.result c.in_err-pinned.field-0.0 (err_from_is_err_and c.from_residual.result c.from_residual.ensures.1) (
+      0,
+      stopped_more g.S.Source g.K.Sink 0 (Pin ∷ []) (File Properties ∷ []) (λ bytes. RefusesReply Pinned 0 bytes c.in_err-pinned.field-0.0) (λ bytes. Refuses bytes c.in_err-pinned.field-0.0) _ _ c.in_err-pinned.field-0.0 (λ bytes why. at_pin why)
+          c.in_err-pinned.ensures.refused,
+    )
 
 pub returns-clause-reached : goal.returns-clause-reached
 returns-clause-reached g c =

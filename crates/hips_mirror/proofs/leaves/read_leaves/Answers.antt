@@ -62,7 +62,7 @@ loop-number-preserved g c =
       count = put_count d number (body_of c.ask.new.peer) c.loop-number.tiles tiles put ∙ ap (λ n. n + 1) c.loop-number.invariant.count;
       lower = λ k h below.
           lower_next numbers i k number (keys_of tiles) c.requires.ascending refl h below
-              (put_higher d number (body_of c.ask.new.peer) c.loop-number.tiles tiles (c.loop-number.invariant.lower i (omega arith) c.loop-number-test.true) put);
+          (put_higher d number (body_of c.ask.new.peer) c.loop-number.tiles tiles (c.loop-number.invariant.lower i (omega arith) c.loop-number-test.true) put);
       reached = leaf_reached g.S.Source g.K.Sink c.args.survey.now.pinned d numbers c.loop-number.tiles i c.loop-number-test.true c.args.peer.now c.loop-number.peer c.loop-number.invariant.reached c.leaf-request.result.ask c.ask.new.peer tiles own
           c.in_ok-ask.ensures.asked c.in_ok-ask.ensures.read c.ask.ensures.goes put;
       steps = omega (arith, c.take_leaf-taken.ensures.steps, c.loop-number.invariant.steps);
