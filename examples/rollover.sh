@@ -142,7 +142,7 @@ mkdir -p "$servers" || fail "$servers can't be made"
 copied=
 for _ in 1 2 3; do
     count=$(published "$old")
-    [ -n "$count" ] || fail "nothing is published at $old: $(head -c 200 "$work/body")"
+    [ -n "$count" ] || fail "nothing is published at $old: $(head -c 200 "$work/body" 2>/dev/null)"
     HIPSD_KEEP=1 "$here/backup.sh" ${release:+"$release"} "$old" "$servers/${new##*:}" || fail "there is no copy"
     if [ "$(edits "$old")" = "$count" ]; then
         copied=yes

@@ -12,6 +12,7 @@ reading, so that progress is said.
 import http.client
 import os
 import re
+import resource
 import shutil
 import socket
 import struct
@@ -555,6 +556,35 @@ def places(check):
     check.compare(["serve"], b"\n".join(sorted(said.splitlines())), sorted(wanted))
 
 
+def shortages(check):
+    """More places than descriptors: those without one are served once others have ended, or end themselves after five minutes."""
+    short = warn("tcp_link::shortage", "can't accept, and tries again: Too many open files (os error 24)")
+    served_one = info("hips_place::place", "a place ended after 1 connections: it took its connections, or none is left")
+    failed = info("hips_place::place", "a place ended after 0 connections: its door failed")
+    # By the second clock two and a half minutes pass at each reading.
+    for count, clients, pace, until, said, end in [
+        (4, 4, None, b"tries again", short + served_one * 4, "Done"),
+        (3, 2, 150_000, b"door failed", short * 2 + failed + served_one * 2, "Failed"),
+    ]:
+        # Two are for accepts, beside the standard ones and the listener's.
+        limit = {"preexec_fn": lambda: resource.setrlimit(resource.RLIMIT_NOFILE, (6, 6))}
+        process = check.start(["serve", "127.0.0.1:0", "1", str(count)], check.survey(CONF), pace=pace, **limit)
+        patience = threading.Timer(30, process.kill)
+        patience.start()
+        text = read_until(process, b"listening at ")
+        port = int(text.rpartition(b":")[2])
+        text += read_until(process, until)
+        for _ in range(clients):
+            with suppress(OSError):
+                served(port, ask(b"GET", b"/x"))
+        text += process.stderr.read()
+        patience.cancel()
+        wanted = THIS + LOADED + info("survey_commands::serve", f"{count} places, up to 1 connections at each")
+        wanted += info("tcp_link::listening", "listening at 127.0.0.1:#") + said
+        wanted += info("survey_commands::serve", f"all places have ended: {end}. {GONE}")
+        check.compare(["serve"], b"\n".join(sorted(text.splitlines())), sorted(wanted))
+
+
 def publications(check):
     """Three connections at once. Which edits a publication counts as its own, and what a pin finds, another one's among them."""
     process = check.start(["serve", "127.0.0.1:0", "1", "3"], check.survey(CONF))
@@ -765,7 +795,7 @@ def main(program=TOP / "crates/hipsd/out/hipsd"):
     with tempfile.TemporaryDirectory() as folder:
         Path(folder).chmod(0o755)
         check = Check(Path(program).resolve(strict=True), Path(folder))
-        for part in (wrong_words, levels, descriptions, folders, folder_faults, progress, catalogues, records, sessions, servers, places, publications, addresses, copies):
+        for part in (wrong_words, levels, descriptions, folders, folder_faults, progress, catalogues, records, sessions, servers, places, shortages, publications, addresses, copies):
             part(check)
         calls = unsaid(check)
     if check.wrong:

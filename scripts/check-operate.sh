@@ -156,11 +156,11 @@ away() {
     asks 200 "$proxy/survey/properties"
 }
 
-# as_given: the file as it is, by the steps of examples/README.md, with Debian's own nginx.conf; in a network and with mounts of
+# as_given: the file as it is, by the steps of docs/OPERATING.md, with Debian's own nginx.conf; in a network and with mounts of
 # its own, where this may make them.
 as_given() {
     if [ ! -e /proc/net/if_inet6 ] || [ ! -d /etc/nginx/sites-enabled ] || ! unshare -n -m ip link set lo up >/dev/null 2>&1; then
-        echo "check-operate: left out, since no network and mounts of its own can be made here: nginx.conf by the steps of examples/README.md"
+        echo "check-operate: left out, since no network and mounts of its own can be made here: nginx.conf by the steps of docs/OPERATING.md"
         return
     fi
     mkdir -p "$folder/given"
@@ -204,7 +204,7 @@ SHELL
 leaf=Norder5/Dir0/Npix7.fits
 start
 if command -v nginx >/dev/null 2>&1; then
-    # The steps of examples/README.md.
+    # The steps of docs/OPERATING.md.
     if command -v openssl >/dev/null 2>&1; then
         printf 'editor:%s\n' "$(echo secret | openssl passwd -6 -stdin)" >"$folder/users"
         openssl req -x509 -newkey rsa:2048 -nodes -days 2 -subj /CN=hips.example.org -addext subjectAltName=DNS:hips.example.org \
@@ -875,7 +875,7 @@ installs() {
     PROGRAM=$program DESTDIR=$root "$scripts/install.sh" /usr >"$folder/body" 2>&1 || blame "install.sh, again: $(cat "$folder/body")"
     (cd "$folder/survey" && "$root/usr/bin/hipsd" export) >"$folder/body" 2>/dev/null || blame "what is installed doesn't run: $(cat "$folder/body")"
     for file in share/man/man1/hipsd.1 lib/systemd/system/hipsd@.service lib/systemd/system/hipsd-backup.service lib/systemd/system/hipsd-backup.timer \
-        lib/sysusers.d/hipsd.conf share/doc/hipsd/examples/README.md; do
+        lib/sysusers.d/hipsd.conf share/doc/hipsd/OPERATING.md; do
         [ -s "$root/usr/$file" ] || blame "install.sh: there is no $file"
     done
     for script in edit.sh look-back.sh backup.sh rollover.sh; do
@@ -937,7 +937,7 @@ if command -v nft >/dev/null 2>&1; then port_for_the_proxy; else leaves_out nfta
 
 # The scripts that operators and editors run, and those that try them.
 if command -v shellcheck >/dev/null 2>&1; then
-    shellcheck -x "$examples"/*.sh "$scripts"/install*.sh "$scripts/sample.sh" "$scripts/check-operate.sh" "$scripts/check-mirror.sh" || blame "shellcheck"
+    shellcheck -x "$examples"/*.sh "$scripts"/install*.sh "$scripts/sample.sh" "$scripts/check-operate.sh" "$scripts/check-mirror.sh" "$scripts/check-units.sh" || blame "shellcheck"
 else
     leaves_out shellcheck
 fi

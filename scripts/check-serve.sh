@@ -13,7 +13,6 @@ program=$(realpath -e "${1:-crates/hipsd/out/hipsd}") || { echo "check-serve: th
 seconds=${2:-20}
 python=/usr/bin/python3
 scripts=$PWD/scripts
-examples=$PWD/examples
 missing=
 command -v curl >/dev/null 2>&1 || missing="$missing curl"
 [ -x "$python" ] || missing="$missing python3"
@@ -238,9 +237,12 @@ odd=$(awk '$2 == "client]" { client[$3 $4] } $2 == "request]" && (NF != 10 || $9
 [ "$(awk '$2 == "request]" { all += $9 } END { print (all > 0) }' "$folder/log")" = 1 ] || blame "no request took a microsecond"
 published=$(sed -n 's/.*: \(published .*\): .*/\1/p' "$folder/log")
 [ "$published" = $'published 1 edits, 1 of 1 in all\npublished 2 edits, 3 of 3 in all' ] || blame "publications as the log has them: $published"
-count=$(sed -n "s/^awk '\(.*\)' log\$/\1/p" "$examples/README.md")
-clients=$(awk "$count" "$folder/log" | LC_ALL=C sort)
+# The two commands of OPERATING over such a log.
+mapfile -t counts < <(sed -n "s/^awk '\(.*\)' log\$/\1/p" "$scripts/../docs/OPERATING.md")
+clients=$(awk "${counts[0]}" "$folder/log" | LC_ALL=C sort)
 [ "$clients" = $'1 10 127.0.0.2\n12 5857 127.0.0.1' ] || blame "requests and bytes of each client: $clients"
+codes=$(awk "${counts[1]}" "$folder/log" | sed -n 's/^\([0-9]* [0-9]*\) [0-9.]* us on average$/\1/p' | sort | tr '\n' ';')
+[ "$codes" = '200 4;201 2;204 1;404 2;405 1;411 1;412 1;422 1;' ] || blame "requests by code: $codes"
 grep -q 'connection{place=[12] number=[1-9][0-9]*}: Closed$' "$folder/log" || blame "the end of a connection isn't said"
 stop
 

@@ -486,31 +486,6 @@ class Rollover(Case):
         self.assertIn("--when takes", self.roll(2, "--when", "0"))
 
 
-    def behind_the_rule(self):
-        """Called in a network of its own: hipsd.nft closes the ports to others than the proxy and root."""
-        rule = (EXAMPLES / "hipsd.nft").read_text(encoding="ascii")
-        words = f"127.0.0.1:{self.old}", f"127.0.0.1:{self.new}"
-        for ports in str(self.old), f"{self.old}, {self.new}":
-            closed, changes = re.subn("define hipsd_ports = .*", f"define hipsd_ports = {{ {ports} }}", rule)
-            self.assertEqual(changes, 1)
-            subprocess.run(["nft", "-f", "-"], input=closed, text=True, check=True)
-            if str(self.new) not in ports:
-                self.stays(self.roll(1, *words), f"other users of this machine reach 127.0.0.1:{self.new}, and not 127.0.0.1:{self.old}")
-        self.assertNotIn("any user of this machine", self.roll(0, *words))
-
-
-class Rule(unittest.TestCase):
-    """The rule of hipsd.nft, where a network can be made."""
-
-    def test_a_port_that_the_rule_does_not_name(self):
-        network = ["unshare", "-n", "sh", "-c", 'ip link set lo up && nft add table inet try && exec "$@"', "sh"]
-        if subprocess.run([*network, "true"], stderr=subprocess.DEVNULL, check=False).returncode:
-            self.skipTest("no network with a filter can be made here")
-        ran = subprocess.run([*network, __file__, PROGRAM, "Rollover.behind_the_rule"], stdout=subprocess.PIPE, stderr=subprocess.STDOUT, text=True,
-                             timeout=60, check=False)
-        self.assertEqual(ran.returncode, 0, ran.stdout)
-
-
 @unittest.skipUnless(shutil.which("nginx") or os.environ.get("CI") == "true", "nginx isn't installed")
 class Readers(Case):
     """Two machines with copies, and nginx before them; each is an address of this machine."""

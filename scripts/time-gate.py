@@ -2,9 +2,9 @@
 """time-gate.py [NAME=VALUE ..] [COMMAND ..]: runs the command, `rt ci` if none is given, with these variables set, at the top of the repository.
 time-gate.py --pid NUMBER: watches an `rt` that runs already, until it ends.
 
-In the end it prints the table of CONTRIBUTING.md: by crate, the seconds of processor that its proof, its tests and its edits
-took. Each process below the command is looked at twice a second, so what it did right before its end is missing: how much that
-is stands below the table. What a crate's proof, tests and edits are is told by rattle's own words and by the folder it runs in.
+In the end it prints a table: by crate, the seconds of processor that its proof, its tests and its edits took. Each process below
+the command is looked at twice a second, so what it did right before its end is missing: how much that is stands below the table.
+What a crate's proof, tests and edits are is told by rattle's own words and by the folder it runs in.
 Then come the dearest edits: those stand in functions that take long to prove, and would do as well in smaller ones.
 """
 
@@ -22,7 +22,6 @@ ROOT = Path(__file__).resolve().parent.parent
 EVERY = 0.5
 DEAREST = 20
 TICKS = os.sysconf("SC_CLK_TCK")
-ROW = re.compile(r"^\| `(\w+)`[^|]*\|[^|]*\| *(`\w+`|none|)", re.M)
 
 
 def processes():
@@ -121,8 +120,7 @@ class Sampler:
 
 
 def rows(sums):
-    """The rows of the table, in the order of crates.txt; where a crate's tests stand is as CONTRIBUTING.md has it."""
-    places = dict(ROW.findall((ROOT / "CONTRIBUTING.md").read_text()))
+    """The rows of the table, in the order of crates.txt."""
     yield "| Crate | Proof | Tests | Edits |"
     yield "|---|---|---|---|"
     for name in re.findall(r"^(\w+)[^:\n]*:", (ROOT / "crates.txt").read_text(), re.M):
@@ -134,8 +132,7 @@ def rows(sums):
         if name.endswith("_tests"):
             yield f"| `{name}` | | {proof + tests:.0f} | {shown} |"
         else:
-            place = f"{tests:.0f}" if tests else places.get(name) or "none"
-            yield f"| `{name}` | {proof:.0f} | {place} | {shown} |"
+            yield f"| `{name}` | {proof:.0f} | {f'{tests:.0f}' if tests else 'none'} | {shown} |"
 
 
 def report(sampler, minutes, whole):

@@ -1,4 +1,3 @@
-pub mod Bytes
 pub mod Splitting
 pub mod Feeds
 pub mod Judged

@@ -1,18 +1,9 @@
 -- The bytes that were read of the input and not yet used as lines.
-use Rattle.std.specs.Prelude.{◌≡◌, ℕ, ◌<◌, ◌≤◌, ◌==◌, List, [], ◌++◌, length, take, position, slice_range, Option, Some, None, option_map}
+use Rattle.std.specs.Prelude.{◌≡◌, ℕ, ◌<◌, ◌≤◌, ◌==◌, List, [], ◌++◌, length, take, position, Option, Some, None, option_map}
 use Rattle.std.specs.Io.KnownBytes.{IsAtEnd}
-use Rattle.catalog_command.specs.declared.buffer.Buffer.{Buffer}
 use Rattle.catalog_command.specs.declared.found.Found.{Found}
 use Rattle.catalog_command.specs.declared.found.Found.TheVariants.{Line, Long, Cut, End}
 use Rattle.catalog_command.specs.Lines.{line_feed, most_bytes}
-
--- the bytes that are held
-abbrev pub held : Buffer → List ℕ
-held buffer = slice_range buffer.bytes.items buffer.start buffer.end
-
--- how many bytes there is room for
-abbrev pub size : Buffer → ℕ
-size buffer = length buffer.bytes.items
 
 -- what is left to be used, where the source tells what it has left
 abbrev pub unread : List ℕ → Option (List ℕ) → Option (List ℕ)

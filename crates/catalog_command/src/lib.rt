@@ -4,7 +4,6 @@
 //! whole command over the ends that it is given: it writes what there is to say, and answers the exit status.
 #![tactic(auto)]
 
-mod buffer;
 mod command;
 mod counts;
 mod found;

@@ -2,12 +2,12 @@
 ghost use Rattle.std.specs.Prelude.{◌≡◌, ◌<◌, ◌≤◌, ◌++◌, ℕ, List, Option, length, None, Ok, IfOk, IfSome, IsNone, OnErr};
 ghost use Rattle.std.specs.Io.KnownBytes.{Consumes, IsAtEnd};
 ghost use Rattle.survey_link.specs.Link.{Rises};
+ghost use Rattle.survey_link.specs.Inbox.{held, size};
 ghost use Rattle.catalog_command.specs.Lines.{most_bytes};
-ghost use Rattle.catalog_command.specs.Unread.{held, size, place_of_feed, IsFound, KeepsUnread};
+ghost use Rattle.catalog_command.specs.Unread.{place_of_feed, IsFound, KeepsUnread};
 
-use crate::buffer::Buffer;
 use crate::found::Found;
-use survey_link::{Failed, Source};
+use survey_link::{Failed, Inbox, Source};
 
 // How many bytes a line has at most, with its line feed.
 const MOST_BYTES: usize = 512;
@@ -20,38 +20,38 @@ pub(crate) const ROOM: usize = 65_536;
 /// # Errors
 ///
 /// `Failed` only where the source's count of faults rose.
-pub(crate) fn find<S: Source>(buffer: &mut Buffer, source: &mut S) -> Result<Found, Failed>
-    requires size { size buffer.old ≡ 65536 }
-    ensures found { IfOk result (IsFound (held buffer.new) (S.left source.new)) }
-    ensures unread { KeepsUnread (held buffer.old) (held buffer.new) (S.left source.old) (S.left source.new) }
+pub(crate) fn find<S: Source>(inbox: &mut Inbox, source: &mut S) -> Result<Found, Failed>
+    requires size { size inbox.old ≡ 65536 }
+    ensures found { IfOk result (IsFound (held inbox.new) (S.left source.new)) }
+    ensures unread { KeepsUnread (held inbox.old) (held inbox.new) (S.left source.old) (S.left source.new) }
     ensures failed { OnErr result (Rises (S.faults source.old) (S.faults source.new)) }
     ensures never_falls { S.faults source.old ≤ S.faults source.new }
-    ensures size { size buffer.new ≡ size buffer.old }
+    ensures size { size inbox.new ≡ size inbox.old }
 {
     'reading: loop {
-        if let Some(found) = told(buffer.held()) {
+        if let Some(found) = told(inbox.held()) {
             return Ok(found);
         }
-        if read_more(buffer, source)? == 0 {
-            return Ok(at_end(buffer.held()));
+        if read_more(inbox, source)? == 0 {
+            return Ok(at_end(inbox.held()));
         }
     }
 }
 
 // Reads once behind the bytes that are held, which are fewer than those of the longest line, and answers how many came.
-fn read_more<S: Source>(buffer: &mut Buffer, source: &mut S) -> Result<usize, Failed>
-    requires size { size buffer.old ≡ 65536 }
-    requires few { length (held buffer.old) < most_bytes }
-    ensures read { IfOk result (λ count. (more : List ℕ) × (length more ≡ count) × (held buffer.new ≡ held buffer.old ++ more)
+fn read_more<S: Source>(inbox: &mut Inbox, source: &mut S) -> Result<usize, Failed>
+    requires size { size inbox.old ≡ 65536 }
+    requires few { length (held inbox.old) < most_bytes }
+    ensures read { IfOk result (λ count. (more : List ℕ) × (length more ≡ count) × (held inbox.new ≡ held inbox.old ++ more)
         × Consumes (S.left source.old) (S.left source.new) more) }
     ensures end { result ≡ Ok 0 → IsAtEnd (S.left source.new) }
-    ensures kept { OnErr result ((held buffer.new ≡ held buffer.old) × (S.left source.new ≡ S.left source.old)) }
+    ensures kept { OnErr result ((held inbox.new ≡ held inbox.old) × (S.left source.new ≡ S.left source.old)) }
     ensures failed { OnErr result (Rises (S.faults source.old) (S.faults source.new)) }
     ensures never_falls { S.faults source.old ≤ S.faults source.new }
-    ensures size { size buffer.new ≡ size buffer.old }
+    ensures size { size inbox.new ≡ size inbox.old }
 {
-    buffer.move_to_front();
-    buffer.read(source, ROOM)
+    inbox.move_to_front();
+    inbox.read(source, ROOM)
 }
 
 // What stands next, where the bytes that are held tell it.

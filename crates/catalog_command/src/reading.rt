@@ -3,12 +3,12 @@ ghost use Rattle.std.specs.Prelude.{◌≡◌, ℕ, ◌+◌, ◌<◌, ◌≤◌,
 ghost use Rattle.survey_link.specs.Link.{Rises};
 ghost use Rattle.std.specs.Io.KnownBytes.{IsAtEnd};
 ghost use Rattle.hips_catalog.specs.Catalogue.{Catalogue, no_rows};
+ghost use Rattle.survey_link.specs.Inbox.{held, size};
 ghost use Rattle.catalog_command.specs.Lines.{after_input, after_line, catalogue_of, most_lines, then_lines};
-ghost use Rattle.catalog_command.specs.Unread.{held, size, unread};
+ghost use Rattle.catalog_command.specs.Unread.{unread};
 ghost use Rattle.catalog_command.specs.Stops.{TellsStop, IsReading};
 ghost use Rattle.catalog_command.specs.Judging.{judged, numbered, TakesLine};
 
-use crate::buffer::Buffer;
 use crate::found::Found;
 use crate::line::{LineRefusal, use_line};
 use crate::lines::{ROOM, find};
@@ -18,7 +18,7 @@ use hips_catalog::Catalog;
 use log::Log;
 use std::alloc::Global;
 use std::time::Clock;
-use survey_link::Source;
+use survey_link::{Inbox, Source};
 
 // How many lines there are at most.
 const MOST_LINES: u64 = 2_000_000;
@@ -46,11 +46,11 @@ pub(crate) fn read_catalog<R: AllocGlobal + Clock + Log, S: Source>(
     ensures never_falls { S.faults source.old ≤ S.faults source.new }
 {
     let mut catalog = Catalog::new(rt.alloc(), top, per_tile);
-    let mut buffer = Buffer::new(rt.alloc(), ROOM)?;
+    let mut inbox = Inbox::new(rt.alloc(), ROOM)?;
     let mut progress = Progress::begin(rt, "lines read");
     let mut number = 1;
     'lines: loop {
-        if !take_line(rt.alloc(), &mut buffer, source, number, top, &mut catalog)? {
+        if !take_line(rt.alloc(), &mut inbox, source, number, top, &mut catalog)? {
             return Ok(catalog);
         }
         progress.part_done(rt);
@@ -61,7 +61,7 @@ pub(crate) fn read_catalog<R: AllocGlobal + Clock + Log, S: Source>(
 // Uses the line of this number, which stands next in the input; false at the end of the input.
 fn take_line<S: Source>(
     alloc: Global,
-    buffer: &mut Buffer,
+    inbox: &mut Inbox,
     source: &mut S,
     number: u64,
     top: u8,
@@ -69,11 +69,11 @@ fn take_line<S: Source>(
 ) -> Result<bool, Stop>
     requires top { catalog.old.top ≡ top }
     requires few { top ≤ 11 }
-    requires size { size buffer.old ≡ 65536 }
-    ensures size { size buffer.new ≡ size buffer.old }
-    ensures taken { (rest : List ℕ) → unread (held buffer.old) (S.left source.old) ≡ Some rest
-        → IfOk result (TakesLine number rest catalog.old catalog.new (unread (held buffer.new) (S.left source.new))) }
-    ensures stopped { (rest : List ℕ) → unread (held buffer.old) (S.left source.old) ≡ Some rest
+    requires size { size inbox.old ≡ 65536 }
+    ensures size { size inbox.new ≡ size inbox.old }
+    ensures taken { (rest : List ℕ) → unread (held inbox.old) (S.left source.old) ≡ Some rest
+        → IfOk result (TakesLine number rest catalog.old catalog.new (unread (held inbox.new) (S.left source.new))) }
+    ensures stopped { (rest : List ℕ) → unread (held inbox.old) (S.left source.old) ≡ Some rest
         → IfErr result (TellsStop (after_input catalog.old number rest)) }
     ensures kinds { IfErr result IsReading }
     ensures end { result ≡ Ok false → IsAtEnd (S.left source.new) }
@@ -82,15 +82,15 @@ fn take_line<S: Source>(
     ensures failed { IsErrOf result Stop.ReadFault → Rises (S.faults source.old) (S.faults source.new) }
     ensures never_falls { S.faults source.old ≤ S.faults source.new }
 {
-    let found = find(buffer, source)?;
+    let found = find(inbox, source)?;
     match judged(number, found)? {
         None => Ok(false),
         Some(count) => {
             used(
                 number,
-                use_line(alloc, catalog, top, &buffer.held()[..count]),
+                use_line(alloc, catalog, top, &inbox.held()[..count]),
             )?;
-            buffer.give(count + 1);
+            inbox.give(count + 1);
             Ok(true)
         }
     }

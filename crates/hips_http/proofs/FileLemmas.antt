@@ -1,6 +1,7 @@
 -- Files, as they are answered.
-use Rattle.std.proofs.Common.{◌≡◌, ℕ, ◌+◌, ◌-◌, ◌<◌, ◌≤◌, List, length, Option, Some, None, refl, sym, ◌∙◌, arith}
-use Rattle.std.specs.Prelude.{slice_get, unwrap_or, option_map}
+use Rattle.std.proofs.Common.{◌≡◌, ℕ, ◌+◌, ◌-◌, ◌<◌, ◌≤◌, inl, inr, List, length, Option, Some, None, refl, sym, ap, subst, ◌∙◌, arith}
+use Rattle.std.specs.Prelude.{slice_get, unwrap_or, option_map, IsSome}
+use Rattle.std.proofs.lemmas.Bool.{true≢false}
 use Rattle.std.specs.Option.{option_map_or}
 use Rattle.tile_path.specs.declared.path.Path.{Path}
 use Rattle.survey_conf.specs.Description.{Description}
@@ -14,7 +15,7 @@ use Rattle.reader_pin.specs.Board.{BoardContent, IsOwned, Stays, last_seen, stat
 use Rattle.hips_http.specs.declared.call.Call.TheVariants as call
 use Rattle.hips_http.specs.Replies.{found_answer, not_found, file_answer}
 use Rattle.hips_http.specs.Answers.{Asking}
-use Rattle.hips_http.specs.Progress.{IsHeld, Serves}
+use Rattle.hips_http.specs.Progress.{IsHeld, Looks, Serves}
 use Rattle.hips_http.proofs.Points.{IsFound, last_there, kept_point, kept_at, kept_keeps, place_rises}
 use Rattle.hips_http.proofs.Changes.{stays_itself}
 
@@ -41,13 +42,22 @@ pub record HoldsState (board : BoardContent) (held : Option SurveyState) (state 
   pub held_is : held ≡ Some of_survey
   pub is : state ≡ state_in board of_survey
 
-pub held_known : (board : BoardContent) (held : Option SurveyState) (state : StateContent) → Some state ≡ option_map (state_in board) held → HoldsState board held state
-held_known board None state is = absurd (cc)
-held_known board (Some s) state is = record { of_survey = s; held_is = refl; is = (let e : state ≡ state_in board s = cc in e) }
+holds_shown : (board : BoardContent) (held : Option SurveyState) (state : StateContent) → IsSome held → state ≡ state_in board (unwrap_or held (last_seen board)) → HoldsState board held state
+holds_shown board None state some is = absurd (true≢false (sym some))
+holds_shown board (Some s) state some is = record { of_survey = s; held_is = refl; is = is }
 
+-- what a board answers when it is asked for the state that it holds
 pub held_none : (board : BoardContent) (held : Option SurveyState) → None ≡ option_map (state_in board) held → held ≡ None
 held_none board None is = refl
 held_none board (Some s) is = absurd (cc)
+
+pub held_some : (board : BoardContent) (held : Option SurveyState) (state : StateContent) → Some state ≡ option_map (state_in board) held → IsSome held
+held_some board None state is = absurd (cc)
+held_some board (Some s) state is = refl
+
+pub held_shown : (board : BoardContent) (held : Option SurveyState) (state : StateContent) (last : SurveyState) → Some state ≡ option_map (state_in board) held → state ≡ state_in board (unwrap_or held last)
+held_shown board None state last is = absurd (cc)
+held_shown board (Some s) state last is = let e : state ≡ state_in board s = cc in e
 
 module _ (request : Asking) (file : Option Path) (path : Option (List ℕ)) (path_is : request.path ≡ path) (steps : ℕ) where
   -- by the newest state, where none is held
@@ -110,3 +120,13 @@ module _ (request : Asking) (file : Option Path) (path : Option (List ℕ)) (pat
           cost = refl;
         };
   }
+
+  -- by the state that is shown after a look
+  pub shown_serves : (old new : BoardContent) (state : StateContent) → IsHistory new.opening new.history → IsOwned new → Looks old new → state ≡ state_in new (unwrap_or new.held (last_seen new))
+      → Serves request (call.File file) old new steps steps (file_answer state.conf state.opening (survey_state state) path)
+  shown_serves old new state legal owned (inl same) is =
+      subst (λ (board : BoardContent). Serves request (call.File file) board new steps steps (file_answer state.conf state.opening (survey_state state) path)) same.0
+      (held_serves new state legal owned (holds_shown new new.held state (subst (λ (board : BoardContent). IsSome board.held) (sym same.0) same.1) is))
+  shown_serves old new state legal owned (inr stays) is =
+      let none : new.held ≡ None = stays.0.held ∙ stays.1 in
+      newest_serves old new state stays.0 stays.1 (is ∙ ap (λ (held : Option SurveyState). state_in new (unwrap_or held (last_seen new))) none)

@@ -9,7 +9,9 @@ pub mod Truncated
 pub mod Steps
 pub mod ReadLemmas
 pub mod ReadRequests
+pub mod InOrder
 pub mod Flushed
+pub mod OneRequest
 pub mod Sessions
 pub mod OneKind
 pub mod Same

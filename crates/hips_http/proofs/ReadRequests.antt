@@ -1,5 +1,5 @@
 -- What is read of a source for one request, and for one request after another.
-use Rattle.std.proofs.Common.{◌≡◌, ℕ, ◌+◌, ◌<◌, inl, inr, false, List, [], ◌∷◌, ◌++◌, length, Option, Some, None, Ok, refl, sym, ap, subst, ◌∙◌, arith, append_assoc, length-append}
+use Rattle.std.proofs.Common.{◌≡◌, ℕ, ◌+◌, ◌<◌, inl, inr, false, List, [], ◌∷◌, ◌++◌, length, Option, Some, None, Ok, Err, refl, sym, ap, subst, ◌∙◌, arith, append_assoc, length-append}
 use Rattle.std.specs.Prelude.{IfSome, IsSome, IsSomeAnd, All}
 use Rattle.std.specs.Io.KnownBytes.{Consumes, prepend_known}
 use Rattle.std.proofs.lemmas.Bool.{true≢false}
@@ -11,6 +11,7 @@ use Rattle.http_frame.specs.Next.{NeedsMore, IsFound, IsWhole}
 use Rattle.http_frame.specs.Readings.{ReadsWhile}
 use Rattle.http_frame.proofs.Nexts.{found_of_more}
 use Rattle.http_frame.proofs.Unique.{has_head, one_found}
+use Rattle.hips_http.specs.declared.served.SessionEnd.{SessionEnd}
 use Rattle.hips_http.specs.Answers.{Asking}
 use Rattle.hips_http.specs.SessionRun.{AreRequests, most_requests}
 use Rattle.hips_http.specs.Readings.{NeedsRest, NeedsNext, HoldsBehind}
@@ -57,6 +58,11 @@ behind_body held came body held' (Some xs) None some gone told = absurd gone
 behind_body held came body held' (Some xs) (Some ys) some gone told =
     append_cancel_right (held ++ came) (body ++ held') ys (append_assoc held came ys ∙ ap (λ (b : List ℕ). held ++ b) (sym gone) ∙ told ∙ sym (append_assoc body held' ys))
 
+-- the bytes that came are fewer requests than these, none of which asked to close, and the beginning of one more
+pub record NeedsAmong (room most : ℕ) (came : List ℕ) : Type 0 where
+  pub next : NeedsNext room came
+  pub fewer : length next.requests < most
+
 module _ {S : Type 0} (left : S → Option (List ℕ)) (readings : S → Option ℕ) (room : ℕ) where
   -- ---- one request
 
@@ -90,12 +96,21 @@ module _ {S : Type 0} (left : S → Option (List ℕ)) (readings : S → Option 
           body_is = behind_body held' came' bytes held'' (left b) (left c) there (reads_consume left readings (IsShort asked.length) held' came' b c body) told;
         })
 
+    -- the request was answered, or the connection ended with it
+    pub reads_request : (bytes held'' : List ℕ) → IsSome (left a) → length bytes ≡ asked.length
+        → IfSome (prepend_known held' (left b)) (λ all. IsSomeAnd (prepend_known held'' (left c)) (λ rest. all ≡ bytes ++ rest))
+        → (all : List ℕ) × ReadsWhile left readings (NeedsRest room) held a c all × HoldsBehind room (held ++ all) held'' (Ok asked.close)
+    reads_request bytes held'' some count told = (came ++ came', both_read, (record { asked = asked; path = path; body = bytes }, both_whole bytes held'' some count told, refl))
+
+    pub reads_stopped : (held'' : List ℕ) (end : SessionEnd) → (all : List ℕ) × ReadsWhile left readings (NeedsRest room) held a c all × HoldsBehind room (held ++ all) held'' (Err end)
+    reads_stopped held'' end = (came ++ came', both_read, tt)
+
   -- ---- one request after another
 
   -- what was read so far: so many requests of which none asked to close, and the bytes held
   pub record HasRead (count : ℕ) (held : List ℕ) (old now : S) : Type 0 where
     pub came : List ℕ
-    pub reads : ReadsWhile left readings (NeedsNext room) [] old now came
+    pub reads : ReadsWhile left readings (NeedsAmong room count) [] old now came
     pub gave : AllGave reads.pieces
     pub requests : List Asking
     pub are_requests : AreRequests room came requests held
@@ -105,7 +120,7 @@ module _ {S : Type 0} (left : S → Option (List ℕ)) (readings : S → Option 
   pub has_read_none : (held : List ℕ) (s : S) → held ≡ [] → HasRead 0 held s s
   has_read_none held s none = record {
     came = [];
-    reads = reads_none left readings (NeedsNext room) [] s;
+    reads = reads_none left readings (NeedsAmong room 0) [] s;
     gave = tt;
     requests = [];
     are_requests = none;
@@ -115,23 +130,31 @@ module _ {S : Type 0} (left : S → Option (List ℕ)) (readings : S → Option 
 
   -- the source goes on telling its bytes
   pub has_read_left : (count : ℕ) (held : List ℕ) (a b : S) → HasRead count held a b → IsSome (left a) → IsSome (left b)
-  has_read_left count held a b so some = some_left (left a) (left b) so.came some (reads_consume left readings (NeedsNext room) [] so.came a b so.reads)
+  has_read_left count held a b so some = some_left (left a) (left b) so.came some (reads_consume left readings (NeedsAmong room count) [] so.came a b so.reads)
+
+  abbrev pub reads_among : (count : ℕ) (a b : S) (came : List ℕ) → ReadsWhile left readings (NeedsAmong room count) [] a b came → ReadsWhile left readings (NeedsAmong room (count + 1)) [] a b came
+  reads_among count a b came reads =
+      reads_for left readings (NeedsAmong room count) (NeedsAmong room (count + 1)) [] [] came
+      (λ more needed. record { next = needed.next; fewer = (let fewer = needed.fewer in omega arith) }) a b reads
 
   module _ (count : ℕ) (held : List ℕ) (a b c : S) (so : HasRead count held a b) (few : count < most_requests) (came : List ℕ) (reads : ReadsWhile left readings (NeedsRest room) held b c came) where
-    abbrev pub later : ReadsWhile left readings (NeedsNext room) so.came b c came
+    abbrev pub later : ReadsWhile left readings (NeedsAmong room (count + 1)) so.came b c came
     later =
-        reads_for left readings (NeedsRest room) (NeedsNext room) held so.came came
+        reads_for left readings (NeedsRest room) (NeedsAmong room (count + 1)) held so.came came
         (λ more needed. record {
-          requests = so.requests;
-          rest = held ++ more;
-          are_requests = requests_more room so.came more so.requests held so.are_requests;
-          go_on = record { none_closes = so.none_closes; few = (let count_is = so.count_is in omega arith) };
-          needs = needed;
+          next = record {
+            requests = so.requests;
+            rest = held ++ more;
+            are_requests = requests_more room so.came more so.requests held so.are_requests;
+            go_on = record { none_closes = so.none_closes; few = (let count_is = so.count_is in omega arith) };
+            needs = needed;
+          };
+          fewer = (let count_is = so.count_is in omega arith);
         })
         b c reads
 
-    abbrev pub reads_on : ReadsWhile left readings (NeedsNext room) [] a c (so.came ++ came)
-    reads_on = reads_then left readings (NeedsNext room) [] so.came came a b c so.reads so.gave later
+    abbrev pub reads_on : ReadsWhile left readings (NeedsAmong room (count + 1)) [] a c (so.came ++ came)
+    reads_on = reads_then left readings (NeedsAmong room (count + 1)) [] so.came came a b c (reads_among count a b so.came so.reads) so.gave later
 
     pub has_read_more : (held' : List ℕ) → HoldsBehind room (held ++ came) held' (Ok false) → HasRead (count + 1) held' a c
     has_read_more held' behind =

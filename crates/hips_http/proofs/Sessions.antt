@@ -1,5 +1,5 @@
 -- Whole connections, from their requests.
-use Rattle.std.proofs.Common.{◌≡◌, ◌⊎◌, inl, inr, ℕ, ◌+◌, ◌<◌, ◌≤◌, true, false, List, [], ◌∷◌, ◌++◌, length, Option, Some, None, Ok, Err, refl, sym, ap, ◌∙◌, subst, arith, append_assoc, length-append}
+use Rattle.std.proofs.Common.{◌≡◌, ◌⊎◌, inl, inr, ℕ, suc, ◌+◌, ◌<◌, ◌≤◌, true, false, List, [], ◌∷◌, ◌++◌, length, Option, Some, None, Ok, Err, refl, sym, ap, ◌∙◌, subst, arith, append_assoc, length-append}
 use Rattle.std.specs.Prelude.{IfSome, IsSomeAnd, All}
 use Rattle.std.specs.List.{concat}
 use Rattle.std.specs.Io.KnownBytes.{Appends, prepend_known}
@@ -23,12 +23,13 @@ use Rattle.hips_http.specs.Replies.{Answer, output_of, refusal_bytes}
 use Rattle.hips_http.specs.Answers.{Asking, Point, Asked, asked_put, asked_delete, asked_batch, Changes, Answers}
 use Rattle.hips_http.specs.Moment.{Input, Output, Moment, moment, unread_of, NeverFalls}
 use Rattle.hips_http.specs.SessionRun.{Exchange, AreRequests, AreAnswered, IsOutput, closes, room_of, most_requests, first_point, GoOn, EndsWith, BreaksOff, BreaksInRefusal, BreaksInLeave, told_bytes, Ends, HandsAllOn, KeepsStates, Flushes, FlushesAll, Goes}
-use Rattle.hips_http.specs.Progress.{IsAt, Serving, IsServedOne, BreaksOne, StopsOne, EndsOne, IsBegunAt, LeavesPart, Progress, Going, HasFlushed, wants_after, ServesOne, IsServedTo, ServesAll}
+use Rattle.hips_http.specs.Progress.{IsAt, Serving, IsServedOne, BreaksOne, StopsOne, EndsOne, IsBegunAt, LeavesPart, Progress, Going, HasFlushed, wants_after, ServesOne, ServesAll}
 use Rattle.hips_http.proofs.Runs.{answered_more, answered_push, requests_push}
 use Rattle.hips_http.proofs.Truncated.{requests_front}
 use Rattle.hips_http.proofs.Steps.{appends_trans, split_of, rises_from}
 use Rattle.hips_http.proofs.Flushed.{HandsMore, hands_all, hands_all_on, has_handed_all, hands_before}
 use Rattle.hips_http.proofs.Whole.{appends_nothing, begins_same}
+use Rattle.hips_http.proofs.InOrder.{FlushesReplies, ServedAfter}
 
 -- ---- one request more
 
@@ -224,43 +225,66 @@ told_as first input output read rest out passed = record {
 }
 
 -- the requests were answered by `now`, and these are the ends then
-module _ (count : ℕ) (first now : Moment) (input : Input) (output : Output) (p : Progress count first now) (bytes read rest : List ℕ) (bytes_are : bytes ≡ read ++ rest) (left_is : input.left ≡ Some rest) where
+module _ (count : ℕ) (first now : Moment) (input : Input) (output : Output) (p : Progress count first now) (bytes read rest : List ℕ) (bytes_are : bytes ≡ read ++ rest) (left_is : input.left ≡ Some rest) (flushed : ℕ) where
   served_by : (ended : SessionEnd) (out passed : List ℕ) → Appends first.output.held output.held out → Flushes first.output.held first.output.flushed output.flushed passed
       → KeepsStates ended first.board.history now.board.history → (r : List ℕ) → AreRequests (room_of now.board.conf) (told_bytes ended (told_as first input output read rest out passed)) p.requests r
       → Ends ended (room_of now.board.conf) p.requests r p.outputs (told_as first input output read rest out passed) → HandsAllOn ended (told_as first input output read rest out passed)
-      → IsServedTo first (moment input output now.board now.steps now.wants) ended bytes
-  served_by ended out passed appended on keeps r are ends all_on = record {
-    read = read;
-    rest = rest;
-    out = out;
-    own = p.last.own;
-    input_is = bytes_are;
-    left_is = left_is;
-    appended = appended;
-    passed = passed;
-    passed_is = on;
-    own_is = p.at.own_is;
-    run = record {
-      history = p.legal;
-      begins = p.begins;
-      kept = keeps;
-      requests = p.requests;
-      rest = r;
-      are_requests = are;
-      last = p.last;
-      outputs = p.outputs;
-      answered = p.answered;
-      own_is = refl;
-      wants_is = p.at.wants_is;
-      ended = ends;
-      flushed = all_on;
+      → FlushesReplies flushed p.outputs passed → ServedAfter flushed first (moment input output now.board now.steps now.wants) ended bytes
+  served_by ended out passed appended on keeps r are ends all_on replies = record {
+    served = record {
+      read = read;
+      rest = rest;
+      out = out;
+      own = p.last.own;
+      input_is = bytes_are;
+      left_is = left_is;
+      appended = appended;
+      passed = passed;
+      passed_is = on;
+      own_is = p.at.own_is;
+      run = record {
+        history = p.legal;
+        begins = p.begins;
+        kept = keeps;
+        requests = p.requests;
+        rest = r;
+        are_requests = are;
+        last = p.last;
+        outputs = p.outputs;
+        answered = p.answered;
+        own_is = refl;
+        wants_is = p.at.wants_is;
+        ended = ends;
+        flushed = all_on;
+      };
+      steps_are = p.at.steps_are;
     };
-    steps_are = p.at.steps_are;
+    replies = replies;
   }
 
   -- all that is told of the whole input
   whole_input : (r : List ℕ) → AreRequests (room_of now.board.conf) bytes p.requests r → AreRequests (room_of now.board.conf) (read ++ rest) p.requests r
   whole_input r are = subst (λ (all : List ℕ). AreRequests (room_of now.board.conf) all p.requests r) bytes_are are
+
+-- each request has its reply
+outputs_length : (conf : Description) (opening : LeafTiles) (states : List SurveyState) (count : ℕ) (before : Point) (requests : List Asking) (after : Point) (outputs : List (List ℕ))
+    → AreAnswered conf opening states count before requests after outputs → length outputs ≡ length requests
+outputs_length conf opening states count before [] after outputs is = ap length is.1
+outputs_length conf opening states count before (request ∷ requests) after [] is = absurd is
+outputs_length conf opening states count before (request ∷ requests) after (output ∷ outputs) is =
+    ap suc (outputs_length conf opening states (count + 1) is.0 requests after outputs is.2)
+
+-- all that was answered so far was flushed, and this more
+flushes_all : (count : ℕ) (first now : Moment) (p : Progress count first now) (outputs later : List (List ℕ)) (passed more : List ℕ) → outputs ≡ p.outputs ++ later → passed ≡ concat p.outputs ++ more
+    → FlushesReplies count outputs passed
+flushes_all count first now p outputs later passed more outputs_are passed_is = record {
+  replies = p.outputs;
+  count_is = outputs_length now.board.conf now.board.opening now.board.history 0 (first_point first.board.history) p.requests p.last p.outputs p.answered ∙ p.count_is;
+  later = later;
+  outputs_are = outputs_are;
+  more = more;
+  flushed_is = passed_is;
+}
 
 begun_ends : (room : ℕ) (r : List ℕ) (outputs : List (List ℕ)) (begun out passed : List ℕ) → IsBegunAt room r begun → BreaksOff outputs begun out passed
     → BreaksInRefusal room r outputs out passed ⊎ BreaksInLeave room r outputs out passed
@@ -274,44 +298,47 @@ module _ (count : ℕ) (first now : Moment) (input : Input) (output : Output) (p
   goes : GoOn p.requests
   goes = record { none_closes = open_all; few = (let c = p.count_is in omega (arith, c)) }
 
+  flushed_by : {passed : List ℕ} (more : List ℕ) → passed ≡ concat p.outputs ++ more → FlushesReplies count p.outputs passed
+  flushed_by {passed} more is = flushes_all count first now p p.outputs [] passed more (sym (append-nil p.outputs)) is
+
   unanswered_at : (ended : SessionEnd) (r : List ℕ) → AreRequests (room_of now.board.conf) bytes p.requests r → EndsOne ended (room_of now.board.conf) r input.left now.output.held output.held → LeavesPart r input.left
       → (ended ≡ end.ReadFault → Rises first.input.faults input.faults) → (ended ≡ end.WriteFault → Rises first.output.faults output.faults)
       → (¬ (ended ≡ end.WriteFault) → FlushesAll now.output.held output.held now.output.flushed output.flushed) → (ended ≡ end.WriteFault → HandsMore now.output.held now.output.flushed output.flushed)
-      → IsServedTo first (moment input output now.board now.steps now.wants) ended bytes
+      → ServedAfter count first (moment input output now.board now.steps now.wants) ended bytes
   unanswered_at end.Closed r are ends part reads writes all more =
       let f = front_part (room_of now.board.conf) bytes p.requests r are input.left part in
-      served_by count first now input output p bytes f.gone f.rest f.all_is f.left_is end.Closed (concat p.outputs) (concat p.outputs) (appends_end first.output.held now.output.held output.held (concat p.outputs) written ends.1)
+      served_by count first now input output p bytes f.gone f.rest f.all_is f.left_is count end.Closed (concat p.outputs) (concat p.outputs) (appends_end first.output.held now.output.held output.held (concat p.outputs) written ends.1)
       (hands_all first.output.held output.held first.output.flushed output.flushed (concat p.outputs) (appends_end first.output.held now.output.held output.held (concat p.outputs) written ends.1) (hands_all_on p.outputs first.output.held now.output.held output.held first.output.flushed now.output.flushed output.flushed before (all (λ is. cc)))) tt r
-      (whole_input count first now input output p bytes f.gone f.rest f.all_is f.left_is r are) (goes, ends.0, refl) refl
+      (whole_input count first now input output p bytes f.gone f.rest f.all_is f.left_is count r are) (goes, ends.0, refl) refl (flushed_by [] (sym (append-nil (concat p.outputs))))
   unanswered_at (end.Refused code) r are ends part reads writes all more =
       let f = front_part (room_of now.board.conf) bytes p.requests r are input.left part in
-      served_by count first now input output p bytes f.gone f.rest f.all_is f.left_is (end.Refused code) (concat p.outputs ++ refusal_bytes code) (concat p.outputs ++ refusal_bytes code)
+      served_by count first now input output p bytes f.gone f.rest f.all_is f.left_is count (end.Refused code) (concat p.outputs ++ refusal_bytes code) (concat p.outputs ++ refusal_bytes code)
       (appends_trans first.output.held now.output.held output.held (concat p.outputs) (refusal_bytes code) written ends.1)
       (hands_all first.output.held output.held first.output.flushed output.flushed (concat p.outputs ++ refusal_bytes code) (appends_trans first.output.held now.output.held output.held (concat p.outputs) (refusal_bytes code) written ends.1) (hands_all_on p.outputs first.output.held now.output.held output.held first.output.flushed now.output.flushed output.flushed before (all (λ is. cc)))) tt r
-      (whole_input count first now input output p bytes f.gone f.rest f.all_is f.left_is r are) (goes, ends.0, refl) refl
+      (whole_input count first now input output p bytes f.gone f.rest f.all_is f.left_is count r are) (goes, ends.0, refl) refl (flushed_by (refusal_bytes code) refl)
   unanswered_at end.Cut r are ends part reads writes all more =
       let f = front_part (room_of now.board.conf) bytes p.requests r are input.left part in
-      served_by count first now input output p bytes f.gone f.rest f.all_is f.left_is end.Cut (concat p.outputs ++ ends.0) (concat p.outputs ++ ends.0)
+      served_by count first now input output p bytes f.gone f.rest f.all_is f.left_is count end.Cut (concat p.outputs ++ ends.0) (concat p.outputs ++ ends.0)
       (appends_trans first.output.held now.output.held output.held (concat p.outputs) ends.0 written ends.2)
       (hands_all first.output.held output.held first.output.flushed output.flushed (concat p.outputs ++ ends.0) (appends_trans first.output.held now.output.held output.held (concat p.outputs) ends.0 written ends.2) (hands_all_on p.outputs first.output.held now.output.held output.held first.output.flushed now.output.flushed output.flushed before (all (λ is. cc)))) tt r
-      (whole_input count first now input output p bytes f.gone f.rest f.all_is f.left_is r are) (goes, (ends.0, ends.1, refl)) refl
+      (whole_input count first now input output p bytes f.gone f.rest f.all_is f.left_is count r are) (goes, (ends.0, ends.1, refl)) refl (flushed_by ends.0 refl)
   unanswered_at end.ReadFault r are ends part reads writes all more =
       let t = there_of _ input.left ends in
       let h = t.holds in
       let f = requests_front (room_of now.board.conf) bytes p.requests h.read t.bytes (subst (λ (b : List ℕ). AreRequests (room_of now.board.conf) bytes p.requests b) h.all_is are) in
-      served_by count first now input output p bytes f.front t.bytes f.all_is t.is end.ReadFault (concat p.outputs ++ h.extra) (concat p.outputs ++ h.extra)
+      served_by count first now input output p bytes f.front t.bytes f.all_is t.is count end.ReadFault (concat p.outputs ++ h.extra) (concat p.outputs ++ h.extra)
       (appends_trans first.output.held now.output.held output.held (concat p.outputs) h.extra written h.appended)
-      (hands_all first.output.held output.held first.output.flushed output.flushed (concat p.outputs ++ h.extra) (appends_trans first.output.held now.output.held output.held (concat p.outputs) h.extra written h.appended) (hands_all_on p.outputs first.output.held now.output.held output.held first.output.flushed now.output.flushed output.flushed before (all (λ is. cc)))) tt h.read f.holds (goes, reads refl, (h.extra, h.ends, refl)) refl
+      (hands_all first.output.held output.held first.output.flushed output.flushed (concat p.outputs ++ h.extra) (appends_trans first.output.held now.output.held output.held (concat p.outputs) h.extra written h.appended) (hands_all_on p.outputs first.output.held now.output.held output.held first.output.flushed now.output.flushed output.flushed before (all (λ is. cc)))) tt h.read f.holds (goes, reads refl, (h.extra, h.ends, refl)) refl (flushed_by h.extra refl)
   unanswered_at end.WriteFault r are ends part reads writes all more =
       let f = front_part (room_of now.board.conf) bytes p.requests r are input.left part in
       let k = ends.2 in
       let out = concat p.outputs ++ k.part in
       let on = hands_before p.outputs first.output.held now.output.held first.output.flushed now.output.flushed output.flushed written before (more refl) in
       let broken : BreaksOff p.outputs ends.0 out on.passed = record { part = k.part; left = k.left; begun_is = k.begun_is; out_is = refl; more = on.more; handed_is = on.passed_is } in
-      served_by count first now input output p bytes f.gone f.rest f.all_is f.left_is end.WriteFault out on.passed
+      served_by count first now input output p bytes f.gone f.rest f.all_is f.left_is count end.WriteFault out on.passed
       (appends_trans first.output.held now.output.held output.held (concat p.outputs) k.part written k.appended) on.on tt r
-      (whole_input count first now input output p bytes f.gone f.rest f.all_is f.left_is r are)
-      (writes refl, inr (goes, begun_ends (room_of now.board.conf) r p.outputs ends.0 out on.passed ends.1 broken)) tt
+      (whole_input count first now input output p bytes f.gone f.rest f.all_is f.left_is count r are)
+      (writes refl, inr (goes, begun_ends (room_of now.board.conf) r p.outputs ends.0 out on.passed ends.1 broken)) tt (flushed_by on.more on.passed_is)
   unanswered_at end.Asked r are ends part reads writes all more = absurd ends
   unanswered_at end.Spent r are ends part reads writes all more = absurd ends
   unanswered_at end.OutOfMemory r are ends part reads writes all more = absurd ends
@@ -331,9 +358,9 @@ goes_of count first now few p = record {
 }
 
 -- how a connection ended
-record Ended (first last : Moment) (ended : SessionEnd) : Type 0 where
+record Ended (count : ℕ) (first last : Moment) (ended : SessionEnd) : Type 0 where
   pub goes : Goes first.board last.board
-  pub served : IfSome first.input.left (IsServedTo first last ended)
+  pub served : IfSome first.input.left (ServedAfter count first last ended)
 
 module _ (count : ℕ) (first now new : Moment) (few : count < most_requests) (g : Going count first now) where
   -- the first of the bytes that the source had were taken
@@ -348,22 +375,22 @@ module _ (count : ℕ) (first now new : Moment) (few : count < most_requests) (g
 
   -- in the reply to a request that was answered
   broken_served : BreaksOne count now new → IfSome (unread_of now.input) (λ all. LeavesPart all new.input.left) → Rises first.output.faults new.output.faults
-      → HandsMore now.output.held now.output.flushed new.output.flushed → Ended first new end.WriteFault
+      → HandsMore now.output.held now.output.flushed new.output.flushed → Ended count first new end.WriteFault
   broken_served s part rises more =
       let p = g.progress in
       let pushed = push count first now new p s.request s.answer s.serving s.wants_is in
       let next = pushed.next in
       record {
         goes = goes_of (count + 1) first new (omega arith) next;
-        served = known (IsServedTo first new end.WriteFault) first.input.left (λ bytes is.
+        served = known (ServedAfter count first new end.WriteFault) first.input.left (λ bytes is.
             let after = taken_at (count + 1) first new next bytes is in
             let f = front_at part bytes is in
             let k = s.broken in
             let out = concat p.outputs ++ k.part in
             let on = hands_before p.outputs first.output.held now.output.held first.output.flushed now.output.flushed new.output.flushed g.written_is g.handed_is more in
-            served_by (count + 1) first new new.input new.output next bytes f.gone f.rest f.all_is f.left_is end.WriteFault out on.passed
+            served_by (count + 1) first new new.input new.output next bytes f.gone f.rest f.all_is f.left_is count end.WriteFault out on.passed
             (appends_trans first.output.held now.output.held new.output.held (concat p.outputs) k.part g.written_is k.appended) on.on tt after.bytes
-            (whole_input (count + 1) first new new.input new.output next bytes f.gone f.rest f.all_is f.left_is after.bytes after.holds) (
+            (whole_input (count + 1) first new new.input new.output next bytes f.gone f.rest f.all_is f.left_is count after.bytes after.holds) (
               rises,
               inl (record {
                 last = s.request;
@@ -373,11 +400,11 @@ module _ (count : ℕ) (first now new : Moment) (few : count < most_requests) (g
                 outputs_are = pushed.outputs_are;
                 broken = record { part = k.part; left = k.left; begun_is = k.begun_is; out_is = refl; more = on.more; handed_is = on.passed_is };
               }),
-            ) tt);
+            ) tt (flushes_all count first now p next.outputs (output_of (closes count s.request) s.request.asked s.answer ∷ []) on.passed on.more pushed.outputs_are on.passed_is));
       }
 
   -- a request that asked to close was answered
-  asked_served : IsServedOne count now new true → IfSome (unread_of now.input) (λ all. LeavesPart all new.input.left) → new.output.flushed ≡ new.output.held → Ended first new end.Asked
+  asked_served : IsServedOne count now new true → IfSome (unread_of now.input) (λ all. LeavesPart all new.input.left) → new.output.flushed ≡ new.output.held → Ended count first new end.Asked
   asked_served s part on =
       let p = g.progress in
       let pushed = push count first now new p s.request s.answer s.serving s.wants_is in
@@ -387,53 +414,54 @@ module _ (count : ℕ) (first now new : Moment) (few : count < most_requests) (g
       = rw pushed.outputs_are (rw (concat-push p.outputs output) (appends_trans first.output.held now.output.held new.output.held (concat p.outputs) output g.written_is s.sent)) in
       record {
         goes = goes_of (count + 1) first new (omega arith) next;
-        served = known (IsServedTo first new end.Asked) first.input.left (λ bytes is.
+        served = known (ServedAfter count first new end.Asked) first.input.left (λ bytes is.
             let after = taken_at (count + 1) first new next bytes is in
             let f = front_at part bytes is in
-            served_by (count + 1) first new new.input new.output next bytes f.gone f.rest f.all_is f.left_is end.Asked (concat next.outputs) (concat next.outputs) written
+            served_by (count + 1) first new new.input new.output next bytes f.gone f.rest f.all_is f.left_is count end.Asked (concat next.outputs) (concat next.outputs) written
             (hands_all first.output.held new.output.held first.output.flushed new.output.flushed (concat next.outputs) written (inl on)) tt after.bytes
-            (whole_input (count + 1) first new new.input new.output next bytes f.gone f.rest f.all_is f.left_is after.bytes after.holds)
-            ((s.request, ends_with next.requests s.request pushed.requests_are, sym s.closed_is), refl) refl);
+            (whole_input (count + 1) first new new.input new.output next bytes f.gone f.rest f.all_is f.left_is count after.bytes after.holds)
+            ((s.request, ends_with next.requests s.request pushed.requests_are, sym s.closed_is), refl) refl
+            (flushes_all count first now p next.outputs (output ∷ []) (concat next.outputs) output pushed.outputs_are (ap concat pushed.outputs_are ∙ concat-push p.outputs output)));
       }
 
   -- no request was answered in its place, or its reply wasn't written
   stopped_served : (ended : SessionEnd) → StopsOne count now new ended → IfSome (unread_of now.input) (λ all. LeavesPart all new.input.left)
       → (ended ≡ end.ReadFault → Rises first.input.faults new.input.faults) → (ended ≡ end.WriteFault → Rises first.output.faults new.output.faults)
       → (¬ (ended ≡ end.WriteFault) → FlushesAll now.output.held new.output.held now.output.flushed new.output.flushed) → (ended ≡ end.WriteFault → HandsMore now.output.held now.output.flushed new.output.flushed)
-      → Ended first new ended
+      → Ended count first new ended
   stopped_served ended s part reads writes all more = elim s.how [
-    | inl broke ↦ subst (λ (e : SessionEnd). Ended first new e) (sym broke.0) (broken_served broke.1 part (writes broke.0) (more broke.0))
+    | inl broke ↦ subst (λ (e : SessionEnd). Ended count first new e) (sym broke.0) (broken_served broke.1 part (writes broke.0) (more broke.0))
     | inr none ↦
         let p = g.progress in
-        let told : IfSome first.input.left (IsServedTo first (moment new.input new.output now.board now.steps now.wants) ended)
-        = known (IsServedTo first (moment new.input new.output now.board now.steps now.wants) ended) first.input.left (λ bytes is.
+        let told : IfSome first.input.left (ServedAfter count first (moment new.input new.output now.board now.steps now.wants) ended)
+        = known (ServedAfter count first (moment new.input new.output now.board now.steps now.wants) ended) first.input.left (λ bytes is.
         let before = taken_at count first now p bytes is in
         unanswered_at count first now new.input new.output p bytes g.none_closes g.written_is g.handed_is few ended before.bytes before.holds
         (told_at (λ unread. EndsOne ended (room_of now.board.conf) unread new.input.left now.output.held new.output.held) (unread_of now.input) before.bytes before.is none.1)
         (told_at (λ unread. LeavesPart unread new.input.left) (unread_of now.input) before.bytes before.is part) reads writes all more) in
         record {
           goes = subst (λ (board : BoardContent). Goes first.board board) (sym none.0.board) (goes_of count first now (omega arith) p);
-          served = subst (λ (board : BoardContent). IfSome first.input.left (IsServedTo first (moment new.input new.output board new.steps new.wants) ended)) (sym none.0.board)
-              (subst (λ (steps : ℕ). IfSome first.input.left (IsServedTo first (moment new.input new.output now.board steps new.wants) ended)) (sym none.0.steps_are)
-              (subst (λ (wants : ℕ). IfSome first.input.left (IsServedTo first (moment new.input new.output now.board now.steps wants) ended)) (sym none.0.wants_are) told));
+          served = subst (λ (board : BoardContent). IfSome first.input.left (ServedAfter count first (moment new.input new.output board new.steps new.wants) ended)) (sym none.0.board)
+              (subst (λ (steps : ℕ). IfSome first.input.left (ServedAfter count first (moment new.input new.output now.board steps new.wants) ended)) (sym none.0.steps_are)
+              (subst (λ (wants : ℕ). IfSome first.input.left (ServedAfter count first (moment new.input new.output now.board now.steps wants) ended)) (sym none.0.wants_are) told));
         }
   ]
 
 -- as many requests were answered as may be
-spent_served : (count : ℕ) (first now : Moment) → count ≡ most_requests → Going count first now → Ended first now end.Spent
+spent_served : (count : ℕ) (first now : Moment) → count ≡ most_requests → Going count first now → Ended count first now end.Spent
 spent_served count first now all g =
     let p = g.progress in
     record {
       goes = goes_of count first now (omega (arith, all)) p;
-      served = known (IsServedTo first now end.Spent) first.input.left (λ bytes is.
+      served = known (ServedAfter count first now end.Spent) first.input.left (λ bytes is.
           let before = taken_at count first now p bytes is in
           let s = split_of before.bytes now.input.frame.held now.input.left before.is in
           let f = front_part (room_of now.board.conf) bytes p.requests before.bytes before.holds now.input.left (record { gone = now.input.frame.held; rest = s.rest; left_is = s.left_is; all_is = s.all_is }) in
-          served_by count first now now.input now.output p bytes f.gone f.rest f.all_is f.left_is end.Spent (concat p.outputs) (concat p.outputs) g.written_is
+          served_by count first now now.input now.output p bytes f.gone f.rest f.all_is f.left_is count end.Spent (concat p.outputs) (concat p.outputs) g.written_is
           (hands_all first.output.held now.output.held first.output.flushed now.output.flushed (concat p.outputs) g.written_is
           (has_handed_all p.outputs first.output.held now.output.held first.output.flushed now.output.flushed g.handed_is)) tt before.bytes
-          (whole_input count first now now.input now.output p bytes f.gone f.rest f.all_is f.left_is before.bytes before.holds)
-          (p.count_is ∙ all, g.none_closes, refl) refl);
+          (whole_input count first now now.input now.output p bytes f.gone f.rest f.all_is f.left_is count before.bytes before.holds)
+          (p.count_is ∙ all, g.none_closes, refl) refl (flushes_all count first now p p.outputs [] (concat p.outputs) [] (sym (append-nil p.outputs)) (sym (append-nil (concat p.outputs)))));
     }
 
 -- ---- the loop over the requests
@@ -467,6 +495,11 @@ begins_loop top first none legal owned none_wanted empty turn room_is top_is = r
   steps_rise = omega arith;
 }
 
+-- what came of all requests, and of the replies to so many
+pub record Finishes (count : ℕ) (first last : Moment) (ended : SessionEnd) : Type 0 where
+  pub serves : ServesAll first last ended
+  pub served : IfSome first.input.left (ServedAfter count first last ended)
+
 module _ (count top : ℕ) (first now new : Moment) (l : IsLoop count top first now) (never_falls : NeverFalls now new) where
   pub loop_goes_on : IsServedOne count now new false → new.output.flushed ≡ new.output.held → new.input.frame.turn ≡ AtHead → IsLoop (count + 1) top first new
   loop_goes_on s on turn =
@@ -484,30 +517,32 @@ module _ (count top : ℕ) (first now new : Moment) (l : IsLoop count top first 
       }
 
   -- what came of all, where it ended here
-  all_of : (ended : SessionEnd) → count < most_requests → Ended first new ended → (ended ≡ end.ReadFault → Rises now.input.faults new.input.faults)
+  all_of : (ended : SessionEnd) → count < most_requests → Ended count first new ended → (ended ≡ end.ReadFault → Rises now.input.faults new.input.faults)
       → (ended ≡ end.WriteFault → Rises now.output.faults new.output.faults) → (ended ≡ end.OutOfMemory → ⊥)
-      → (¬ (ended ≡ end.WriteFault) → FlushesAll first.output.held new.output.held first.output.flushed new.output.flushed) → ServesAll first new ended
+      → (¬ (ended ≡ end.WriteFault) → FlushesAll first.output.held new.output.held first.output.flushed new.output.flushed) → Finishes count first new ended
   all_of ended few e reads writes memory on = record {
-    goes = e.goes;
-    wants = omega (arith, few, l.few_wants, never_falls.wants);
-    read_fault = λ is. rises_from _ _ _ l.source (reads is);
-    write_fault = λ is. rises_from _ _ _ l.sink (writes is);
-    memory = memory;
-    flushed = on;
-    source_never_falls = omega (arith, l.source, never_falls.source);
-    sink_never_falls = omega (arith, l.sink, never_falls.sink);
-    steps_never_fall = omega (arith, l.steps_rise, never_falls.steps);
-    room = never_falls.room ∙ l.same_room;
+    serves = record {
+      goes = e.goes;
+      wants = omega (arith, few, l.few_wants, never_falls.wants);
+      read_fault = λ is. rises_from _ _ _ l.source (reads is);
+      write_fault = λ is. rises_from _ _ _ l.sink (writes is);
+      memory = memory;
+      flushed = on;
+      source_never_falls = omega (arith, l.source, never_falls.source);
+      sink_never_falls = omega (arith, l.sink, never_falls.sink);
+      steps_never_fall = omega (arith, l.steps_rise, never_falls.steps);
+      room = never_falls.room ∙ l.same_room;
+    };
     served = e.served;
   }
 
   -- the request asked to close
-  pub asked_all : count < most_requests → ServesOne count now new (Ok true) → ServesAll first new end.Asked
+  pub asked_all : count < most_requests → ServesOne count now new (Ok true) → Finishes count first new end.Asked
   asked_all few s =
       all_of end.Asked few (asked_served count first now new few l.going s.ok s.left s.hands.flushed) (λ h. absurd (cc)) (λ h. absurd (cc)) (λ h. cc) (λ _. inl s.hands.flushed)
 
   -- the connection ended
-  pub stopped_all : (ended : SessionEnd) → count < most_requests → ServesOne count now new (Err ended) → ServesAll first new ended
+  pub stopped_all : (ended : SessionEnd) → count < most_requests → ServesOne count now new (Err ended) → Finishes count first new ended
   stopped_all ended few s =
       let reads : ended ≡ end.ReadFault → Rises now.input.faults new.input.faults = λ is. s.faults.read_fault (ap (λ (e : SessionEnd). Err e) is) in
       let writes : ended ≡ end.WriteFault → Rises now.output.faults new.output.faults = λ is. s.faults.write_fault (ap (λ (e : SessionEnd). Err e) is) in
@@ -519,19 +554,21 @@ module _ (count top : ℕ) (first now new : Moment) (l : IsLoop count top first 
       (λ going. hands_all_on l.going.progress.outputs first.output.held now.output.held new.output.held first.output.flushed now.output.flushed new.output.flushed l.going.handed_is (s.hands.flushes going))
 
 -- as many requests were answered as may be
-pub spent_all : (count top : ℕ) (first now : Moment) → IsLoop count top first now → count ≡ most_requests → ServesAll first now end.Spent
+pub spent_all : (count top : ℕ) (first now : Moment) → IsLoop count top first now → count ≡ most_requests → Finishes count first now end.Spent
 spent_all count top first now l all =
     let e = spent_served count first now all l.going in
     record {
-      goes = e.goes;
-      wants = omega (arith, all, l.few_wants);
-      read_fault = λ h. absurd (cc);
-      write_fault = λ h. absurd (cc);
-      memory = λ h. cc;
-      flushed = λ _. has_handed_all l.going.progress.outputs first.output.held now.output.held first.output.flushed now.output.flushed l.going.handed_is;
-      source_never_falls = l.source;
-      sink_never_falls = l.sink;
-      steps_never_fall = l.steps_rise;
-      room = l.same_room;
+      serves = record {
+        goes = e.goes;
+        wants = omega (arith, all, l.few_wants);
+        read_fault = λ h. absurd (cc);
+        write_fault = λ h. absurd (cc);
+        memory = λ h. cc;
+        flushed = λ _. has_handed_all l.going.progress.outputs first.output.held now.output.held first.output.flushed now.output.flushed l.going.handed_is;
+        source_never_falls = l.source;
+        sink_never_falls = l.sink;
+        steps_never_fall = l.steps_rise;
+        room = l.same_room;
+      };
       served = e.served;
     }

@@ -214,6 +214,18 @@ part_by_kept room (Some all) (Some after) asked path held left head kept = some_
 pub head_part : (top : ℕ) (old new : Input) (asked : Request) (wanted : Call) → ReadsCall top old new asked wanted → IfSome (unread_of old) (λ all. LeavesPart all new.left)
 head_part top old new asked wanted read = part_by_head old.frame.room (unread_of old) (unread_of new) asked new.frame.path new.frame.held new.left refl read.head.next
 
+pub rises_from : (first old new : ℕ) → first ≤ old → Rises old new → Rises first new
+rises_from first old new h r = omega arith
+
+pub halts_by_read : (asked : Request) (old new : Moment) (ended : SessionEnd) → Halts asked old new ended → ended ≡ end.ReadFault → Rises old.input.faults new.input.faults
+halts_by_read asked old new ended h is = by_stop h.stop (sym is ∙ h.end_is) h.leaves.why
+  where
+    by_stop : (stop : Stop) → end.ReadFault ≡ body_end stop → StopsBody asked.length old.input.frame new.input.frame old.input.left old.input.faults new.input.faults stop → Rises old.input.faults new.input.faults
+    by_stop End is why = absurd (cc)
+    by_stop Cut is why = absurd (cc)
+    by_stop ReadFault is why = why.0
+    by_stop (Refuse code) is why = absurd (cc)
+
 -- ---- the parts together: `old` is the moment before, `input` and `output` are those after the head and the leave, and `new` is
 -- the moment after the reply
 
@@ -306,24 +318,12 @@ stops_by_read fo fm l0 faults faults' End is why = absurd (cc)
 stops_by_read fo fm l0 faults faults' Cut is why = absurd (cc)
 stops_by_read fo fm l0 faults faults' (Refuse code) is why = absurd (cc)
 
-pub rises_from : (first old new : ℕ) → first ≤ old → Rises old new → Rises first new
-rises_from first old new h r = omega arith
-
 -- no body ends a connection by a failed writing
 pub body_reads : (stop : Stop) → body_end stop ≡ end.WriteFault → ⊥
 body_reads End is = cc
 body_reads Cut is = cc
 body_reads ReadFault is = cc
 body_reads (Refuse code) is = cc
-
-pub halts_by_read : (asked : Request) (old new : Moment) (ended : SessionEnd) → Halts asked old new ended → ended ≡ end.ReadFault → Rises old.input.faults new.input.faults
-halts_by_read asked old new ended h is = by_stop h.stop (sym is ∙ h.end_is) h.leaves.why
-  where
-    by_stop : (stop : Stop) → end.ReadFault ≡ body_end stop → StopsBody asked.length old.input.frame new.input.frame old.input.left old.input.faults new.input.faults stop → Rises old.input.faults new.input.faults
-    by_stop End is why = absurd (cc)
-    by_stop Cut is why = absurd (cc)
-    by_stop ReadFault is why = why.0
-    by_stop (Refuse code) is why = absurd (cc)
 
 -- ---- the ends
 

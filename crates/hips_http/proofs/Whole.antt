@@ -8,7 +8,6 @@ use Rattle.survey_core.specs.History.{IsHistory, Begins}
 use Rattle.reader_pin.specs.Board.{BoardContent, IsOwned, holding_none}
 use Rattle.reader_pin.specs.SeatLaws.{keeps_holding_none}
 use Rattle.hips_http.specs.declared.served.SessionEnd.TheVariants.{OutOfMemory}
-use Rattle.hips_http.specs.declared.served.Served.{Served}
 use Rattle.hips_http.specs.SessionRun.{IsServed, Goes, first_point}
 
 -- nothing was written
@@ -72,23 +71,3 @@ pub goes_from : (old released new : BoardContent) → released ≡ holding_none 
 goes_from old released new is h =
     let g : Goes (holding_none old) new = subst (λ (b : BoardContent). Goes b new) is h in
     record { conf = g.conf; opening = g.opening; legal = g.legal; begins = g.begins; seat = record { seat = g.seat.seat; owners = g.seat.owners; owned = g.seat.owned }; own = g.own; own_is = g.own_is; few = g.few }
-
-pub served_from : (old released new : BoardContent) (unread : Option (List ℕ)) (taken back : Connection) (steps steps' : ℕ) (served : Served) → released ≡ holding_none old
-    → IfSome unread (λ input. IsServed released new input taken back steps steps' served) → IfSome unread (λ input. IsServed old new input taken back steps steps' served)
-served_from old released new None taken back steps steps' served is h = tt
-served_from old released new (Some input) taken back steps steps' served is h =
-    let s : IsServed (holding_none old) new input taken back steps steps' served = subst (λ (b : BoardContent). IsServed b new input taken back steps steps' served) is h in
-    record {
-      read = s.read;
-      rest = s.rest;
-      out = s.out;
-      own = s.own;
-      input_is = s.input_is;
-      left_is = s.left_is;
-      appended = s.appended;
-      passed = s.passed;
-      passed_is = s.passed_is;
-      own_is = s.own_is;
-      run = s.run;
-      steps_are = s.steps_are;
-    }

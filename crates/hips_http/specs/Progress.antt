@@ -1,10 +1,9 @@
 -- What one call of the server does to a board, a source and a sink, from the bytes that were unread to those that are unread
 -- then: the parts of which a connection's run is made.
-use Rattle.std.specs.Prelude.{◌≡◌, ◌≢◌, ◌⊎◌, ℕ, ◌+◌, ◌<◌, ◌≤◌, ◌==◌, Bool, true, false, List, [], ◌++◌, length, slice_get, All, Option, Some, None, Result, Err, OnOk, OnErr, IfOk, IfErr, IfSome, IsSomeAnd, if◌then◌else◌}
+use Rattle.std.specs.Prelude.{◌≡◌, ◌≢◌, ◌⊎◌, ℕ, ◌+◌, ◌<◌, ◌≤◌, ◌==◌, Bool, true, false, List, [], ◌++◌, length, slice_get, All, Option, Some, None, Result, Err, OnOk, OnErr, IfOk, IfErr, IfSome, IsSome, IsSomeAnd, if◌then◌else◌}
 use Rattle.std.specs.List.{concat}
 use Rattle.std.specs.Io.KnownBytes.{Appends}
 use Rattle.healpix_nested.specs.Cells.{cell_count}
-use Rattle.tile_path.specs.declared.path.Path.{Path}
 use Rattle.survey_link.specs.Link.{AppendsPrefix, Rises}
 use Rattle.survey_link.specs.declared.faults.Failed.{Failed}
 use Rattle.http_frame.specs.declared.request.Request.{Request}
@@ -15,7 +14,7 @@ use Rattle.http_frame.specs.declared.stop.Turn.TheVariants.{AtHead}
 use Rattle.http_frame.specs.Frame.{ReadsHead, StopsBody, KeepsUnread}
 use Rattle.http_frame.specs.Reply.{is_reply_code, reply_bytes, continue_bytes}
 use Rattle.survey_core.specs.History.{SurveyState, IsHistory, Begins}
-use Rattle.reader_pin.specs.Board.{BoardContent, KeepsSeat}
+use Rattle.reader_pin.specs.Board.{BoardContent, KeepsSeat, Stays}
 use Rattle.hips_http.specs.declared.call.PathKind.{PathKind}
 use Rattle.hips_http.specs.declared.call.Call.{Call}
 use Rattle.hips_http.specs.declared.call.Call.TheVariants as call
@@ -67,6 +66,10 @@ pub record Serves (request : Asking) (call : Call) (old new : BoardContent) (ste
 
 -- ---- a file
 
+-- the bytes of a reply
+abbrev pub reply_of : Bool → Request → Answer → List ℕ
+reply_of close asked answer = reply_bytes (head_of close answer) (sent_body asked.method answer.body)
+
 -- these bytes were written; or a writing failed, and some first ones of them were
 pub record Sends (old new : Output) (bytes : List ℕ) (result : Result (Unit {0}) Failed) : Type 0 where
   pub whole : OnOk result (Appends old.held new.held bytes)
@@ -79,12 +82,9 @@ pub record HandsReply (old new : Output) (result : Result (Unit {0}) Failed) : T
   pub failed : OnErr result (Rises old.faults new.faults)
   pub never_falls : old.faults ≤ new.faults
 
--- a file, or that there is none, is answered and sent
-pub record Gives (request : Asking) (file : Option Path) (close : Bool) (old new : BoardContent) (steps : ℕ) (output output' : Output) (result : Result (Unit {0}) Failed) : Type 0 where
-  pub answer : Answer
-  pub serves : Serves request (call.File file) old new steps steps answer
-  pub finds : (answer.code == 503) ≡ false
-  pub sends : Sends output output' (reply_bytes (head_of close answer) (sent_body request.asked.method answer.body)) result
+-- a board sees the newest state, unless one is held
+abbrev pub Looks : BoardContent → BoardContent → Type 0
+Looks old new = ((new ≡ old) × IsSome old.held) ⊎ (Stays old new × (old.held ≡ None))
 
 -- ---- one request
 
@@ -256,10 +256,6 @@ pub record Replied (asked : Request) (wanted : Call) (old new : Moment) (answer 
   pub serves : Serves (record { asked = asked; path = old.input.frame.path; body = body }) wanted old.board new.board old.steps new.steps answer
   pub wants_is : new.wants ≡ wants_after old.wants answer
 
--- the bytes of a reply
-abbrev pub reply_of : Bool → Request → Answer → List ℕ
-reply_of close asked answer = reply_bytes (head_of close answer) (sent_body asked.method answer.body)
-
 -- how a connection ends where a body isn't whole
 abbrev pub body_end : Stop → SessionEnd
 body_end stop.ReadFault = ReadFault
@@ -337,4 +333,3 @@ pub record ServesAll (first last : Moment) (end : SessionEnd) : Type 0 where
   pub sink_never_falls : first.output.faults ≤ last.output.faults
   pub steps_never_fall : first.steps ≤ last.steps
   pub room : last.input.frame.room ≡ first.input.frame.room
-  pub served : IfSome first.input.left (IsServedTo first last end)

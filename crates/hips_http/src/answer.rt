@@ -10,12 +10,12 @@ ghost use Rattle.hips_http.specs.Progress.{Serves, HasLeaf, is_text, TakesBody, 
 use crate::call::Call;
 use crate::change::{batch, delete, put};
 use crate::control::{pin, publish, unpin};
+use crate::open_connection::{Due, Means};
 use crate::reply::TextReply;
-use http_frame::{Allow, Frame, Request, Stop};
+use http_frame::{Allow, Frame, Stop};
 use log::Log;
 use parent_rule::Steps;
 use reader_pin::{Board, ChangedWith};
-use std::alloc::Global;
 use std::thread::Threads;
 use std::time::Clock;
 use survey_link::{Gate, Source};
@@ -31,22 +31,19 @@ pub(crate) fn reply_to<
     S: Source,
     G: Gate + Sync,
 >(
-    rt: &R,
-    alloc: Global,
+    means: &Means<'_, '_, R, G>,
     frame: &mut Frame,
     board: &mut B,
     src: &mut S,
-    gate: &G,
     steps: &mut Steps,
-    request: &Request,
-    call: Call,
+    due: &Due,
 ) -> Result<TextReply, Stop>
-    requires turn { frame.old.turn ≡ AtBody request.now.length }
-    requires text { is_text call ≡ true }
-    requires leaf { HasLeaf (B.content board.old).conf.shape.top call }
-    ensures replied { IfOk result (RepliesTo request.now call (input_at S.Source frame.old src.old) (input_at S.Source frame.new src.new) (B.content board.old) (B.content board.new) steps.old steps.new) }
-    ensures stop { IfErr result (LeavesNoBody request.now.length (input_at S.Source frame.old src.old) (input_at S.Source frame.new src.new)) }
-    ensures needed { ReadsWhere S.Source (IsShort request.now.length) frame.old.held src.old src.new }
+    requires turn { frame.old.turn ≡ AtBody due.now.request.length }
+    requires text { is_text due.now.call ≡ true }
+    requires leaf { HasLeaf (B.content board.old).conf.shape.top due.now.call }
+    ensures replied { IfOk result (RepliesTo due.now.request due.now.call (input_at S.Source frame.old src.old) (input_at S.Source frame.new src.new) (B.content board.old) (B.content board.new) steps.old steps.new) }
+    ensures stop { IfErr result (LeavesNoBody due.now.request.length (input_at S.Source frame.old src.old) (input_at S.Source frame.new src.new)) }
+    ensures needed { ReadsWhere S.Source (IsShort due.now.request.length) frame.old.held src.old src.new }
     ensures unchanged { OnErr result (B.content board.new ≡ B.content board.old) }
     ensures no_steps { OnErr result (steps.new ≡ steps.old) }
     ensures source_never_falls { S.faults src.old ≤ S.faults src.new }
@@ -55,7 +52,7 @@ pub(crate) fn reply_to<
     ensures path { frame.new.path ≡ frame.old.path }
 {
     match frame.body(src) {
-        Ok(body) => return Ok(answer(rt, alloc, board, gate, steps, request, call, body)),
+        Ok(body) => return Ok(answer(means, board, steps, due, body)),
         Err(stop) => return Err(stop),
     }
 }
@@ -82,28 +79,25 @@ pub(crate) fn pass_body<S: Source>(frame: &mut Frame, src: &mut S, count: u64) -
 
 // Answers a call that isn't that for a file.
 fn answer<R: Threads + Sync + Clock + Log, B: ChangedWith<R>, G: Gate + Sync>(
-    rt: &R,
-    alloc: Global,
+    means: &Means<'_, '_, R, G>,
     board: &mut B,
-    gate: &G,
     steps: &mut Steps,
-    request: &Request,
-    call: Call,
+    due: &Due,
     body: &[u8],
 ) -> TextReply
-    requires text { is_text call ≡ true }
-    requires leaf { HasLeaf (B.content board.old).conf.shape.top call }
-    ensures serves { (path : Option (List ℕ)) → Serves (record { asked = request.now; path = path; body = body.now }) call (B.content board.old) (B.content board.new) steps.old steps.new result }
+    requires text { is_text due.now.call ≡ true }
+    requires leaf { HasLeaf (B.content board.old).conf.shape.top due.now.call }
+    ensures serves { (path : Option (List ℕ)) → Serves (record { asked = due.now.request; path = path; body = body.now }) due.now.call (B.content board.old) (B.content board.new) steps.old steps.new result }
     ensures never_falls { steps.old ≤ steps.new }
 {
-    match call {
+    match due.call {
         Call::NotAllowed(allow) => not_allowed(board, allow),
-        Call::Publish => publish(rt, board, gate, steps),
+        Call::Publish => publish(means.rt, board, means.gate, steps),
         Call::Pin => pin(board),
         Call::Unpin => unpin(board),
-        Call::Batch => batch(rt, alloc, board, body, steps),
-        Call::Put(leaf) => put(rt, alloc, board, request, leaf, body, steps),
-        Call::Delete(leaf) => delete(rt, board, request, leaf),
+        Call::Batch => batch(means.rt, means.alloc, board, body, steps),
+        Call::Put(leaf) => put(means, board, &due.request, leaf, body, steps),
+        Call::Delete(leaf) => delete(means.rt, board, &due.request, leaf),
         Call::File(_) => unreachable!(),
     }
 }

@@ -16,6 +16,7 @@ ghost use Rattle.hips_http.specs.Replies.{refused_answer};
 ghost use Rattle.hips_http.specs.Answers.{Asking};
 ghost use Rattle.hips_http.specs.Progress.{Serves};
 
+use crate::open_connection::Means;
 use crate::reply::TextReply;
 use edit_journal::{Edit, EditFault};
 use fits_tile::{TileRefusal, decode};
@@ -28,9 +29,8 @@ use survey_core::{BatchRead, State, read_batch};
 use tile_pixels::Tile;
 
 /// Answers PUT of a leaf: it has the tile of the body from then on, where the request's preconditions hold.
-pub(crate) fn put<R, B: ChangedWith<R>>(
-    rt: &R,
-    alloc: Global,
+pub(crate) fn put<R, G, B: ChangedWith<R>>(
+    means: &Means<'_, '_, R, G>,
     board: &mut B,
     request: &Request,
     leaf: u64,
@@ -42,7 +42,7 @@ pub(crate) fn put<R, B: ChangedWith<R>>(
     ensures serves { (path : Option (List ℕ)) → Serves (record { asked = request.now; path = path; body = body.now }) (call.Put leaf)
         (B.content board.old) (B.content board.new) steps.old steps.new result }
 {
-    let tile = match read_tile(alloc, board.last(), body, steps) {
+    let tile = match read_tile(means.alloc, board.last(), body, steps) {
         Ok(tile) => tile,
         Err(TileRefusal::Fault(fault)) => return TextReply::tile_refused(fault),
         Err(TileRefusal::OutOfMemory) => return TextReply::no_memory(),
@@ -51,7 +51,7 @@ pub(crate) fn put<R, B: ChangedWith<R>>(
         Some(edit) => edit,
         None => return TextReply::unmet(board.last().edits()),
     };
-    match board.edit(rt, edit) {
+    match board.edit(means.rt, edit) {
         Ok(accepted) => TextReply::edited(!accepted.created, accepted.number),
         Err(BoardRefusal::Fault { fault, edits }) => TextReply::edit_refused(fault, edits),
         Err(BoardRefusal::OutOfMemory) => TextReply::no_memory(),

@@ -7,11 +7,11 @@ ghost use Rattle.reader_pin.specs.Board.{IsOwned};
 ghost use Rattle.http_frame.specs.declared.stop.Turn.TheVariants.{AtHead};
 ghost use Rattle.hips_http.specs.SessionRun.{IsServed, Goes, FlushesAll, room_of, most_requests};
 ghost use Rattle.hips_http.specs.Moment.{connection_of, input_at, output_at, moment, moment_of, SameEnds, ReadsWhere};
-ghost use Rattle.hips_http.specs.Progress.{ServesAll};
-ghost use Rattle.hips_http.specs.Readings.{NeedsNext};
+ghost use Rattle.hips_http.specs.Progress.{ServesAll, IsServedTo};
+ghost use Rattle.hips_http.specs.Readings.{NeedsNext, FollowsReplies};
 ghost use Rattle.hips_http.specs.declared.served.SessionEnd.TheVariants.{ReadFault, WriteFault, OutOfMemory};
 
-use crate::open_connection::OpenConnection;
+use crate::open_connection::{Means, OpenConnection};
 use crate::served::{Served, SessionEnd};
 use crate::step::{MOST_REQUESTS, serve_one};
 use http_frame::Frame;
@@ -61,6 +61,10 @@ pub fn session<
         (connection_of S.Source K.Sink src.old sink.old) (connection_of S.Source K.Sink src.new sink.new) steps.old steps.new result) }
     // There it is read only while what came ends before or within the next request: so not once a request asked to close.
     ensures reads { IsSome (S.left src.old) → (came : List ℕ) × ReadsWhile S.left S.readings (NeedsNext (room_of (B.content board.old).conf)) [] src.old src.new came }
+    // And only after the replies to all requests before were flushed, as far as the sink tells its bytes.
+    ensures order { IfSome (S.left src.old) (λ input. (served : IsServed (B.content board.old) (B.content board.new) input
+        (connection_of S.Source K.Sink src.old sink.old) (connection_of S.Source K.Sink src.new sink.new) steps.old steps.new result)
+        × ReadsWhere S.Source (FollowsReplies (room_of (B.content board.old).conf) served.run.outputs served.passed) [] src.old src.new) }
 {
     let mut frame = frame_for(alloc, board);
     session_in(rt, alloc, &mut frame, board, src, sink, gate, steps)
@@ -100,20 +104,25 @@ pub fn session_in<
         (connection_of S.Source K.Sink src.old sink.old) (connection_of S.Source K.Sink src.new sink.new) steps.old steps.new result) }
     // There it is read only while what came ends before or within the next request: so not once a request asked to close.
     ensures reads { IsSome (S.left src.old) → (came : List ℕ) × ReadsWhile S.left S.readings (NeedsNext (room_of (B.content board.old).conf)) [] src.old src.new came }
+    // And only after the replies to all requests before were flushed, as far as the sink tells its bytes.
+    ensures order { IfSome (S.left src.old) (λ input. (served : IsServed (B.content board.old) (B.content board.new) input
+        (connection_of S.Source K.Sink src.old sink.old) (connection_of S.Source K.Sink src.new sink.new) steps.old steps.new result)
+        × ReadsWhere S.Source (FollowsReplies (room_of (B.content board.old).conf) served.run.outputs served.passed) [] src.old src.new) }
     // Want of memory ends it exactly where there is no frame.
     ensures begins { (result.end ≡ OutOfMemory) ↔ IsNone frame.old }
     ensures kept { IsSome frame.old → IsSome frame.new }
     ensures room { IfSome frame.new (λ frame. frame.room ≡ room_of (B.content board.new).conf) }
 {
     board.release();
-    let top = top_of(board);
     match frame {
         Some(frame) => {
             frame.clear();
-            return serve_all(rt, alloc, frame, board, src, sink, gate, steps, top);
+            let means = Means { rt, alloc, gate };
+            return serve_all(&means, frame, board, src, sink, steps);
         }
         None => {
-            // For the prover: a count fits 64 bits.
+            // For the prover: what a board has seen is a history, and a count fits 64 bits.
+            let _legal = board.last();
             let _count = steps.count();
             return Served {
                 end: SessionEnd::OutOfMemory,
@@ -123,8 +132,7 @@ pub fn session_in<
     }
 }
 
-// Serves one connection over a frame that holds nothing, by a board that holds no state; `top` is the order of the survey's
-// leaves.
+// Serves one connection over a frame that holds nothing, by a board that holds no state.
 fn serve_all<
     R: Threads + Sync + Clock + Log,
     B: ChangedWith<R>,
@@ -132,28 +140,24 @@ fn serve_all<
     K: Sink,
     G: Gate + Sync,
 >(
-    rt: &R,
-    alloc: Global,
+    means: &Means<'_, '_, R, G>,
     frame: &mut Frame,
     board: &mut B,
     src: &mut S,
     sink: &mut K,
-    gate: &G,
     steps: &mut Steps,
-    top: u8,
 ) -> Served
     requires empty { frame.old.held ≡ [] }
     requires turn { frame.old.turn ≡ AtHead }
     requires room { frame.old.room ≡ room_of (B.content board.old).conf }
-    requires top { top ≡ (B.content board.old).conf.shape.top }
-    requires small { top ≤ 11 }
-    requires legal { IsHistory (B.content board.old).opening (B.content board.old).history }
-    requires owned { IsOwned (B.content board.old) }
     requires released { (B.content board.old).held ≡ None }
     ensures serves { ServesAll (moment (input_at S.Source frame.old src.old) (output_at K.Sink sink.old) (B.content board.old) steps.old 0)
         (moment (input_at S.Source frame.new src.new) (output_at K.Sink sink.new) (B.content board.new) steps.new result.wants) result.end }
-    ensures reads { IsSome (S.left src.old) → ReadsWhere S.Source (NeedsNext (room_of (B.content board.old).conf)) [] src.old src.new }
+    ensures order { IfSome (S.left src.old) (λ input. (served : IsServedTo (moment (input_at S.Source frame.old src.old) (output_at K.Sink sink.old) (B.content board.old) steps.old 0)
+        (moment (input_at S.Source frame.new src.new) (output_at K.Sink sink.new) (B.content board.new) steps.new result.wants) result.end input)
+        × ReadsWhere S.Source (FollowsReplies (room_of (B.content board.old).conf) served.run.outputs served.passed) [] src.old src.new) }
 {
+    let top = top_of(board);
     let mut connection = OpenConnection {
         frame,
         board,
@@ -162,7 +166,7 @@ fn serve_all<
         steps,
         wants: 0,
     };
-    let end = serve_requests(rt, alloc, gate, &mut connection, top);
+    let end = serve_requests(means, &mut connection, top);
     Served {
         end,
         wants: connection.wants,
@@ -177,9 +181,7 @@ fn serve_requests<
     K: Sink,
     G: Gate + Sync,
 >(
-    rt: &R,
-    alloc: Global,
-    gate: &G,
+    means: &Means<'_, '_, R, G>,
     connection: &mut OpenConnection<'_, '_, '_, '_, '_, B, S, K>,
     top: u8,
 ) -> SessionEnd
@@ -193,11 +195,12 @@ fn serve_requests<
     requires released { (B.content connection.old.board.now).held ≡ None }
     requires wants { connection.old.wants ≡ 0 }
     ensures serves { ServesAll (moment_of S.Source K.Sink B.content connection.old) (moment_of S.Source K.Sink B.content connection.new) result }
-    ensures reads { IsSome (S.left connection.old.src.now) → ReadsWhere S.Source (NeedsNext (room_of (B.content connection.old.board.now).conf)) [] connection.old.src.now connection.new.src.now }
+    ensures order { IfSome (S.left connection.old.src.now) (λ input. (served : IsServedTo (moment_of S.Source K.Sink B.content connection.old) (moment_of S.Source K.Sink B.content connection.new) result input)
+        × ReadsWhere S.Source (FollowsReplies (room_of (B.content connection.old.board.now).conf) served.run.outputs served.passed) [] connection.old.src.now connection.new.src.now) }
     ensures same { SameEnds connection.old connection.new }
 {
     for count in 0..MOST_REQUESTS {
-        match serve_one(rt, alloc, gate, connection, top, count) {
+        match serve_one(means, connection, top, count) {
             Ok(true) => return SessionEnd::Asked,
             Ok(false) => {}
             Err(end) => return end,

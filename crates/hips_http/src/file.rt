@@ -1,16 +1,19 @@
 //! Files of a published generation.
-ghost use Rattle.std.specs.Prelude.{◌≡◌, ℕ, ◌+◌, ◌<◌, option_copied, Some, None};
-ghost use Rattle.http_frame.specs.Reply.{reply_bytes};
+ghost use Rattle.std.specs.Prelude.{◌≡◌, ◌++◌, ℕ, option_copied, unwrap_or, Some, None};
 ghost use Rattle.survey_core.specs.State.{survey_state};
+ghost use Rattle.reader_pin.specs.Board.{last_seen, state_in};
 ghost use Rattle.tile_path.specs.Spelling.{spelling};
 ghost use Rattle.hips_http.specs.Paths.{IsPathOf};
-ghost use Rattle.hips_http.specs.Answers.{Asking};
 ghost use Rattle.hips_http.specs.Moment.{output_at};
-ghost use Rattle.hips_http.specs.Progress.{Gives, HandsReply, Sends};
-ghost use Rattle.hips_http.specs.Replies.{head_of, sent_body, file_answer, path_answer, not_found};
+ghost use Rattle.hips_http.specs.Progress.{HandsReply, Looks, Sends, reply_of};
+ghost use Rattle.hips_http.specs.Replies.{file_kind, file_answer, not_found, sent_body};
+ghost use Rattle.survey_link.specs.Link.{parts_bytes};
 
+use crate::open_connection::Due;
 use crate::reply::TextReply;
-use crate::send::{Due, send_file, send_text};
+use crate::saying::say_reply;
+use crate::send::send_text;
+use http_frame::{Allow, Kind, Method, Number, Reply, write_reply_parts};
 use log::Log;
 use reader_pin::Board;
 use std::time::Clock;
@@ -18,126 +21,103 @@ use survey_core::State;
 use survey_link::{Failed, Sink};
 use tile_path::Path;
 
-// Answers GET and HEAD by the state: with the file that it has published, or that there is none.
-fn send_path<R: Clock + Log, K: Sink>(
-    rt: &R,
-    sink: &mut K,
-    due: Due<'_>,
-    state: &State,
-    file: Option<Path>,
-) -> Result<(), Failed>
-    requires file { IsPathOf (option_copied due.path) file }
-    ensures sends { let answer = file_answer state.now.conf state.now.opening (survey_state state.now) (option_copied due.entry.path) in
-        Sends (output_at K.Sink sink.old) (output_at K.Sink sink.new) (reply_bytes (head_of due.entry.close answer) (sent_body due.entry.method answer.body)) result }
-    ensures hands { HandsReply (output_at K.Sink sink.old) (output_at K.Sink sink.new) result }
+/// Sees the newest state, unless one is held.
+pub(crate) fn look<B: Board>(board: &mut B)
+    ensures { Looks (B.content board.old) (B.content board.new) }
 {
-    match file {
-        Some(file) => return send_known(rt, sink, due, state, &file),
-        None => return send_unknown(rt, sink, due, state),
+    match board.held() {
+        Some(_) => return,
+        None => return board.pin(),
     }
 }
 
-// The same of a file that a survey can have.
-fn send_known<R: Clock + Log, K: Sink>(
+/// The state that files are read from: the one that is held, or else the last seen.
+pub(crate) fn shown<B: Board>(board: &B) -> &State
+    ensures { result.now ≡ state_in (B.content board.now) (unwrap_or (B.content board.now).held (last_seen (B.content board.now))) }
+{
+    match board.held() {
+        Some(state) => return state,
+        None => return board.last(),
+    }
+}
+
+/// Answers GET and HEAD of a path, that of the file or of none, by the state. It takes no memory. The head and the parts of a
+/// file go out by one call where the sink takes all.
+///
+/// # Errors
+///
+/// `Failed` only where the sink's count of faults rose; some first bytes may have been written.
+pub(crate) fn send_path<R: Clock + Log, K: Sink>(
     rt: &R,
     sink: &mut K,
-    due: Due<'_>,
+    due: &Due,
+    path: Option<&[u8]>,
     state: &State,
-    file: &Path,
+    file: &Option<Path>,
 ) -> Result<(), Failed>
-    ensures sends { let answer = path_answer state.now.conf state.now.opening (survey_state state.now) (spelling file.now) in
-        Sends (output_at K.Sink sink.old) (output_at K.Sink sink.new) (reply_bytes (head_of due.entry.close answer) (sent_body due.entry.method answer.body)) result }
+    requires file { IsPathOf (option_copied path) file.now }
+    ensures sends { Sends (output_at K.Sink sink.old) (output_at K.Sink sink.new) (reply_of due.now.close due.now.request (file_answer state.now.conf state.now.opening (survey_state state.now) (option_copied path.entry))) result }
     ensures hands { HandsReply (output_at K.Sink sink.old) (output_at K.Sink sink.new) result }
 {
     let mut front = [0u8; 2880];
-    match state.generation().file_parts(file, &mut front) {
-        Some(parts) => {
-            let front = &front[..parts.front];
-            send_file(
-                rt,
-                sink,
-                due,
-                state.tip(),
-                file,
-                front,
-                parts.kept,
-                parts.zeros,
-            )
+    let file = match file {
+        Some(file) => file,
+        None => {
+            // For the prover: of which orders the tiles are.
+            let _orders = state.conf().shape();
+            return send_not_found(rt, sink, due, path, state);
         }
-        None => send_not_found(rt, sink, due, state),
-    }
+    };
+    let parts = match state.generation().file_parts(file, &mut front) {
+        Some(parts) => parts,
+        None => return send_not_found(rt, sink, due, path, state),
+    };
+    let front = &front[..parts.front];
+    let head = Reply {
+        code: 200,
+        allow: Allow::Absent,
+        kind: file_kind(file),
+        number: Number::Prefix(state.tip()),
+        length: front.len() as u64 + parts.kept.len() as u64 + parts.zeros.len() as u64,
+        close: due.close,
+    };
+    let body = sent_parts(due.request.method, front, parts.kept, parts.zeros);
+    let sent = write_reply_parts(sink, &head, body);
+    say_reply(rt, due, path, head.code, head.length, b"");
+    sent
 }
 
-// The same of a path at which a survey can have no file.
-fn send_unknown<R: Clock + Log, K: Sink>(
-    rt: &R,
-    sink: &mut K,
-    due: Due<'_>,
-    state: &State,
-) -> Result<(), Failed>
-    requires unknown { IsPathOf (option_copied due.path) None }
-    ensures sends { let answer = file_answer state.now.conf state.now.opening (survey_state state.now) (option_copied due.entry.path) in
-        Sends (output_at K.Sink sink.old) (output_at K.Sink sink.new) (reply_bytes (head_of due.entry.close answer) (sent_body due.entry.method answer.body)) result }
-    ensures hands { HandsReply (output_at K.Sink sink.old) (output_at K.Sink sink.new) result }
+// The parts of a file that are sent: to HEAD none (RFC 9110, section 9.3.2).
+fn sent_parts<'a>(method: Method, front: &'a [u8], kept: &'a [u8], zeros: &'a [u8]) -> [&'a [u8]; 3]
+    ensures { parts_bytes result ≡ sent_body method (front.now ++ kept.now ++ zeros.now) }
 {
-    // For the prover: of which orders the tiles are.
-    let _orders = state.conf().shape();
-    send_not_found(rt, sink, due, state)
+    match method {
+        Method::Head => [&[], &[], &[]],
+        _ => [front, kept, zeros],
+    }
 }
 
 // The reply that there is no file at the path.
 fn send_not_found<R: Clock + Log, K: Sink>(
     rt: &R,
     sink: &mut K,
-    due: Due<'_>,
+    due: &Due,
+    path: Option<&[u8]>,
     state: &State,
 ) -> Result<(), Failed>
-    ensures sends { Sends (output_at K.Sink sink.old) (output_at K.Sink sink.new) (reply_bytes (head_of due.entry.close (not_found state.now.tip)) (sent_body due.entry.method (not_found state.now.tip).body)) result }
+    ensures sends { Sends (output_at K.Sink sink.old) (output_at K.Sink sink.new) (reply_of due.now.close due.now.request (not_found state.now.tip)) result }
     ensures hands { HandsReply (output_at K.Sink sink.old) (output_at K.Sink sink.new) result }
 {
     let reply = TextReply::not_found(state.tip());
-    send_text(rt, sink, due, &reply)
+    send_text(rt, sink, due, path, &reply)
 }
 
-/// Answers GET and HEAD of a path, that of the file or of none: by the state that the board holds, else by the newest that it
-/// sees. It takes no memory.
-///
-/// # Errors
-///
-/// `Failed` only where the sink's count of faults rose; some first bytes may have been written.
-pub(crate) fn give_file<R: Clock + Log, B: Board, K: Sink>(
-    rt: &R,
-    sink: &mut K,
-    board: &mut B,
-    due: Due<'_>,
-    file: Option<Path>,
-) -> Result<(), Failed>
-    requires file { IsPathOf (option_copied due.path) file }
-    ensures gives { (request : Asking) (steps : ℕ) → request.path ≡ option_copied due.entry.path → request.asked.method ≡ due.entry.method
-        → Gives request file due.entry.close (B.content board.old) (B.content board.new) steps (output_at K.Sink sink.old) (output_at K.Sink sink.new) result }
-    ensures hands { HandsReply (output_at K.Sink sink.old) (output_at K.Sink sink.new) result }
+// The properties are a text, each other file is a FITS file.
+fn file_kind(file: &Path) -> Kind
+    ensures { result ≡ file_kind (spelling file.now) }
 {
-    // For the prover: what a board has seen is a history.
-    let _legal = board.last();
-    match board.held() {
-        Some(state) => return send_path(rt, sink, due, state, file),
-        None => return give_newest(rt, sink, board, due, file),
+    match file {
+        Path::Properties => Kind::Text,
+        _ => Kind::Fits,
     }
-}
-
-// The same by the newest state that the board sees, where it holds none.
-fn give_newest<R: Clock + Log, B: Board, K: Sink>(
-    rt: &R,
-    sink: &mut K,
-    board: &mut B,
-    due: Due<'_>,
-    file: Option<Path>,
-) -> Result<(), Failed>
-    requires file { IsPathOf (option_copied due.path) file }
-    ensures gives { (request : Asking) (steps : ℕ) → (B.content board.old).held ≡ None → request.path ≡ option_copied due.entry.path → request.asked.method ≡ due.entry.method
-        → Gives request file due.entry.close (B.content board.old) (B.content board.new) steps (output_at K.Sink sink.old) (output_at K.Sink sink.new) result }
-    ensures hands { HandsReply (output_at K.Sink sink.old) (output_at K.Sink sink.new) result }
-{
-    board.pin();
-    send_path(rt, sink, due, board.last(), file)
 }

@@ -1,5 +1,5 @@
 //! What is said to the log.
-use crate::reply::TextReply;
+use crate::open_connection::Due;
 use http_frame::Method;
 use log::{Level, Log, debug, info, log_enabled};
 use std::fmt;
@@ -32,59 +32,62 @@ impl Stopwatch {
     }
 }
 
-/// Says that a file of so many bytes was given.
-pub(crate) fn say_file<R: Clock + Log>(
+/// Says that a request was answered, by a body of so many bytes; where it was refused, the text says why.
+pub(crate) fn say_reply<R: Clock + Log>(
     rt: &R,
-    watch: Stopwatch,
-    method: Method,
+    due: &Due,
     path: Option<&[u8]>,
+    code: u16,
     length: u64,
+    text: &[u8],
 ) {
-    say(
-        rt,
-        watch,
-        name(method),
-        path,
-        200,
-        sent(method, length),
-        b"",
-    );
-}
-
-/// Says that a request was answered by a text, or without a body.
-pub(crate) fn say_text<R: Clock + Log>(
-    rt: &R,
-    watch: Stopwatch,
-    method: Method,
-    path: Option<&[u8]>,
-    reply: &TextReply,
-) {
-    let text = reply.text.as_slice();
-    let length = sent(method, text.len() as u64);
-    let refusal = if reply.code < 400 {
+    let method = due.request.method;
+    let refusal = if code < 400 {
         b""
     } else {
         text.strip_suffix(b"\n").unwrap_or(text)
     };
-    say(rt, watch, name(method), path, reply.code, length, refusal);
+    let line = Line {
+        method: name(method),
+        path,
+        code,
+        length: sent(method, length),
+        refusal,
+    };
+    say(rt, due.watch, line);
 }
 
 /// Says that a head was refused by its framing. Nothing of it is known but the code.
 pub(crate) fn say_refused<R: Clock + Log>(rt: &R, watch: Stopwatch, code: u16) {
-    say(rt, watch, "-", None, code, 0, refusal(code));
+    let line = Line {
+        method: "-",
+        path: None,
+        code,
+        length: 0,
+        refusal: refusal(code),
+    };
+    say(rt, watch, line);
 }
 
-// Says that a request was answered, in one line of words, whatever bytes its path has: the method, the path, the code, the bytes
-// of the body, the microseconds, and why it was refused.
-fn say<R: Clock + Log>(
-    rt: &R,
-    watch: Stopwatch,
-    method: &str,
-    path: Option<&[u8]>,
+// What is said of a request: the method, the path, the code, the bytes of the body, and why it was refused.
+#[derive(Clone, Copy)]
+struct Line<'p, 't> {
+    method: &'static str,
+    path: Option<&'p [u8]>,
     code: u16,
     length: u64,
-    refusal: &[u8],
-) {
+    refusal: &'t [u8],
+}
+
+// Says that a request was answered, in one line of words, whatever bytes its path has; the microseconds come before the last.
+fn say<R: Clock + Log>(rt: &R, watch: Stopwatch, line: Line<'_, '_>) {
+    let Line {
+        method,
+        path,
+        code,
+        length,
+        refusal,
+    } = line;
     debug!(
         rt; target: REQUEST,
         "{method} {} {code} {length} {} {}", PathWord(path), watch.micros(rt), RefusalWord(refusal)

@@ -19,16 +19,15 @@ ghost use Rattle.hips_http.specs.Readings.{NeedsRest, HoldsBehind};
 
 use crate::answer::{pass_body, reply_to};
 use crate::call::{Call, call_of, path_kind};
-use crate::file::give_file;
-use crate::open_connection::OpenConnection;
+use crate::file::{look, send_path, shown};
+use crate::open_connection::{Due, Means, OpenConnection};
 use crate::reply::TextReply;
 use crate::saying::Stopwatch;
-use crate::send::{Due, send_refusal, send_text};
+use crate::send::{send_refusal, send_text};
 use crate::served::SessionEnd;
 use http_frame::{Frame, Request, Stop, write_continue};
 use log::Log;
 use reader_pin::{Board, ChangedWith};
-use std::alloc::Global;
 use std::thread::Threads;
 use std::time::Clock;
 use survey_link::{Failed, Gate, Sink, Source};
@@ -137,28 +136,25 @@ fn body_end(stop: Stop) -> SessionEnd
 fn serve_file<R: Clock + Log, B: Board, S: Source, K: Sink>(
     rt: &R,
     connection: &mut OpenConnection<'_, '_, '_, '_, '_, B, S, K>,
-    request: &Request,
-    file: Option<Path>,
-    close: bool,
+    due: &Due,
+    file: &Option<Path>,
 ) -> Result<(), SessionEnd>
-    requires turn { connection.old.frame.now.turn ≡ AtBody request.now.length }
-    requires file { IsPathOf connection.old.frame.now.path file }
-    ensures serves { ServesCall request.now (call.File file) close (moment_of S.Source K.Sink B.content connection.old) (moment_of S.Source K.Sink B.content connection.new) result }
-    ensures needed { ReadsWhere S.Source (IsShort request.now.length) connection.old.frame.now.held connection.old.src.now connection.new.src.now }
+    requires turn { connection.old.frame.now.turn ≡ AtBody due.now.request.length }
+    requires file { IsPathOf connection.old.frame.now.path file.now }
+    ensures serves { ServesCall due.now.request (call.File file.now) due.now.close (moment_of S.Source K.Sink B.content connection.old) (moment_of S.Source K.Sink B.content connection.new) result }
+    ensures needed { ReadsWhere S.Source (IsShort due.now.request.length) connection.old.frame.now.held connection.old.src.now connection.new.src.now }
     ensures same { SameEnds connection.old connection.new }
 {
-    let watch = Stopwatch::start(rt);
-    match pass_body(connection.frame, connection.src, request.length) {
+    match pass_body(connection.frame, connection.src, due.request.length) {
         Ok(()) => {}
         Err(stop) => return Err(body_end(stop)),
     }
-    let due = Due {
-        watch,
-        method: request.method,
-        path: connection.frame.path(),
-        close,
-    };
-    match give_file(rt, connection.sink, connection.board, due, file) {
+    let path = connection.frame.path();
+    look(connection.board);
+    // For the prover: what a board has seen is a history.
+    let _legal = connection.board.last();
+    let state = shown(connection.board);
+    match send_path(rt, connection.sink, due, path, state, file) {
         Ok(()) => return Ok(()),
         Err(_) => return Err(SessionEnd::WriteFault),
     }
@@ -176,82 +172,40 @@ fn serve_text<
     K: Sink,
     G: Gate + Sync,
 >(
-    rt: &R,
-    alloc: Global,
-    gate: &G,
+    means: &Means<'_, '_, R, G>,
     connection: &mut OpenConnection<'_, '_, '_, '_, '_, B, S, K>,
-    request: &Request,
-    call: Call,
-    close: bool,
+    due: &Due,
 ) -> Result<(), SessionEnd>
-    requires turn { connection.old.frame.now.turn ≡ AtBody request.now.length }
-    requires text { is_text call ≡ true }
-    requires leaf { HasLeaf (B.content connection.old.board.now).conf.shape.top call }
+    requires turn { connection.old.frame.now.turn ≡ AtBody due.now.request.length }
+    requires text { is_text due.now.call ≡ true }
+    requires leaf { HasLeaf (B.content connection.old.board.now).conf.shape.top due.now.call }
     requires few { connection.old.wants < 65536 }
-    ensures serves { ServesCall request.now call close (moment_of S.Source K.Sink B.content connection.old) (moment_of S.Source K.Sink B.content connection.new) result }
-    ensures needed { ReadsWhere S.Source (IsShort request.now.length) connection.old.frame.now.held connection.old.src.now connection.new.src.now }
+    ensures serves { ServesCall due.now.request due.now.call due.now.close (moment_of S.Source K.Sink B.content connection.old) (moment_of S.Source K.Sink B.content connection.new) result }
+    ensures needed { ReadsWhere S.Source (IsShort due.now.request.length) connection.old.frame.now.held connection.old.src.now connection.new.src.now }
     ensures same { SameEnds connection.old connection.new }
 {
-    let watch = Stopwatch::start(rt);
     let reply = match reply_to(
-        rt,
-        alloc,
+        means,
         connection.frame,
         connection.board,
         connection.src,
-        gate,
         connection.steps,
-        request,
-        call,
+        due,
     ) {
         Ok(reply) => reply,
         Err(stop) => return Err(body_end(stop)),
     };
     connection.wants = count_want(connection.wants, &reply);
-    let due = Due {
-        watch,
-        method: request.method,
-        path: connection.frame.path(),
-        close,
-    };
-    match send_text(rt, connection.sink, due, &reply) {
+    match send_text(
+        means.rt,
+        connection.sink,
+        due,
+        connection.frame.path(),
+        &reply,
+    ) {
         Ok(()) => return Ok(()),
         Err(_) => return Err(SessionEnd::WriteFault),
     }
-}
-
-/// Reads the body of a request and answers it.
-///
-/// # Errors
-///
-/// How the connection ends: `WriteFault` where the reply couldn't be written, else as the body isn't whole.
-fn serve_call<
-    R: Threads + Sync + Clock + Log,
-    B: ChangedWith<R>,
-    S: Source,
-    K: Sink,
-    G: Gate + Sync,
->(
-    rt: &R,
-    alloc: Global,
-    gate: &G,
-    connection: &mut OpenConnection<'_, '_, '_, '_, '_, B, S, K>,
-    request: &Request,
-    call: Call,
-    close: bool,
-) -> Result<(), SessionEnd>
-    requires turn { connection.old.frame.now.turn ≡ AtBody request.now.length }
-    requires leaf { HasLeaf (B.content connection.old.board.now).conf.shape.top call }
-    requires file { HasFile connection.old.frame.now.path call }
-    requires few { connection.old.wants < 65536 }
-    ensures serves { ServesCall request.now call close (moment_of S.Source K.Sink B.content connection.old) (moment_of S.Source K.Sink B.content connection.new) result }
-    ensures needed { ReadsWhere S.Source (IsShort request.now.length) connection.old.frame.now.held connection.old.src.now connection.new.src.now }
-    ensures same { SameEnds connection.old connection.new }
-{
-    if let Call::File(file) = call {
-        return serve_file(rt, connection, request, file, close);
-    }
-    serve_text(rt, alloc, gate, connection, request, call, close)
 }
 
 /// Reads one request and answers it: `top` is the order of the survey's leaves, `count` how many requests came before it. It
@@ -267,9 +221,7 @@ pub(crate) fn serve_one<
     K: Sink,
     G: Gate + Sync,
 >(
-    rt: &R,
-    alloc: Global,
-    gate: &G,
+    means: &Means<'_, '_, R, G>,
     connection: &mut OpenConnection<'_, '_, '_, '_, '_, B, S, K>,
     top: u8,
     count: u32,
@@ -287,18 +239,30 @@ pub(crate) fn serve_one<
 {
     let (request, call) = match next_call(connection.frame, connection.src, top) {
         Ok(next) => next,
-        Err(stop) => return Err(end_at(rt, connection.sink, stop)),
+        Err(stop) => return Err(end_at(means.rt, connection.sink, stop)),
     };
     match grant(connection.sink, &request) {
         Ok(()) => {}
         Err(_) => return Err(SessionEnd::WriteFault),
     }
-    let close = closes(request.close, count);
-    match serve_call(rt, alloc, gate, connection, &request, call, close) {
-        Ok(()) => return Ok(request.close),
-        Err(end) => return Err(end),
+    let due = Due {
+        watch: Stopwatch::start(means.rt),
+        request,
+        call,
+        close: closes(request.close, count),
+    };
+    match &due.call {
+        Call::File(file) => match serve_file(means.rt, connection, &due, file) {
+            Ok(()) => return Ok(request.close),
+            Err(end) => return Err(end),
+        },
+        _ => match serve_text(means, connection, &due) {
+            Ok(()) => return Ok(request.close),
+            Err(end) => return Err(end),
+        },
     }
 }
+
 // Whether the connection is closed after a reply: the request asked for it, or it is the last that may be answered.
 fn closes(asked: bool, count: u32) -> bool
     requires { count < 65536 }

@@ -1,36 +1,33 @@
--- The stages of a copy, one after another.
-use Rattle.std.proofs.Common.{◌≡◌, ◌⊎◌, inl, inr, ℕ, ◌+◌, ◌<◌, ◌≤◌, ◌^◌, true, false, List, [], ◌∷◌, ◌++◌, Option, Some, None, Result, Ok, Err, suc, refl, sym, ap, ◌∙◌, subst, arith, length, map, append_assoc}
+-- The stages of a copy: which bytes each leads over, and why one stops there.
+use Rattle.std.proofs.Common.{◌≡◌, ◌⊎◌, inl, inr, Bool, ℕ, ◌+◌, ◌<◌, ◌≤◌, ◌^◌, true, false, List, [], ◌∷◌, ◌++◌, Option, Some, None, zero, suc, refl, sym, ap, ◌∙◌, subst, arith, length, map, append_assoc}
+use Rattle.std.specs.Prelude.{◌≢◌, ◌||◌, nat_lt, if◌then◌else◌, IfSome}
 use Rattle.std.proofs.lemmas.Bool.Decides.{nat_tests}
-use Rattle.std.specs.Prelude.{nat_lt, if◌then◌else◌, IfSome, IfOk, IfErr, OnOk, OnErr}
 use Rattle.std.specs.Map.{keys_of}
-use Rattle.std.specs.Io.KnownBytes.{Appends, prepend_known}
-use Rattle.std.proofs.KnownBytes.{Appends-trans}
-use Rattle.std.proofs.lemmas.List.{append-nil}
-use Rattle.std.proofs.lemmas.Grind.{flat_map-append}
-use Rattle.pyramid_model.specs.Shape.{LeafMap}
+use Rattle.std.proofs.lemmas.Map.Entries.{length-keys_of}
+use Rattle.survey_link.specs.declared.source.Source as source
+use Rattle.survey_link.specs.declared.sink.Sink as sink
+use Rattle.pyramid_model.specs.Shape.{PyramidShape, LeafMap}
 use Rattle.survey_conf.specs.Description.{Description}
 use Rattle.tile_path.specs.declared.path.Path.TheVariants as path
 use Rattle.edit_journal.specs.Leaves.{LeafTiles}
-use Rattle.std.proofs.lemmas.Map.Entries.{length-keys_of}
-use Rattle.generation.specs.Files.{leaf_map}
+use Rattle.generation.specs.Files.{leaf_map, file_of}
 use Rattle.generation.specs.Generation.{GenerationContent}
-use Rattle.generation.specs.Steps.{tiles_above}
-use Rattle.mirror_frame.specs.Requests.{request_bytes, leaf_ask, mosaic_asks, later_asks, mirror_requests}
-use Rattle.mirror_frame.specs.Reply.{IsReply}
+use Rattle.mirror_frame.specs.Requests.{asks, leaf_ask, mosaic_asks, later_asks}
+use Rattle.mirror_frame.specs.Reply.{IsReply, pinned_line}
+use Rattle.mirror_frame.specs.declared.ask.Ask.{Ask}
 use Rattle.mirror_frame.specs.declared.ask.Ask.TheVariants.{Pin, File, Unpin}
-use Rattle.mirror_frame.specs.declared.due.Due.TheVariants.{Survey, Any}
+use Rattle.mirror_frame.specs.declared.due.Due.TheVariants.{Pinned, Survey, Any}
+use Rattle.mirror_frame.specs.declared.peer.Peer.{Peer}
+use Rattle.mirror_frame.specs.Exchange.{IsExchanged}
+use Rattle.mirror_frame.specs.Peer.{talk, body_of, unread_at, Goes, Told}
 use Rattle.hips_mirror.specs.declared.refusal.MirrorRefusal.{MirrorRefusal}
-use Rattle.hips_mirror.specs.Mirror.{is_too_large, Covered, AreLeaves, HasLeaves, IsMosaicReply, Compared, IsCopy, RefusesReply, RefusesAt, WrongCover, RefusesLeaf, RefusesFiles, last_request, bare, TellsNumbers, StepsFit, Refuses, at_cover, at_leaf, at_mosaic, at_unpin}
-use Rattle.hips_mirror.specs.Stages.{Told, Counts, TellsSurvey, TellsCover, TellsCovered, TellsTiles, FromAll, unpin_request, sent}
+use Rattle.hips_mirror.specs.declared.refusal.MirrorRefusal.TheVariants.{Differs, OutOfMemory}
+use Rattle.hips_mirror.specs.Mirror.{is_too_large, Covered, AreLeaves, HasLeaves, IsMosaicReply, Compared, IsCopy, RefusesReply, RefusesAt, WrongCover, RefusesLeaf, RefusesFiles, WrongMosaic, last_request, TellsNumbers, Refuses, at_cover, at_leaf, at_mosaic, at_unpin}
+use Rattle.hips_mirror.specs.Stages.{Counts, TellsProperties, TellsSurvey, TellsCover, TellsCovered, TellsTiles, TellsMosaic, asks_of_mosaic, unpin_request, Reaches, IsRefusedIn, IsRefused, IsOfBody, RefusedBy}
 use Rattle.hips_mirror.proofs.LeavesLemmas.{map_keys, map_length}
 use Rattle.hips_mirror.proofs.CompareLemmas.{properties_are}
-
--- ---- an inbox in which nothing is
-
-pub from_start : (held : List ℕ) (left : Option (List ℕ)) (V : List ℕ → Type 0) → length held ≡ 0 → IfSome (prepend_known held left) V → IfSome left V
-from_start [] None V none v = tt
-from_start [] (Some x) V none v = v
-from_start (b ∷ bs) left V none v = absurd (omega (arith, none))
+use Rattle.hips_mirror.proofs.ToldLemmas.{told_so}
+use Rattle.hips_mirror.proofs.StageLemmas.{reaches_then, stopped_then, stopped_more, refused_here, one_reached}
 
 last_is : (tiles : LeafTiles) → unpin_request (length tiles) ≡ last_request (keys_of (leaf_map tiles))
 last_is [] = refl
@@ -39,68 +36,36 @@ last_is (e ∷ es) =
     let long : length (keys_of (leaf_map es)) ≡ length es = length-keys_of (leaf_map es) ∙ map_length es in
     ap (λ b. 3 + suc (length es) + (if b then 1 else 0)) yes ∙ ap (λ n. 3 + suc n + 1) (sym long)
 
-pub no_start : (held : List ℕ) (left : Option (List ℕ)) (refusal : MirrorRefusal) → length held ≡ 0 → IfSome (prepend_known held left) (λ bytes. Refuses bytes refusal) → IfSome left (λ bytes. Refuses bytes refusal)
-no_start held left refusal none why = from_start held left (λ bytes. Refuses bytes refusal) none why
+mosaic_by_count : (tiles : LeafTiles) → asks_of_mosaic (length tiles) ≡ mosaic_asks (keys_of tiles)
+mosaic_by_count [] = refl
+mosaic_by_count (e ∷ es) = refl
 
--- ---- where two steps meet
+mosaic_of_some : (n : ℕ) → 0 < n → asks_of_mosaic n ≡ File path.Allsky ∷ []
+mosaic_of_some zero some = absurd (omega (arith, some))
+mosaic_of_some (suc n) some = refl
 
-pub leads : (a b : Option (List ℕ)) (P : List ℕ → List ℕ → Type 0) (V : List ℕ → Type 0) → Told a b P → FromAll b P V → IfSome a V
-leads None b P V told all = tt
-leads (Some x) None P V told all = absurd told
-leads (Some x) (Some y) P V told all = all x told
+pub some_ask : (ask : Ask) (more : List Ask) → ask ∷ more ≢ []
+some_ask ask more none = cc
 
-pub leads_more : (b c : Option (List ℕ)) (P Q R : List ℕ → List ℕ → Type 0) (V : List ℕ → Type 0) → ((bytes u w : List ℕ) → P bytes u → Q u w → R bytes w) → Told b c Q → FromAll c R V → FromAll b P V
-leads_more None c P Q R V both told all = tt
-leads_more (Some u) None P Q R V both told all = absurd told
-leads_more (Some u) (Some w) P Q R V both told all = λ bytes before. all bytes (both bytes u w before told)
+not_empty : {T : Type 0} (xs ys : List T) (y : T) → xs ++ (y ∷ ys) ≢ []
+not_empty [] ys y = λ none. cc
+not_empty (x ∷ xs) ys y = λ none. cc
 
-pub leads_here : (b : Option (List ℕ)) (P : List ℕ → List ℕ → Type 0) (W V : List ℕ → Type 0) → ((bytes u : List ℕ) → P bytes u → W u → V bytes) → IfSome b W → FromAll b P V
-leads_here None P W V both w = tt
-leads_here (Some u) P W V both w = λ bytes before. both bytes u before w
+-- ---- which bytes the stages lead over
 
 module _ (k : ℕ) (d : Description) (counted : Option ℕ) where
-  -- ---- from the cover on
+  pub properties_step : (bytes u w : List ℕ) → IsReply Pinned bytes (pinned_line k) u → TellsProperties k d counted u w → TellsSurvey k d counted bytes w
+  properties_step bytes u w pinned tells =
+      record { properties = tells.body; described = record { behind = u; pinned = pinned; reply = tells.reply; is = tells.is }; counts = tells.counts }
 
-  cover_step : (numbers : List ℕ) → is_too_large d.shape (length numbers) ≡ false → (bytes u w : List ℕ) → TellsSurvey k d counted bytes u → TellsCover k d numbers u w → TellsCovered k d counted numbers bytes w
+  pub cover_step : (numbers : List ℕ) → is_too_large d.shape (length numbers) ≡ false → (bytes u w : List ℕ) → TellsSurvey k d counted bytes u → TellsCover k d numbers u w → TellsCovered k d counted numbers bytes w
   cover_step numbers fits bytes u w tells covers = record {
     properties = tells.properties;
     covered = record { behind = u; described = tells.described; body = covers.body; reply = covers.reply; is = covers.is; fits = fits };
     counts = tells.counts;
   }
 
-  module _ (numbers : List ℕ) (b c : Option (List ℕ)) (fits : is_too_large d.shape (length numbers) ≡ false) (told : Told b c (TellsCover k d numbers)) where
-    pub survey_copied : {E : Type 0} (r : Result GenerationContent E) → IfOk r (λ made. FromAll c (TellsCovered k d counted numbers) (λ bytes. IsCopy bytes d (leaf_map made.leaves)))
-        → IfOk r (λ made. FromAll b (TellsSurvey k d counted) (λ bytes. IsCopy bytes d (leaf_map made.leaves)))
-    survey_copied (Ok made) all = leads_more b c (TellsSurvey k d counted) (TellsCover k d numbers) (TellsCovered k d counted numbers) (λ bytes. IsCopy bytes d (leaf_map made.leaves)) (cover_step numbers fits) told all
-    survey_copied (Err e) all = tt
-
-    pub survey_refused : {T : Type 0} (r : Result T MirrorRefusal) → IfErr r (λ refusal. FromAll c (TellsCovered k d counted numbers) (λ bytes. Refuses bytes refusal))
-        → IfErr r (λ refusal. FromAll b (TellsSurvey k d counted) (λ bytes. Refuses bytes refusal))
-    survey_refused (Ok made) all = tt
-    survey_refused (Err e) all = leads_more b c (TellsSurvey k d counted) (TellsCover k d numbers) (TellsCovered k d counted numbers) (λ bytes. Refuses bytes e) (cover_step numbers fits) told all
-
-    -- which leaves it has, where the copy goes on from the cover
-    pub survey_numbers : FromAll b (TellsSurvey k d counted) (λ bytes. TellsNumbers bytes d.shape numbers)
-    survey_numbers =
-        leads_more b c (TellsSurvey k d counted) (TellsCover k d numbers) (TellsCovered k d counted numbers) (λ bytes. TellsNumbers bytes d.shape numbers) (cover_step numbers fits) told (numbers_told c)
-      where
-        numbers_told : (o : Option (List ℕ)) → FromAll o (TellsCovered k d counted numbers) (λ bytes. TellsNumbers bytes d.shape numbers)
-        numbers_told None = tt
-        numbers_told (Some w) = λ bytes tells. record { k = k; properties = tells.properties; d = d; unread = w; covered = tells.covered; shape_is = refl }
-
-    pub survey_fits : {E : Type 0} (r : Result GenerationContent E) → IfOk r (λ made. keys_of made.leaves ≡ numbers) → IfOk r (λ made. is_too_large d.shape (length made.leaves) ≡ false)
-    survey_fits (Ok made) keys = ap (is_too_large d.shape) (sym (length-keys_of made.leaves) ∙ ap length keys) ∙ fits
-    survey_fits (Err e) keys = tt
-
-  pub cover_refused : (b : Option (List ℕ)) (refusal : MirrorRefusal) → IfSome b (λ bytes. RefusesAt (Survey k) 2 (WrongCover d) bytes refusal)
-      → FromAll b (TellsSurvey k d counted) (λ bytes. Refuses bytes refusal)
-  cover_refused b refusal =
-      leads_here b (TellsSurvey k d counted) (λ bytes. RefusesAt (Survey k) 2 (WrongCover d) bytes refusal) (λ bytes. Refuses bytes refusal)
-      (λ bytes u tells why. at_cover k tells.properties u d tells.described why)
-
-  -- ---- from the leaves on
-
-  leaves_step : (tiles : LeafTiles) (numbers : List ℕ) → keys_of tiles ≡ numbers → (bytes u w : List ℕ) → TellsCovered k d counted numbers bytes u → AreLeaves k d u (leaf_map tiles) w
+  pub leaves_step : (tiles : LeafTiles) (numbers : List ℕ) → keys_of tiles ≡ numbers → (bytes u w : List ℕ) → TellsCovered k d counted numbers bytes u → AreLeaves k d u (leaf_map tiles) w
       → TellsTiles k d counted (leaf_map tiles) bytes w
   leaves_step tiles numbers keys bytes u w tells are = record {
     properties = tells.properties;
@@ -108,145 +73,267 @@ module _ (k : ℕ) (d : Description) (counted : Option ℕ) where
     counts = tells.counts;
   }
 
-  module _ (tiles : LeafTiles) (numbers : List ℕ) (b c : Option (List ℕ)) (keys : keys_of tiles ≡ numbers) (told : Told b c (λ bytes rest. AreLeaves k d bytes (leaf_map tiles) rest)) where
-    on_leaves : (V : List ℕ → Type 0) → FromAll c (TellsTiles k d counted (leaf_map tiles)) V → FromAll b (TellsCovered k d counted numbers) V
-    on_leaves V all =
-        leads_more b c (TellsCovered k d counted numbers) (λ bytes rest. AreLeaves k d bytes (leaf_map tiles) rest) (TellsTiles k d counted (leaf_map tiles)) V (leaves_step tiles numbers keys) told all
+  is_mosaic : (tiles : LeafTiles) (body u w : List ℕ) → TellsMosaic k (length tiles) body u w → (0 < length tiles → body ≡ file_of d (leaf_map tiles) path.Allsky) → IsMosaicReply k d (leaf_map tiles) u w
+  is_mosaic [] body u w tells same = tells
+  is_mosaic (e ∷ es) body u w tells same = subst (λ file. IsReply (Survey k) u file w) (same (omega arith)) tells
 
-    pub leaves_copied : {E : Type 0} (r : Result GenerationContent E) → IfOk r (λ made. made ≡ record { conf = d; prefix = 0; leaves = tiles })
-        → OnOk r (FromAll c (TellsTiles k d counted (leaf_map tiles)) (λ bytes. IsCopy bytes d (leaf_map tiles)))
-        → IfOk r (λ made. FromAll b (TellsCovered k d counted numbers) (λ bytes. IsCopy bytes d (leaf_map made.leaves)))
-    leaves_copied (Ok made) is all =
-        let own : made.leaves ≡ tiles = ap (λ (g : GenerationContent). g.leaves) is in
-        subst (λ ls. FromAll b (TellsCovered k d counted numbers) (λ bytes. IsCopy bytes d (leaf_map ls))) (sym own) (on_leaves (λ bytes. IsCopy bytes d (leaf_map tiles)) all)
-    leaves_copied (Err e) is all = tt
+  pub mosaic_step : (tiles : LeafTiles) (body : List ℕ) → length tiles < 2 ^ 64 → counted ≡ Some (length tiles) → (0 < length tiles → body ≡ file_of d (leaf_map tiles) path.Allsky)
+      → (bytes u w : List ℕ) → TellsTiles k d counted (leaf_map tiles) bytes u → TellsMosaic k (length tiles) body u w → Compared bytes k d (leaf_map tiles) w
+  mosaic_step tiles body few same is bytes u w tells mosaic = record {
+    behind = u;
+    has = subst (λ p. HasLeaves bytes k p d (leaf_map tiles) u) ((properties_are d tiles tells.properties counted few tells.counts).0 same) tells.has;
+    mosaic = is_mosaic tiles body u w mosaic is;
+  }
 
-    pub leaves_refused : {T : Type 0} (r : Result T MirrorRefusal) → IfErr r (λ refusal. FromAll c (TellsTiles k d counted (leaf_map tiles)) (λ bytes. Refuses bytes refusal))
-        → IfErr r (λ refusal. FromAll b (TellsCovered k d counted numbers) (λ bytes. Refuses bytes refusal))
-    leaves_refused (Ok t) all = tt
-    leaves_refused (Err e) all = on_leaves (λ bytes. Refuses bytes e) all
+  pub last_step : (leaves : LeafMap) (body bytes u w : List ℕ) → Compared bytes k d leaves u → IsReply Any u body w → IsCopy bytes d leaves
+  last_step leaves body bytes u w compared last = record { k = k; behind = u; compared = compared; body = body; rest = w; reply = last }
 
-    pub leaves_keys : {E : Type 0} (r : Result GenerationContent E) → IfOk r (λ made. made ≡ record { conf = d; prefix = 0; leaves = tiles }) → IfOk r (λ made. keys_of made.leaves ≡ numbers)
-    leaves_keys (Ok made) is = ap (λ (g : GenerationContent). keys_of g.leaves) is ∙ keys
-    leaves_keys (Err e) is = tt
+  -- ---- why a copy stops at one of them
 
-  pub leaf_refused : (numbers : List ℕ) (b : Option (List ℕ)) (refusal : MirrorRefusal) → IfSome b (λ bytes. RefusesLeaf k d numbers bytes refusal)
-      → FromAll b (TellsCovered k d counted numbers) (λ bytes. Refuses bytes refusal)
-  leaf_refused numbers b refusal =
-      leads_here b (TellsCovered k d counted numbers) (λ bytes. RefusesLeaf k d numbers bytes refusal) (λ bytes. Refuses bytes refusal)
-      (λ bytes u tells why. at_leaf k tells.properties numbers u d tells.covered why)
+  numbers_told : (numbers bytes u : List ℕ) → TellsCovered k d counted numbers bytes u → TellsNumbers bytes d.shape numbers
+  numbers_told numbers bytes u tells = record { k = k; properties = tells.properties; d = d; unread = u; covered = tells.covered; shape_is = refl }
 
-  -- ---- from the mosaic on
+  cover_why : (refusal : MirrorRefusal) (bytes u : List ℕ) → TellsSurvey k d counted bytes u → RefusesAt (Survey k) 2 (WrongCover d) u refusal → Refuses bytes refusal
+  cover_why refusal bytes u tells why = at_cover k tells.properties u d tells.described why
 
-  module _ (tiles : LeafTiles) (b c : Option (List ℕ)) (few : length tiles < 2 ^ 64) (same : counted ≡ Some (length tiles)) (told : Told b c (IsMosaicReply k d (leaf_map tiles))) where
-    compared_step : (bytes u w : List ℕ) → TellsTiles k d counted (leaf_map tiles) bytes u → IsMosaicReply k d (leaf_map tiles) u w → Compared bytes k d (leaf_map tiles) w
-    compared_step bytes u w tells mosaic = record {
-      behind = u;
-      has = subst (λ p. HasLeaves bytes k p d (leaf_map tiles) u) ((properties_are d tiles tells.properties counted few tells.counts).0 same) tells.has;
-      mosaic = mosaic;
-    }
+  leaf_why : (numbers : List ℕ) (refusal : MirrorRefusal) (bytes u : List ℕ) → TellsCovered k d counted numbers bytes u → RefusesLeaf k d numbers u refusal → Refuses bytes refusal
+  leaf_why numbers refusal bytes u tells why = at_leaf k tells.properties numbers u d tells.covered why
 
-    on_files : (V : List ℕ → Type 0) → FromAll c (λ bytes rest. Compared bytes k d (leaf_map tiles) rest) V → FromAll b (TellsTiles k d counted (leaf_map tiles)) V
-    on_files V all =
-        leads_more b c (TellsTiles k d counted (leaf_map tiles)) (IsMosaicReply k d (leaf_map tiles)) (λ bytes rest. Compared bytes k d (leaf_map tiles) rest) V compared_step told all
+  mosaic_why : (tiles : LeafTiles) (refusal : MirrorRefusal) → 0 < length tiles → (bytes u : List ℕ) → TellsTiles k d counted (leaf_map tiles) bytes u
+      → RefusesReply (Survey k) (3 + length tiles) u refusal → Refuses bytes refusal
+  mosaic_why [] refusal some bytes u tells why = absurd (omega (arith, some))
+  mosaic_why (e ∷ es) refusal some bytes u tells why =
+      at_mosaic k tells.properties u d (leaf_map (e ∷ es)) tells.has
+      (inl (subst (λ n. RefusesReply (Survey k) (3 + n) u refusal) (sym (map_length (e ∷ es))) why))
 
-    pub files_copied : (body : List ℕ) (e : Option (List ℕ)) → Told c e (λ bytes rest. IsReply Any bytes body rest) → FromAll b (TellsTiles k d counted (leaf_map tiles)) (λ bytes. IsCopy bytes d (leaf_map tiles))
-    files_copied body e last = on_files (λ bytes. IsCopy bytes d (leaf_map tiles)) (ended c e last)
-      where
-        ended : (o p : Option (List ℕ)) → Told o p (λ bytes rest. IsReply Any bytes body rest) → FromAll o (λ bytes rest. Compared bytes k d (leaf_map tiles) rest) (λ bytes. IsCopy bytes d (leaf_map tiles))
-        ended None p last = tt
-        ended (Some y) None last = absurd last
-        ended (Some y) (Some z) last = λ bytes compared. record { k = k; behind = y; compared = compared; body = body; rest = z; reply = last }
+  -- why the files that were built are refused, by the properties and the mosaic that the peer sent
+  abbrev pub FilesWrong : LeafTiles → List ℕ → MirrorRefusal → Type 0
+  FilesWrong tiles body refusal = (properties : List ℕ) → Counts d properties counted
+      → ((refusal ≡ Differs path.Properties) × (properties ≢ file_of d (leaf_map tiles) path.Properties))
+      ⊎ (((0 < length tiles) × (refusal ≡ Differs path.Allsky) × (properties ≡ file_of d (leaf_map tiles) path.Properties) × (body ≢ file_of d (leaf_map tiles) path.Allsky))
+      ⊎ (refusal ≡ OutOfMemory))
 
-    pub unpin_refused : {T : Type 0} (count : ℕ) (r : Result T MirrorRefusal) → count ≡ length tiles → IfErr r (λ refusal. IfSome c (λ bytes. RefusesReply Any (unpin_request count) bytes refusal))
-        → IfErr r (λ refusal. FromAll b (TellsTiles k d counted (leaf_map tiles)) (λ bytes. Refuses bytes refusal))
-    unpin_refused count (Ok t) counts why = tt
-    unpin_refused count (Err refusal) counts why =
-        on_files (λ bytes. Refuses bytes refusal)
-        (leads_here c (λ bytes rest. Compared bytes k d (leaf_map tiles) rest) (λ bytes. RefusesReply Any (unpin_request count) bytes refusal) (λ bytes. Refuses bytes refusal)
-        (λ bytes u compared told. at_unpin k u d (leaf_map tiles) compared (subst (λ n. RefusesReply Any n u refusal) (ap unpin_request counts ∙ last_is tiles) told)) why)
+  files_why : (tiles : LeafTiles) (body : List ℕ) (refusal : MirrorRefusal) → FilesWrong tiles body refusal → (bytes u w : List ℕ) → TellsTiles k d counted (leaf_map tiles) bytes u
+      → TellsMosaic k (length tiles) body u w → Refuses bytes refusal
+  files_why [] body refusal wrong bytes u w tells mosaic = at_mosaic k tells.properties u d [] tells.has (none (wrong tells.properties tells.counts))
+    where
+      none : ((refusal ≡ Differs path.Properties) × (tells.properties ≢ file_of d [] path.Properties))
+          ⊎ (((0 < 0) × (refusal ≡ Differs path.Allsky) × (tells.properties ≡ file_of d [] path.Properties) × (body ≢ file_of d [] path.Allsky)) ⊎ (refusal ≡ OutOfMemory))
+          → RefusesFiles k tells.properties d [] u refusal
+      none (inl properties) = inl properties
+      none (inr (inl other)) = absurd (omega (arith, other.0))
+      none (inr (inr memory)) = inr memory
+  files_why (e ∷ es) body refusal wrong bytes u w tells mosaic = at_mosaic k tells.properties u d (leaf_map (e ∷ es)) tells.has (some (wrong tells.properties tells.counts))
+    where
+      leaves : LeafMap
+      leaves = leaf_map (e ∷ es)
 
-  pub files_refused : (leaves : LeafMap) (b : Option (List ℕ)) (refusal : MirrorRefusal)
-      → IfSome b (λ bytes. (properties : List ℕ) → Counts d properties counted → RefusesFiles k properties d leaves bytes refusal) → FromAll b (TellsTiles k d counted leaves) (λ bytes. Refuses bytes refusal)
-  files_refused leaves b refusal =
-      leads_here b (TellsTiles k d counted leaves) (λ bytes. (properties : List ℕ) → Counts d properties counted → RefusesFiles k properties d leaves bytes refusal) (λ bytes. Refuses bytes refusal)
-      (λ bytes u tells why. at_mosaic k tells.properties u d leaves tells.has (why tells.properties tells.counts))
+      some : ((refusal ≡ Differs path.Properties) × (tells.properties ≢ file_of d leaves path.Properties))
+          ⊎ (((0 < length (e ∷ es)) × (refusal ≡ Differs path.Allsky) × (tells.properties ≡ file_of d leaves path.Properties) × (body ≢ file_of d leaves path.Allsky)) ⊎ (refusal ≡ OutOfMemory))
+          → RefusesAt (Survey k) (3 + length leaves) (WrongMosaic tells.properties d leaves) u refusal
+      some (inl properties) = inr (record { body = body; rest = w; reply = mosaic; wrong = inl properties })
+      some (inr (inl other)) = inr (record { body = body; rest = w; reply = mosaic; wrong = inr (other.1, other.2, other.3) })
+      some (inr (inr memory)) = inl (rw memory tt)
 
-  -- ---- from the start
+  unpin_why : (tiles : LeafTiles) (refusal : MirrorRefusal) (bytes u : List ℕ) → Compared bytes k d (leaf_map tiles) u → RefusesReply Any (unpin_request (length tiles)) u refusal → Refuses bytes refusal
+  unpin_why tiles refusal bytes u compared why = at_unpin k u d (leaf_map tiles) compared (subst (λ n. RefusesReply Any n u refusal) (last_is tiles) why)
 
-  module _ (held : List ℕ) (left b : Option (List ℕ)) (none : length held ≡ 0) (told : Told (prepend_known held left) b (TellsSurvey k d counted)) where
-    pub start_copied : {E : Type 0} (r : Result GenerationContent E) → IfOk r (λ made. made.conf ≡ d) → IfOk r (λ made. FromAll b (TellsSurvey k d counted) (λ bytes. IsCopy bytes d (leaf_map made.leaves)))
-        → IfOk r (λ made. IfSome left (λ bytes. IsCopy bytes made.conf (leaf_map made.leaves)))
-    start_copied (Ok made) is all =
-        from_start held left (λ bytes. IsCopy bytes made.conf (leaf_map made.leaves)) none
-        (subst (λ x. IfSome (prepend_known held left) (λ bytes. IsCopy bytes x (leaf_map made.leaves))) (sym is)
-        (leads (prepend_known held left) b (TellsSurvey k d counted) (λ bytes. IsCopy bytes d (leaf_map made.leaves)) told all))
-    start_copied (Err e) is all = tt
+-- ---- how many leaves
 
-    pub start_refused : {T : Type 0} (r : Result T MirrorRefusal) → IfErr r (λ refusal. FromAll b (TellsSurvey k d counted) (λ bytes. Refuses bytes refusal)) → IfErr r (λ refusal. IfSome left (λ bytes. Refuses bytes refusal))
-    start_refused (Ok t) all = tt
-    start_refused (Err e) all = from_start held left (λ bytes. Refuses bytes e) none (leads (prepend_known held left) b (TellsSurvey k d counted) (λ bytes. Refuses bytes e) told all)
+or_false : (a b : Bool) → a || b ≡ false → a ≡ false
+or_false true b is = absurd cc
+or_false false b is = refl
 
-    pub start_steps : {T E : Type 0} (r : Result T E) (steps steps' : ℕ)
-        → OnErr r ((steps' ≡ steps) ⊎ (numbers : List ℕ) × FromAll b (TellsSurvey k d counted) (λ bytes. TellsNumbers bytes d.shape numbers) × (steps' ≤ steps + (length numbers + tiles_above d.shape (bare numbers))))
-        → OnErr r ((steps' ≡ steps) ⊎ StepsFit left steps steps')
-    start_steps (Ok t) steps steps' all = tt
-    start_steps (Err e) steps steps' (inl same) = inl same
-    start_steps (Err e) steps steps' (inr all) = inr (record {
-      shape = d.shape;
-      numbers = all.0;
-      told = from_start held left (λ bytes. TellsNumbers bytes d.shape all.0) none (leads (prepend_known held left) b (TellsSurvey k d counted) (λ bytes. TellsNumbers bytes d.shape all.0) told all.1);
-      few = all.2;
-    })
+pub fits_most : (shape : PyramidShape) (n : ℕ) → is_too_large shape n ≡ false → n ≤ 65000
+fits_most shape n fits =
+    let no : nat_lt 65000 n ≡ false = or_false (nat_lt 65000 n) _ fits in
+    grind (arith, nat_tests)
 
--- ---- all requests
+-- ---- the mosaic
 
-later_are : (top : ℕ) (numbers : List ℕ) → sent (later_asks top numbers) ≡ sent (map (leaf_ask top) numbers) ++ (sent (mosaic_asks numbers) ++ request_bytes Unpin)
-later_are top numbers =
-    let l = sent (map (leaf_ask top) numbers) in
-    let s = sent (mosaic_asks numbers) in
-    let u = request_bytes Unpin in
-    flat_map-append request_bytes (map (leaf_ask top) numbers ++ mosaic_asks numbers) (Unpin ∷ [])
-    ∙ (λ i. flat_map-append request_bytes (map (leaf_ask top) numbers) (mosaic_asks numbers) i ++ append-nil u i)
-    ∙ append_assoc l s u
+pub mosaic_reached : {S K : Type 0} (told_source : source.Ghosts S) (told_sink : sink.Ghosts K) (k : ℕ) (own : Ask) (leaves : ℕ) (x y : Peer S K) → 0 < leaves → own ≡ File path.Allsky
+    → IsExchanged told_source told_sink own (Survey k) (body_of y) (talk x) (talk y) → Told (unread_at told_source x) (unread_at told_source y) (λ bytes rest. IsReply (Survey k) bytes (body_of y) rest)
+    → Goes told_source told_sink x y → Reaches told_source told_sink k (asks_of_mosaic leaves) (TellsMosaic k leaves (body_of y)) x y
+mosaic_reached told_source told_sink k own zero x y some same exchanged told goes = absurd (omega (arith, some))
+mosaic_reached told_source told_sink k own (suc leaves) x y some same exchanged told goes =
+    one_reached told_source told_sink k (File path.Allsky) own (Survey k) x y same refl (TellsMosaic k (suc leaves) (body_of y)) exchanged told goes
 
--- those of the last stages
-pub later_sent : (top : ℕ) (tiles : LeafTiles) (numbers : List ℕ) (a b c : Option (List ℕ)) → keys_of tiles ≡ numbers → Appends a b (sent (map (leaf_ask top) numbers))
-    → Appends b c (sent (mosaic_asks (keys_of tiles)) ++ request_bytes Unpin) → Appends a c (sent (later_asks top numbers))
-later_sent top tiles numbers a b c keys first second =
-    let l = sent (map (leaf_ask top) numbers) in
-    let u = request_bytes Unpin in
-    let whole : l ++ (sent (mosaic_asks numbers) ++ u) ≡ sent (later_asks top numbers) = sym (later_are top numbers) in
-    subst (Appends a c) (ap (λ ns. l ++ (sent (mosaic_asks ns) ++ u)) keys ∙ whole) (Appends-trans a b c _ _ first second)
+-- ---- why the files that were built are refused
 
-pub survey_sent : {E : Type 0} (top : ℕ) (numbers : List ℕ) (a b c : Option (List ℕ)) (r : Result GenerationContent E) → IfOk r (λ made. keys_of made.leaves ≡ numbers)
-    → Appends a b (request_bytes (File path.Moc)) → OnOk r (Appends b c (sent (later_asks top numbers)))
-    → IfOk r (λ made. Appends a c (request_bytes (File path.Moc) ++ sent (later_asks top (keys_of made.leaves))))
-survey_sent top numbers a b c (Ok made) keys first second =
-    subst (λ ns. Appends a c (request_bytes (File path.Moc) ++ sent (later_asks top ns))) (sym keys) (Appends-trans a b c _ _ first second)
-survey_sent top numbers a b c (Err e) keys first second = tt
+pub built_wrong : (k : ℕ) (d : Description) (counted : Option ℕ) (tiles : LeafTiles) (body : List ℕ) (why : MirrorRefusal) → length tiles < 2 ^ 64
+    → ((why ≡ Differs path.Properties) × (counted ≢ Some (length tiles))) ⊎ (why ≡ OutOfMemory) → FilesWrong k d counted tiles body why
+built_wrong k d counted tiles body why few (inl other) = λ properties counts.
+    inl (other.0, λ same. other.1 ((properties_are d tiles properties counted few counts).1 same))
+built_wrong k d counted tiles body why few (inr memory) = λ properties counts. inr (inr memory)
 
-pub start_sent : {E : Type 0} (d : Description) (a b c : Option (List ℕ)) (r : Result GenerationContent E) → IfOk r (λ made. made.conf ≡ d)
-    → Appends a b (request_bytes Pin ++ request_bytes (File path.Properties))
-    → IfOk r (λ made. Appends b c (request_bytes (File path.Moc) ++ sent (later_asks d.shape.top (keys_of made.leaves))))
-    → IfOk r (λ made. Appends a c (mirror_requests made.conf.shape.top (keys_of made.leaves)))
-unfolding mirror_requests
-start_sent d a b c (Ok made) is first second =
-    let p = request_bytes Pin in
-    let q = request_bytes (File path.Properties) in
-    let rest = request_bytes (File path.Moc) ++ sent (later_asks d.shape.top (keys_of made.leaves)) in
-    let whole : (p ++ q) ++ rest ≡ mirror_requests d.shape.top (keys_of made.leaves) = append_assoc p q rest in
-    subst (λ (x : Description). Appends a c (mirror_requests x.shape.top (keys_of made.leaves))) (sym is) (subst (Appends a c) whole (Appends-trans a b c _ _ first second))
-start_sent d a b c (Err e) is first second = tt
+pub mosaic_wrong : (k : ℕ) (d : Description) (counted : Option ℕ) (tiles : LeafTiles) (made : GenerationContent) (body : List ℕ) (why : MirrorRefusal) → length tiles < 2 ^ 64
+    → made ≡ record { conf = d; prefix = 0; leaves = tiles } → counted ≡ Some (length tiles)
+    → (0 < length made.leaves) × (((why ≡ Differs path.Allsky) × (body ≢ file_of made.conf (leaf_map made.leaves) path.Allsky)) ⊎ (why ≡ OutOfMemory)) → FilesWrong k d counted tiles body why
+mosaic_wrong k d counted tiles made body why few is told (some, inl other) = λ properties counts.
+    inr (inl (
+      subst (λ (g : GenerationContent). 0 < length g.leaves) is some,
+      other.0,
+      (properties_are d tiles properties counted few counts).0 told,
+      subst (λ (g : GenerationContent). body ≢ file_of g.conf (leaf_map g.leaves) path.Allsky) is other.1,
+    ))
+mosaic_wrong k d counted tiles made body why few is told (some, inr memory) = λ properties counts. inr (inr memory)
 
-pub start_fits : {E : Type 0} (d : Description) (r : Result GenerationContent E) → IfOk r (λ made. made.conf ≡ d) → IfOk r (λ made. is_too_large d.shape (length made.leaves) ≡ false)
-    → IfOk r (λ made. is_too_large made.conf.shape (length made.leaves) ≡ false)
-start_fits d (Ok made) is fits = subst (λ (x : Description). is_too_large x.shape (length made.leaves) ≡ false) (sym is) fits
-start_fits d (Err e) is fits = tt
+pub built_of_body : (why : MirrorRefusal) (P : Type 0) → ((why ≡ Differs path.Properties) × P) ⊎ (why ≡ OutOfMemory) → IsOfBody why
+built_of_body why P (inl other) = rw other.0 tt
+built_of_body why P (inr memory) = rw memory tt
 
-pub start_few : {E : Type 0} (d : Description) (r : Result GenerationContent E) (steps steps' : ℕ) → IfOk r (λ made. made.conf ≡ d)
-    → IfOk r (λ made. steps' ≤ steps + (length made.leaves + tiles_above d.shape (leaf_map made.leaves)))
-    → IfOk r (λ made. steps' ≤ steps + (length made.leaves + tiles_above made.conf.shape (leaf_map made.leaves)))
-start_few d (Ok made) steps steps' is few =
-    subst (λ (x : Description). steps' ≤ steps + (length made.leaves + tiles_above x.shape (leaf_map made.leaves))) (sym is) few
-start_few d (Err e) steps steps' is few = tt
+pub mosaic_of_body : (why : MirrorRefusal) (Q P : Type 0) → Q × (((why ≡ Differs path.Allsky) × P) ⊎ (why ≡ OutOfMemory)) → IsOfBody why
+mosaic_of_body why Q P (some, inl other) = rw other.0 tt
+mosaic_of_body why Q P (some, inr memory) = rw memory tt
+
+-- the mosaic of the generation that was built is that of its leaves
+pub mosaic_is : (d : Description) (tiles : LeafTiles) (made : GenerationContent) (body : List ℕ) → made ≡ record { conf = d; prefix = 0; leaves = tiles }
+    → (0 < length made.leaves → body ≡ file_of made.conf (leaf_map made.leaves) path.Allsky) → 0 < length tiles → body ≡ file_of d (leaf_map tiles) path.Allsky
+mosaic_is d tiles made body is same = subst (λ (g : GenerationContent). 0 < length g.leaves → body ≡ file_of g.conf (leaf_map g.leaves) path.Allsky) is same
+
+-- ---- the stages, one after another
+
+abbrev first_asks : List Ask
+first_asks = Pin ∷ File path.Properties ∷ []
+
+abbrev cover_asks : List Ask
+cover_asks = Pin ∷ File path.Properties ∷ File path.Moc ∷ []
+
+module _ {S K : Type 0} (told_source : source.Ghosts S) (told_sink : sink.Ghosts K) (k : ℕ) (x : Peer S K) where
+  -- some of these requests have replies, and one at least has none
+  abbrev Short : List Ask → (y : Peer S K) → MirrorRefusal → Type 0
+  Short all y why = (r : IsRefusedIn told_source told_sink k all (λ bytes. Refuses bytes why) x y why) × (r.stops.rest ≢ [])
+
+  refused_as : (top : ℕ) (leaves : List ℕ) (all : List Ask) → all ≡ asks top leaves → (y : Peer S K) (why : MirrorRefusal) → Short all y why → IsRefused told_source told_sink x y why
+  refused_as top leaves all is y why short =
+      let same : Short (asks top leaves) y why = subst (λ a. Short a y why) is short in
+      record { k = k; top = top; leaves = leaves; stopped = same.0; short = same.1 }
+
+  -- one request more stands behind those that were begun
+  short_before : (some : List Ask) (ask : Ask) (more : List Ask) (y : Peer S K) (why : MirrorRefusal) → IsRefusedIn told_source told_sink k some (λ bytes. Refuses bytes why) x y why
+      → Short (some ++ (ask ∷ more)) y why
+  short_before some ask more y why first = (
+    stopped_more told_source told_sink k some (ask ∷ more) (λ bytes. Refuses bytes why) (λ bytes. Refuses bytes why) x y why (λ p r. r) first,
+    not_empty first.stops.rest more ask,
+  )
+
+  pub stops_at_description : (y : Peer S K) (why : MirrorRefusal) → IsRefusedIn told_source told_sink k first_asks (λ bytes. Refuses bytes why) x y why → IsRefused told_source told_sink x y why
+  stops_at_description y why first = refused_as 0 [] (asks 0 []) refl y why (short_before first_asks (File path.Moc) (Unpin ∷ []) y why first)
+
+module _ {S K : Type 0} (told_source : source.Ghosts S) (told_sink : sink.Ghosts K) (k : ℕ) (d : Description) (counted : Option ℕ) (x : Peer S K) where
+  pub stops_at_cover : (y z : Peer S K) (why : MirrorRefusal) → Reaches told_source told_sink k first_asks (TellsSurvey k d counted) x y
+      → IsRefusedIn told_source told_sink k (File path.Moc ∷ []) (λ bytes. RefusesAt (Survey k) 2 (WrongCover d) bytes why) y z why → IsRefused told_source told_sink x z why
+  stops_at_cover y z why before last =
+      refused_as told_source told_sink k x 0 [] (asks 0 []) refl z why
+      (short_before told_source told_sink k x cover_asks Unpin [] z why
+      (stopped_then told_source told_sink k first_asks (File path.Moc ∷ []) (TellsSurvey k d counted) (λ bytes. RefusesAt (Survey k) 2 (WrongCover d) bytes why) (λ bytes. Refuses bytes why) x y z why
+      (cover_why k d counted why) before last))
+
+  pub reaches_cover : (numbers : List ℕ) (y z : Peer S K) → is_too_large d.shape (length numbers) ≡ false → Reaches told_source told_sink k first_asks (TellsSurvey k d counted) x y
+      → Reaches told_source told_sink k (File path.Moc ∷ []) (TellsCover k d numbers) y z → Reaches told_source told_sink k cover_asks (TellsCovered k d counted numbers) x z
+  reaches_cover numbers y z fits before last =
+      reaches_then told_source told_sink k first_asks (File path.Moc ∷ []) (TellsSurvey k d counted) (TellsCover k d numbers) (TellsCovered k d counted numbers) x y z (cover_step k d counted numbers fits) before last
+
+  pub told_numbers : (numbers : List ℕ) (y : Peer S K) → Reaches told_source told_sink k cover_asks (TellsCovered k d counted numbers) x y → IfSome (unread_at told_source x) (λ bytes. TellsNumbers bytes d.shape numbers)
+  told_numbers numbers y reached = by (unread_at told_source x) (unread_at told_source y) reached.told
+    where
+      by : (a b : Option (List ℕ)) → Told a b (TellsCovered k d counted numbers) → IfSome a (λ bytes. TellsNumbers bytes d.shape numbers)
+      by None b told = tt
+      by (Some p) None told = absurd told
+      by (Some p) (Some q) told = numbers_told k d counted numbers p q told
+
+  module _ (numbers : List ℕ) where
+    abbrev leaf_asks : List Ask
+    leaf_asks = Pin ∷ File path.Properties ∷ File path.Moc ∷ map (leaf_ask d.shape.top) numbers
+
+    all_asks : leaf_asks ++ (mosaic_asks numbers ++ (Unpin ∷ [])) ≡ asks d.shape.top numbers
+    all_asks = ap (λ r. Pin ∷ File path.Properties ∷ File path.Moc ∷ r) (sym (append_assoc (map (leaf_ask d.shape.top) numbers) (mosaic_asks numbers) (Unpin ∷ [])))
+
+    -- a request stands behind those of the leaves
+    one_behind : (ns : List ℕ) → (ask : Ask) × (more : List Ask) × (mosaic_asks ns ++ (Unpin ∷ []) ≡ ask ∷ more)
+    one_behind [] = (Unpin, [], refl)
+    one_behind (n ∷ ns) = (File path.Allsky, Unpin ∷ [], refl)
+
+    pub stops_at_leaves : (y z : Peer S K) (why : MirrorRefusal) → Reaches told_source told_sink k cover_asks (TellsCovered k d counted numbers) x y
+        → IsRefusedIn told_source told_sink k (map (leaf_ask d.shape.top) numbers) (λ bytes. RefusesLeaf k d numbers bytes why) y z why → IsRefused told_source told_sink x z why
+    stops_at_leaves y z why before last =
+        let behind = one_behind numbers in
+        refused_as told_source told_sink k x d.shape.top numbers (leaf_asks ++ (behind.0 ∷ behind.1)) (ap (λ r. leaf_asks ++ r) (sym behind.2) ∙ all_asks) z why
+        (short_before told_source told_sink k x leaf_asks behind.0 behind.1 z why
+        (stopped_then told_source told_sink k cover_asks (map (leaf_ask d.shape.top) numbers) (TellsCovered k d counted numbers) (λ bytes. RefusesLeaf k d numbers bytes why) (λ bytes. Refuses bytes why) x y z why
+        (leaf_why k d counted numbers why) before last))
+
+    module _ (tiles : LeafTiles) (keys : keys_of tiles ≡ numbers) where
+      pub reaches_leaves : (y z : Peer S K) → Reaches told_source told_sink k cover_asks (TellsCovered k d counted numbers) x y
+          → Reaches told_source told_sink k (map (leaf_ask d.shape.top) numbers) (λ bytes rest. AreLeaves k d bytes (leaf_map tiles) rest) y z
+          → Reaches told_source told_sink k leaf_asks (TellsTiles k d counted (leaf_map tiles)) x z
+      reaches_leaves y z before last =
+          reaches_then told_source told_sink k cover_asks (map (leaf_ask d.shape.top) numbers) (TellsCovered k d counted numbers) (λ bytes rest. AreLeaves k d bytes (leaf_map tiles) rest) (TellsTiles k d counted (leaf_map tiles)) x y z
+          (leaves_step k d counted tiles numbers keys) before last
+
+      mosaic_same : asks_of_mosaic (length tiles) ≡ mosaic_asks numbers
+      mosaic_same = mosaic_by_count tiles ∙ ap mosaic_asks keys
+
+      pub stops_at_mosaic : (y z : Peer S K) (why : MirrorRefusal) → Reaches told_source told_sink k leaf_asks (TellsTiles k d counted (leaf_map tiles)) x y
+          → (0 < length tiles) × IsRefusedIn told_source told_sink k (File path.Allsky ∷ []) (λ bytes. RefusesReply (Survey k) (3 + length tiles) bytes why) y z why → IsRefused told_source told_sink x z why
+      stops_at_mosaic y z why before last =
+          let one : File path.Allsky ∷ [] ≡ mosaic_asks numbers = sym (mosaic_of_some (length tiles) last.0) ∙ mosaic_same in
+          refused_as told_source told_sink k x d.shape.top numbers ((leaf_asks ++ (File path.Allsky ∷ [])) ++ (Unpin ∷ []))
+          (append_assoc leaf_asks (File path.Allsky ∷ []) (Unpin ∷ []) ∙ ap (λ r. leaf_asks ++ (r ++ (Unpin ∷ []))) one ∙ all_asks) z why
+          (short_before told_source told_sink k x (leaf_asks ++ (File path.Allsky ∷ [])) Unpin [] z why
+          (stopped_then told_source told_sink k leaf_asks (File path.Allsky ∷ []) (TellsTiles k d counted (leaf_map tiles)) (λ bytes. RefusesReply (Survey k) (3 + length tiles) bytes why) (λ bytes. Refuses bytes why) x y z why
+          (mosaic_why k d counted tiles why last.0) before last.1))
+
+      -- what came up to the mosaic, where its reply has this body
+      abbrev pub Came : List ℕ → List ℕ → List ℕ → Type 0
+      Came body bytes rest = (u : List ℕ) × TellsTiles k d counted (leaf_map tiles) bytes u × TellsMosaic k (length tiles) body u rest
+
+      abbrev files_asks : List Ask
+      files_asks = leaf_asks ++ mosaic_asks numbers
+
+      pub reaches_files : (body : List ℕ) (y z : Peer S K) → Reaches told_source told_sink k leaf_asks (TellsTiles k d counted (leaf_map tiles)) x y
+          → Reaches told_source told_sink k (asks_of_mosaic (length tiles)) (TellsMosaic k (length tiles) body) y z → Reaches told_source told_sink k files_asks (Came body) x z
+      reaches_files body y z before last =
+          subst (λ a. Reaches told_source told_sink k (leaf_asks ++ a) (Came body) x z) mosaic_same
+          (reaches_then told_source told_sink k leaf_asks (asks_of_mosaic (length tiles)) (TellsTiles k d counted (leaf_map tiles)) (TellsMosaic k (length tiles) body) (Came body) x y z
+          (λ p q r tells mosaic. (q, tells, mosaic)) before last)
+
+      whole_asks : files_asks ++ (Unpin ∷ []) ≡ asks d.shape.top numbers
+      whole_asks = append_assoc leaf_asks (mosaic_asks numbers) (Unpin ∷ []) ∙ all_asks
+
+      pub stops_at_files : (body : List ℕ) (y : Peer S K) (why : MirrorRefusal) → IsOfBody why → FilesWrong k d counted tiles body why → Reaches told_source told_sink k files_asks (Came body) x y
+          → IsRefused told_source told_sink x y why
+      stops_at_files body y why of_body wrong before =
+          refused_as told_source told_sink k x d.shape.top numbers (files_asks ++ (Unpin ∷ [])) whole_asks y why
+          (short_before told_source told_sink k x files_asks Unpin [] y why (refused_here told_source told_sink k files_asks (Came body) (λ bytes. Refuses bytes why) x y why of_body (by (unread_at told_source x) (unread_at told_source y) before.told) before))
+        where
+          by : (a b : Option (List ℕ)) → Told a b (Came body) → IfSome a (λ bytes. Refuses bytes why)
+          by None b told = tt
+          by (Some p) None told = absurd told
+          by (Some p) (Some q) told = files_why k d counted tiles body why wrong p told.0 q told.1 told.2
+
+      module _ (body : List ℕ) (few : length tiles < 2 ^ 64) (same : counted ≡ Some (length tiles)) (is : 0 < length tiles → body ≡ file_of d (leaf_map tiles) path.Allsky) (y z : Peer S K)
+          (before : Reaches told_source told_sink k files_asks (Came body) x y) where
+        compared : Reaches told_source told_sink k files_asks (λ bytes rest. Compared bytes k d (leaf_map tiles) rest) x y
+        compared = record {
+          conversed = before.conversed;
+          told = told_so (unread_at told_source x) (unread_at told_source y) (Came body) (λ bytes rest. Compared bytes k d (leaf_map tiles) rest)
+              (λ p r came. mosaic_step k d counted tiles body few same is p came.0 r came.1 came.2) before.told;
+          goes = before.goes;
+        }
+
+        pub stops_at_unpin : (why : MirrorRefusal) → (r : IsRefusedIn told_source told_sink k (Unpin ∷ []) (λ bytes. RefusesReply Any (unpin_request (length tiles)) bytes why) y z why) → r.stops.rest ≢ []
+            → IsRefused told_source told_sink x z why
+        stops_at_unpin why last short =
+            refused_as told_source told_sink k x d.shape.top numbers (files_asks ++ (Unpin ∷ [])) whole_asks z why (
+              stopped_then told_source told_sink k files_asks (Unpin ∷ []) (λ bytes rest. Compared bytes k d (leaf_map tiles) rest) (λ bytes. RefusesReply Any (unpin_request (length tiles)) bytes why) (λ bytes. Refuses bytes why) x y z why
+                  (unpin_why k d counted tiles why) compared last,
+              short,
+            )
+
+        pub copied_whole : (reply : List ℕ) → Reaches told_source told_sink k (Unpin ∷ []) (λ bytes rest. IsReply Any bytes reply rest) y z
+            → Reaches told_source told_sink k (asks d.shape.top numbers) (λ bytes rest. IsCopy bytes d (leaf_map tiles)) x z
+        copied_whole reply last =
+            subst (λ a. Reaches told_source told_sink k a (λ bytes rest. IsCopy bytes d (leaf_map tiles)) x z) whole_asks
+            (reaches_then told_source told_sink k files_asks (Unpin ∷ []) (λ bytes rest. Compared bytes k d (leaf_map tiles) rest) (λ bytes rest. IsReply Any bytes reply rest) (λ bytes rest. IsCopy bytes d (leaf_map tiles)) x y z
+            (λ p q r was last'. last_step k d counted (leaf_map tiles) reply p q r was last') compared last)

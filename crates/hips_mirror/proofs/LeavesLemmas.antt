@@ -29,7 +29,8 @@ use Rattle.shelf_io.proofs.LeafLemmas.{fits_put, higher_put}
 use Rattle.hips_mirror.specs.declared.refusal.MirrorRefusal.{MirrorRefusal}
 use Rattle.hips_mirror.specs.declared.refusal.MirrorRefusal.TheVariants.{Leaf}
 use Rattle.hips_mirror.specs.Mirror.{AreLeaves, WrongLeaf, RefusesAt, RefusesLeaf}
-use Rattle.hips_mirror.specs.Stages.{Told, TellsLeaf, PutsLeaf, RefusedBy, sent}
+use Rattle.mirror_frame.specs.Peer.{Told}
+use Rattle.hips_mirror.specs.Stages.{TellsLeaf, PutsLeaf, RefusedBy}
 use Rattle.hips_mirror.proofs.ToldLemmas.{told_then, told_so, refused_then}
 
 -- ---- the map of the tiles
@@ -42,56 +43,16 @@ map_length tiles = sym (length-keys_of (leaf_map tiles)) ∙ ap length (map_keys
 
 -- ---- one leaf more
 
-leaves_more : (k : ℕ) (d : Description) (leaves : LeafMap) (leaf : ℕ × List ℤ) (bytes mid rest body : List ℕ) → AreLeaves k d bytes leaves mid
+pub leaves_more : (k : ℕ) (d : Description) (leaves : LeafMap) (leaf : ℕ × List ℤ) (bytes mid rest body : List ℕ) → AreLeaves k d bytes leaves mid
     → IsReply (Survey k) mid body rest → reads d body ≡ Ok leaf.1 → AreLeaves k d bytes (leaves ++ leaf ∷ []) rest
 leaves_more k d [] leaf bytes mid rest body are reply read = (body, rest, subst (λ u. IsReply (Survey k) u body rest) are reply, read, refl)
 leaves_more k d (first ∷ leaves) leaf bytes mid rest body are reply read =
     (are.0, are.1, are.2, are.3, leaves_more k d leaves leaf are.1 mid rest body are.4 reply read)
 
-pub leaves_told : (k : ℕ) (d : Description) (leaves leaves' : LeafMap) (a b c : Option (List ℕ)) → Told a b (λ bytes mid. AreLeaves k d bytes leaves mid)
-    → Told b c (TellsLeaf k d leaves leaves') → Told a c (λ bytes rest. AreLeaves k d bytes leaves' rest)
-leaves_told k d leaves leaves' a b c =
-    told_then a b c (λ bytes mid. AreLeaves k d bytes leaves mid) (TellsLeaf k d leaves leaves') (λ bytes rest. AreLeaves k d bytes leaves' rest)
-    (λ x y z are tells. subst (λ ls. AreLeaves k d x ls z) (sym tells.put) (leaves_more k d leaves tells.leaf x y z tells.body are tells.reply tells.reads))
-
 -- none was read
 pub none_told : (k : ℕ) (d : Description) (a : Option (List ℕ)) → Told a a (λ bytes rest. AreLeaves k d bytes [] rest)
 none_told k d None = tt
 none_told k d (Some x) = refl
-
-pub sent_more : (top : ℕ) (numbers : List ℕ) (i : ℕ) → i < length numbers
-    → sent (map (leaf_ask top) (take (i + 1) numbers)) ≡ sent (map (leaf_ask top) (take i numbers)) ++ request_bytes (leaf_ask top (get_or numbers i 0))
-sent_more top numbers i h =
-    ap (λ ns. sent (map (leaf_ask top) ns)) (take_more numbers i 0 h)
-    ∙ ap sent (map-append (leaf_ask top) (take i numbers) (get_or numbers i 0 ∷ []))
-    ∙ flat_map-append request_bytes (map (leaf_ask top) (take i numbers)) (leaf_ask top (get_or numbers i 0) ∷ [])
-    ∙ ap (λ bs. sent (map (leaf_ask top) (take i numbers)) ++ bs) (append-nil (request_bytes (leaf_ask top (get_or numbers i 0))))
-
-pub sent_then : (top : ℕ) (numbers : List ℕ) (i : ℕ) → i < length numbers → (a b c : Option (List ℕ)) → Appends a b (sent (map (leaf_ask top) (take i numbers)))
-    → Appends b c (request_bytes (leaf_ask top (get_or numbers i 0))) → Appends a c (sent (map (leaf_ask top) (take (i + 1) numbers)))
-sent_then top numbers i h a b c first second =
-    subst (Appends a c) (sym (sent_more top numbers i h)) (Appends-trans a b c _ _ first second)
-
--- ---- the leaf that is refused
-
-pub refused_leaf : (k : ℕ) (d : Description) (numbers : List ℕ) (tiles : LeafTiles) (i number : ℕ) (a b : Option (List ℕ)) (refusal : MirrorRefusal)
-    → keys_of tiles ≡ take i numbers → length tiles ≡ i → slice_get numbers i ≡ Some number
-    → Told a b (λ bytes mid. AreLeaves k d bytes (leaf_map tiles) mid)
-    → IfSome b (λ bytes. RefusesAt (Survey k) (3 + length tiles) (WrongLeaf d number) bytes refusal)
-    → IfSome a (λ bytes. RefusesLeaf k d numbers bytes refusal)
-refused_leaf k d numbers tiles i number a b refusal keys count at =
-    let long : length (leaf_map tiles) ≡ i = map_length tiles ∙ count in
-    refused_then a b (λ bytes mid. AreLeaves k d bytes (leaf_map tiles) mid) (λ bytes. RefusesAt (Survey k) (3 + length tiles) (WrongLeaf d number) bytes refusal)
-    (λ bytes. RefusesLeaf k d numbers bytes refusal)
-    (λ x y are refused. record {
-      leaves = leaf_map tiles;
-      behind = y;
-      first = map_keys tiles ∙ keys ∙ ap (λ n. take n numbers) (sym long);
-      are = are;
-      number = number;
-      next = ap (slice_get numbers) long ∙ at;
-      refused = subst (λ n. RefusesAt (Survey k) (3 + n) (WrongLeaf d number) y refusal) (sym (map_length tiles)) refused;
-    })
 
 -- ---- the leaf that is put
 

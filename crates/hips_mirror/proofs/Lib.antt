@@ -3,8 +3,12 @@ pub mod ToldLemmas
 pub mod CoverLemmas
 pub mod LeavesLemmas
 pub mod CompareLemmas
+pub mod StageLemmas
+pub mod LeafStage
 pub mod CopyLemmas
+pub mod DescriptionLemmas
 pub mod StepsLemmas
+pub mod OrderLemmas
 pub mod MirrorLemmas
 pub mod HeadLemmas
 pub mod OnceLemmas

@@ -28,13 +28,13 @@ above_by_keys shape leaves = λ i. sum_by (λ order. length (filter (λ p. exist
 pub above_tiles : (shape : PyramidShape) (tiles : LeafTiles) (numbers : List ℕ) → keys_of tiles ≡ numbers → tiles_above shape (leaf_map tiles) ≡ tiles_above shape (bare numbers)
 above_tiles shape tiles numbers keys = above_by_keys shape (leaf_map tiles) ∙ ap (λ ns. tiles_above shape (bare ns)) (map_keys tiles ∙ keys)
 
-pub survey_few : {E : Type 0} (shape : PyramidShape) (numbers : List ℕ) (r : Result GenerationContent E) (steps steps' : ℕ) → IfOk r (λ made. keys_of made.leaves ≡ numbers)
-    → steps' ≤ steps + (length numbers + tiles_above shape (bare numbers)) → IfOk r (λ made. steps' ≤ steps + (length made.leaves + tiles_above shape (leaf_map made.leaves)))
-survey_few shape numbers (Ok made) steps steps' keys few =
-    let long : length made.leaves ≡ length numbers = sym (length-keys_of made.leaves) ∙ ap length keys in
-    let same : tiles_above shape (leaf_map made.leaves) ≡ tiles_above shape (bare numbers) = above_tiles shape made.leaves numbers keys in
-    omega (arith, few, long, same)
-survey_few shape numbers (Err e) steps steps' keys few = tt
+-- the steps of the leaves, and of what was built of them
+pub leaves_few : (shape : PyramidShape) (tiles : LeafTiles) (numbers : List ℕ) (steps mid last : ℕ) → keys_of tiles ≡ numbers → mid ≤ steps + length numbers → last ≤ mid + tiles_above shape (leaf_map tiles)
+    → (last ≤ steps + (length tiles + tiles_above shape (leaf_map tiles))) × (last ≤ steps + (length numbers + tiles_above shape (bare numbers)))
+leaves_few shape tiles numbers steps mid last keys first second =
+    let long : length tiles ≡ length numbers = sym (length-keys_of tiles) ∙ ap length keys in
+    let same : tiles_above shape (leaf_map tiles) ≡ tiles_above shape (bare numbers) = above_tiles shape tiles numbers keys in
+    (omega (arith, first, second, long), omega (arith, first, second, same))
 
 -- after the whole conversation
 pub copy_fits : (d : Description) (tiles : LeafTiles) (a : Option (List ℕ)) (steps steps' : ℕ) → IfSome a (λ bytes. IsCopy bytes d (leaf_map tiles))

@@ -1,12 +1,13 @@
 -- What is told of the unread bytes, step after step.
-use Rattle.std.proofs.Common.{inl, inr, ℕ, List, Option, Some, None, Result, Ok, Err}
-use Rattle.std.specs.Prelude.{IfSome, IfOk, IfErr, OnOk, OnErr}
+use Rattle.std.proofs.Common.{◌≡◌, inl, inr, ℕ, List, Option, Some, None, Result, Ok, Err, sym, subst}
+use Rattle.std.specs.Prelude.{IfSome, IsSome, IfOk, IfErr, OnOk, OnErr}
 use Rattle.mirror_frame.specs.Reply.{IsReply, pinned_line}
-use Rattle.mirror_frame.specs.declared.due.Due.TheVariants.{Pinned, Survey}
+use Rattle.mirror_frame.specs.declared.due.Due.TheVariants.{Pinned}
 use Rattle.mirror_frame.specs.declared.due.Due.{Due}
 use Rattle.hips_mirror.specs.declared.refusal.MirrorRefusal.{MirrorRefusal}
-use Rattle.hips_mirror.specs.Mirror.{RefusesReply, RefusesAt, WrongProperties, Refuses, at_pin, at_properties}
-use Rattle.hips_mirror.specs.Stages.{Told, RefusedBy}
+use Rattle.hips_mirror.specs.Mirror.{RefusesReply, RefusesAt}
+use Rattle.mirror_frame.specs.Peer.{Told}
+use Rattle.hips_mirror.specs.Stages.{RefusedBy}
 
 -- two steps
 pub told_then : (a b c : Option (List ℕ)) (P Q R : List ℕ → List ℕ → Type 0) → ((x y z : List ℕ) → P x y → Q y z → R x z) → Told a b P → Told b c Q → Told a c R
@@ -68,15 +69,20 @@ pub bodies_refused : {T : Type 0} (due : Due) (request : ℕ) (Wrong : MirrorRef
 bodies_refused due request Wrong a b body r told =
     err_so r (RefusedBy Wrong body) (λ refusal. IfSome a (λ bytes. RefusesAt due request Wrong bytes refusal)) (λ refusal why. body_refused due request Wrong a b body refusal told why)
 
--- the first refusals
-pub pin_refused : {T : Type 0} (a : Option (List ℕ)) (r : Result T MirrorRefusal) → IfErr r (λ refusal. IfSome a (λ bytes. RefusesReply Pinned 0 bytes refusal)) → IfErr r (λ refusal. IfSome a (λ bytes. Refuses bytes refusal))
-pin_refused a r =
-    err_so r (λ refusal. IfSome a (λ bytes. RefusesReply Pinned 0 bytes refusal)) (λ refusal. IfSome a (λ bytes. Refuses bytes refusal))
-    (λ refusal. some_so a (λ bytes. RefusesReply Pinned 0 bytes refusal) (λ bytes. Refuses bytes refusal) (λ x why. at_pin why))
+-- the reply to the first request tells which state is held
+pub pinned_told : (k : ℕ) (body : List ℕ) (prefix : Option ℕ) (a b : Option (List ℕ)) → Some k ≡ prefix → IsSome prefix × IfSome prefix (λ n. body ≡ pinned_line n)
+    → Told a b (λ bytes rest. IsReply Pinned bytes body rest) → Told a b (λ bytes rest. IsReply Pinned bytes (pinned_line k) rest)
+pinned_told k body prefix a b is line told =
+    let own : body ≡ pinned_line k = subst (λ o. IfSome o (λ n. body ≡ pinned_line n)) (sym is) line.1 in
+    subst (λ x. Told a b (λ bytes rest. IsReply Pinned bytes x rest)) own told
 
-pub properties_refused : {T : Type 0} (k : ℕ) (a b : Option (List ℕ)) (r : Result T MirrorRefusal) → Told a b (λ bytes rest. IsReply Pinned bytes (pinned_line k) rest)
-    → IfErr r (λ refusal. IfSome b (λ bytes. RefusesAt (Survey k) 1 WrongProperties bytes refusal)) → IfErr r (λ refusal. IfSome a (λ bytes. Refuses bytes refusal))
-properties_refused k a b r told =
-    err_so r (λ refusal. IfSome b (λ bytes. RefusesAt (Survey k) 1 WrongProperties bytes refusal)) (λ refusal. IfSome a (λ bytes. Refuses bytes refusal))
-    (λ refusal. refused_then a b (λ bytes rest. IsReply Pinned bytes (pinned_line k) rest) (λ bytes. RefusesAt (Survey k) 1 WrongProperties bytes refusal) (λ bytes. Refuses bytes refusal)
-    (λ x y reply why. at_properties k y reply why) told)
+-- what holds of a refusal holds of the one that was given
+pub of_err : {T E : Type 0} (r : Result T E) (e : E) (P : E → Type 0) → r ≡ Err e → IfErr r P → P e
+of_err r e P is holds = subst (λ q. IfErr q P) is holds
+
+pub of_ok : {T E : Type 0} (r : Result T E) (t : T) (P : T → Type 0) → r ≡ Ok t → IfOk r P → P t
+of_ok r t P is holds = subst (λ q. IfOk q P) is holds
+
+pub given_ok : {T E : Type 0} (r : Result T E) (X : Type 0) → OnOk r X → IfOk r (λ _. X)
+given_ok (Ok t) X x = x
+given_ok (Err e) X x = tt

@@ -3,3 +3,4 @@ pub mod Stages
 pub mod Peer
 pub mod Laws
 pub mod Texts
+pub mod Order

@@ -1,5 +1,8 @@
 -- What the steps of a copy say, where the bytes of the peer are told.
-use Rattle.std.specs.Prelude.{◌≡◌, ◌⊎◌, ◌↔◌, ℕ, ◌<◌, ◌^◌, ◌+◌, nat_lt, if◌then◌else◌, ℤ, List, [], ◌∷◌, ◌++◌, flat_map, Ok, Option, Some, IfSome, IsSomeAnd}
+use Rattle.std.specs.Prelude.{◌≡◌, ◌≢◌, ◌⊎◌, ◌↔◌, ℕ, zero, suc, ◌<◌, ◌^◌, ◌+◌, nat_lt, if◌then◌else◌, ℤ, List, [], ◌∷◌, ◌++◌, Ok, Option, Some, IfSome, ⊤}
+use Rattle.survey_link.specs.Link.{Rises}
+use Rattle.survey_link.specs.declared.source.Source as source
+use Rattle.survey_link.specs.declared.sink.Sink as sink
 use Rattle.survey_conf.specs.Description.{Description}
 use Rattle.survey_conf.specs.Properties.{properties_text}
 use Rattle.pyramid_model.specs.Shape.{LeafMap}
@@ -7,22 +10,30 @@ use Rattle.tile_pixels.specs.Tile.{PixelTile}
 use Rattle.edit_journal.specs.Leaves.{LeafTiles, FitsLeaves}
 use Rattle.fits_tile.specs.Reading.{reads}
 use Rattle.mirror_frame.specs.Reply.{IsReply}
-use Rattle.mirror_frame.specs.Requests.{request_bytes}
+use Rattle.tile_path.specs.declared.path.Path.TheVariants as path
+use Rattle.mirror_frame.specs.Requests.{asks}
+use Rattle.mirror_frame.specs.declared.ask.Ask.TheVariants.{File}
+use Rattle.mirror_frame.specs.Exchange.{Converses, StopsIn}
+use Rattle.mirror_frame.specs.Peer.{talk, unread_at, Goes, Told}
+use Rattle.mirror_frame.specs.declared.peer.Peer.{Peer}
 use Rattle.mirror_frame.specs.declared.ask.Ask.{Ask}
 use Rattle.mirror_frame.specs.declared.due.Due.TheVariants.{Survey}
 use Rattle.mirror_frame.specs.declared.reading.Stop.{Stop}
 use Rattle.mirror_frame.specs.declared.reading.Stop.TheVariants as stop
 use Rattle.hips_mirror.specs.declared.refusal.MirrorRefusal.{MirrorRefusal}
 use Rattle.hips_mirror.specs.declared.refusal.MirrorRefusal.TheVariants as refusal
-use Rattle.hips_mirror.specs.Mirror.{Described, Covered, HasLeaves, IsCoverOf}
-
--- where the unread bytes are told before, they are told after, and this is so of the two
-abbrev pub Told : Option (List ℕ) → Option (List ℕ) → (List ℕ → List ℕ → Type 0) → Type 0
-Told before after Relates = IfSome before (λ bytes. IsSomeAnd after (λ rest. Relates bytes rest))
+use Rattle.hips_mirror.specs.Mirror.{Described, Covered, HasLeaves, IsProperties, IsCoverOf, Refuses}
 
 -- the number of leaves with which the description's properties are this body; none where there is no such number
 abbrev pub Counts : Description → List ℕ → Option ℕ → Type 0
 Counts d body counted = (n : ℕ) → n < 2 ^ 64 → (body ≡ properties_text d n) ↔ (counted ≡ Some n)
+
+-- the reply comes first, with the properties file of this description, and what is kept of it is the number of leaves
+pub record TellsProperties (k : ℕ) (d : Description) (counted : Option ℕ) (bytes unread : List ℕ) : Type 0 where
+  pub body : List ℕ
+  pub reply : IsReply (Survey k) bytes body unread
+  pub is : IsProperties body d
+  pub counts : Counts d body counted
 
 -- the description is read, and what is kept of the body that tells of it is the number of leaves
 pub record TellsSurvey (k : ℕ) (d : Description) (counted : Option ℕ) (bytes unread : List ℕ) : Type 0 where
@@ -42,10 +53,6 @@ pub record TellsTiles (k : ℕ) (d : Description) (counted : Option ℕ) (leaves
   pub has : HasLeaves bytes k properties d leaves unread
   pub counts : Counts d properties counted
 
--- where the unread bytes are told, this is so of all bytes that led to them
-abbrev pub FromAll : Option (List ℕ) → (List ℕ → List ℕ → Type 0) → (List ℕ → Type 0) → Type 0
-FromAll unread LeadsTo Holds = IfSome unread (λ rest. (bytes : List ℕ) → LeadsTo bytes rest → Holds bytes)
-
 -- the reply comes first, with the coverage file of these leaves
 pub record TellsCover (k : ℕ) (d : Description) (numbers bytes unread : List ℕ) : Type 0 where
   pub body : List ℕ
@@ -60,6 +67,16 @@ pub record TellsLeaf (k : ℕ) (d : Description) (leaves leaves' : LeafMap) (byt
   pub reads : reads d body ≡ Ok leaf.1
   pub put : leaves' ≡ leaves ++ leaf ∷ []
 
+-- the mosaic is asked for where there is a leaf
+abbrev pub asks_of_mosaic : ℕ → List Ask
+asks_of_mosaic zero = []
+asks_of_mosaic (suc leaves) = File path.Allsky ∷ []
+
+-- the reply to that request comes first, with this body
+abbrev pub TellsMosaic : ℕ → ℕ → List ℕ → List ℕ → List ℕ → Type 0
+TellsMosaic k zero body bytes unread = unread ≡ bytes
+TellsMosaic k (suc leaves) body bytes unread = IsReply (Survey k) bytes body unread
+
 -- the tile that the body reads as is put behind the others
 pub record PutsLeaf (d : Description) (number : ℕ) (body : List ℕ) (tiles tiles' : LeafTiles) : Type 0 where
   pub tile : PixelTile
@@ -71,17 +88,69 @@ pub record PutsLeaf (d : Description) (number : ℕ) (body : List ℕ) (tiles ti
 abbrev pub RefusedBy : (MirrorRefusal → List ℕ → Type 0) → List ℕ → MirrorRefusal → Type 0
 RefusedBy Wrong body refused = Wrong refused body ⊎ (refused ≡ refusal.OutOfMemory)
 
--- what the reply to a request is refused with
+-- what a request without a reply is refused with
 abbrev pub of_stop : Stop → ℕ → MirrorRefusal
 of_stop stop.Wrong request = refusal.Reply request
 of_stop stop.Cut request = refusal.Cut
 of_stop stop.ReadFault request = refusal.ReadFault
+of_stop stop.WriteFault request = refusal.WriteFault
 of_stop stop.OutOfMemory request = refusal.OutOfMemory
 
--- the bytes of some requests
-abbrev pub sent : List Ask → List ℕ
-sent asks = flat_map request_bytes asks
+-- the refusal tells this stop of some request
+abbrev pub Tells : MirrorRefusal → Stop → Type 0
+Tells why stopped = (request : ℕ) × (why ≡ of_stop stopped request)
+
+-- the refusal tells of a body that came, or of memory
+abbrev pub IsOfBody : MirrorRefusal → Type 0
+IsOfBody (refusal.Reply request) = ⊥
+IsOfBody refusal.Properties = ⊤
+IsOfBody refusal.Cover = ⊤
+IsOfBody (refusal.TooLarge count) = ⊤
+IsOfBody (refusal.Leaf cell fault) = ⊤
+IsOfBody (refusal.Differs path) = ⊤
+IsOfBody refusal.Cut = ⊥
+IsOfBody refusal.ReadFault = ⊥
+IsOfBody refusal.WriteFault = ⊥
+IsOfBody refusal.ShelfFault = ⊥
+IsOfBody refusal.OutOfMemory = ⊤
 
 -- the number of the last request, after those of so many leaves: a mosaic is asked for where there is a leaf
 abbrev pub unpin_request : ℕ → ℕ
 unpin_request count = 3 + count + (if nat_lt 0 count then 1 else 0)
+
+module _ {S K : Type 0} (told_source : source.Ghosts S) (told_sink : sink.Ghosts K) where
+  -- these requests have their replies, and this is so of the unread bytes before and after, where they are told
+  pub record Reaches (k : ℕ) (asks : List Ask) (Leads : List ℕ → List ℕ → Type 0) (old new : Peer S K) : Type 0 where
+    pub conversed : Converses told_source told_sink k asks (talk old) (talk new)
+    pub told : Told (unread_at told_source old) (unread_at told_source new) Leads
+    pub goes : Goes told_source told_sink old new
+
+  -- a fault of an end is told only where its count of faults rose, and none of the shelf
+  abbrev pub FaultRose : Peer S K → Peer S K → MirrorRefusal → Type 0
+  FaultRose old new refusal.ReadFault = Rises (told_source.faults old.src.now) (told_source.faults new.src.now)
+  FaultRose old new refusal.WriteFault = Rises (told_sink.faults old.sink.now) (told_sink.faults new.sink.now)
+  FaultRose old new refusal.ShelfFault = ⊥
+  FaultRose old new refusal.Properties = ⊤
+  FaultRose old new refusal.Cover = ⊤
+  FaultRose old new refusal.Cut = ⊤
+  FaultRose old new refusal.OutOfMemory = ⊤
+  FaultRose old new (refusal.Reply request) = ⊤
+  FaultRose old new (refusal.TooLarge count) = ⊤
+  FaultRose old new (refusal.Leaf cell fault) = ⊤
+  FaultRose old new (refusal.Differs path) = ⊤
+
+  -- some first ones of these requests have their replies, the next one is begun at most, and this is why: so of the unread bytes,
+  -- where they are told
+  pub record IsRefusedIn (k : ℕ) (asks : List Ask) (Refused : List ℕ → Type 0) (old new : Peer S K) (why : MirrorRefusal) : Type 0 where
+    pub stops : StopsIn told_source told_sink k (Tells why) (IsOfBody why) asks (talk old) (talk new)
+    pub refused : IfSome (unread_at told_source old) Refused
+    pub faults : FaultRose old new why
+    pub goes : Goes told_source told_sink old new
+
+  -- a copy of some leaves was refused: one of its requests at least has no reply
+  pub record IsRefused (old new : Peer S K) (why : MirrorRefusal) : Type 0 where
+    pub k : ℕ
+    pub top : ℕ
+    pub leaves : List ℕ
+    pub stopped : IsRefusedIn k (asks top leaves) (λ bytes. Refuses bytes why) old new why
+    pub short : stopped.stops.rest ≢ []

@@ -1,34 +1,29 @@
 //! The files of a copy: they are built anew of the leaves, and compared with what the peer sent.
-ghost use Rattle.std.specs.Prelude.{◌≡◌, ◌≢◌, ◌⊎◌, ◌↔◌, ◌≤◌, ◌<◌, ◌+◌, List, ℕ, [], ◌∷◌, length, Err, Some, IsTrue, IfOk, IfErr, OnOk, IfSome, IsErrOf};
+ghost use Rattle.std.specs.Prelude.{◌≡◌, ◌≢◌, ◌⊎◌, ◌↔◌, ◌≤◌, ◌<◌, ◌+◌, [], ◌∷◌, length, Some, IsTrue, IfOk, IfErr, OnOk};
 ghost use Rattle.std.specs.FinMap.{get};
 ghost use Rattle.std.specs.Option.{option_eq};
 ghost use Rattle.std.specs.Str.{bytes_eq};
 ghost use Rattle.fits_header.specs.Cards.{whole_blocks};
 ghost use Rattle.fits_tile.specs.TileFile.{data_len};
-ghost use Rattle.std.specs.Map.{keys_of};
-ghost use Rattle.std.specs.Io.KnownBytes.{Appends};
-ghost use Rattle.survey_link.specs.Link.{Rises};
-ghost use Rattle.http_frame.specs.Next.{most_head};
 ghost use Rattle.tile_path.specs.Spelling.{spelling};
 ghost use Rattle.tile_path.specs.declared.path.Path.TheVariants.{Allsky, Properties};
-ghost use Rattle.mirror_frame.specs.Requests.{mosaic_asks};
-ghost use Rattle.mirror_frame.specs.Reading.{unread};
-ghost use Rattle.mirror_frame.specs.Reply.{IsReply};
+ghost use Rattle.mirror_frame.specs.Peer.{body_of};
+ghost use Rattle.mirror_frame.specs.declared.ask.Ask.TheVariants.{File};
 ghost use Rattle.mirror_frame.specs.declared.due.Due.TheVariants.{Survey as OfSurvey};
 ghost use Rattle.edit_journal.specs.Leaves.{FitsLeaves};
 ghost use Rattle.generation.specs.Files.{leaf_map, file_of, files_in};
 ghost use Rattle.generation.specs.Steps.{tiles_above};
-ghost use Rattle.hips_mirror.specs.Mirror.{IsMosaicReply, RefusesFiles, RefusesReply, WrongMosaic};
-ghost use Rattle.hips_mirror.specs.Stages.{Told, Counts, RefusedBy, sent};
+ghost use Rattle.hips_mirror.specs.Mirror.{RefusesReply};
+ghost use Rattle.hips_mirror.specs.Stages.{TellsMosaic, Reaches, IsRefusedIn, asks_of_mosaic};
 
-use crate::asking::{request_behind, request_file};
+use crate::asking::ask;
 use crate::description::Survey;
 use crate::refusal::MirrorRefusal;
-use crate::saying::{Request, say_refused};
+use crate::saying::Request;
 use generation::{Body, Generation};
 use leaf_store::Store;
 use log::Log;
-use mirror_frame::{Ask, Due, Inbox};
+use mirror_frame::{Due, Peer};
 use parent_rule::Steps;
 use std::alloc::{AllocError, Global};
 use std::sync::Arc;
@@ -39,113 +34,38 @@ use tile_path::Path;
 use tile_path::laws::spellings_differ;
 use tile_pixels::Tile;
 
-/// Reads the mosaic, where there is a leaf, builds the files of the leaves, and compares the properties and the mosaic with
-/// what the peer sent. The steps rise by the number of tiles that exist above the leaves, at most.
+/// Reads the mosaic, where there is a leaf: its body is then the peer's. `leaves` is how many leaves there are.
 ///
 /// # Errors
 ///
-/// As `request_file`; `Differs` with the path of the properties exactly where these differ, and else with that of the mosaic
-/// exactly where this differs.
-pub(crate) fn compare<R: Threads + Sync + Log, S: Source, K: Sink, G: Gate + Sync>(
+/// As `ask`.
+pub(crate) fn read_mosaic<R: Log, S: Source, K: Sink>(
     rt: &R,
-    alloc: Global,
-    src: &mut S,
-    sink: &mut K,
-    inbox: &mut Inbox,
-    survey: Survey,
-    leaves: Store<Tile>,
-    gate: &G,
-    steps: &mut Steps,
-) -> Result<Generation, MirrorRefusal>
-    requires few { length inbox.old.held.items ≤ most_head }
-    requires fits { FitsLeaves survey.conf.shape leaves }
-    requires size { length leaves ≤ 65000 }
-    ensures made { IfOk result (λ made. made ≡ record { conf = survey.conf; prefix = 0; leaves = leaves }) }
-    ensures counted { OnOk result (survey.counted ≡ Some (length leaves)) }
-    ensures sent { OnOk result (Appends (K.held sink.old) (K.held sink.new) (sent (mosaic_asks (keys_of leaves)))) }
-    ensures read { OnOk result (Told (unread inbox.old.held.items (S.left src.old)) (unread inbox.new.held.items (S.left src.new))
-        (IsMosaicReply survey.pinned survey.conf (leaf_map leaves))) }
-    ensures refused { IfErr result (λ refusal. IfSome (unread inbox.old.held.items (S.left src.old)) (λ bytes.
-        (properties : List ℕ) → Counts survey.conf properties survey.counted
-        → RefusesFiles survey.pinned properties survey.conf (leaf_map leaves) bytes refusal)) }
-    ensures no_shelf { result ≢ Err MirrorRefusal.ShelfFault }
-    ensures read_failed { IsErrOf result MirrorRefusal.ReadFault → Rises (S.faults src.old) (S.faults src.new) }
-    ensures write_failed { IsErrOf result MirrorRefusal.WriteFault → Rises (K.faults sink.old) (K.faults sink.new) }
-    ensures reads_never_fall { S.faults src.old ≤ S.faults src.new }
-    ensures writes_never_fall { K.faults sink.old ≤ K.faults sink.new }
-    ensures few { length inbox.new.held.items ≤ most_head }
-    ensures steps { steps.new ≤ steps.old + tiles_above survey.conf.shape (leaf_map leaves) }
-    ensures steps_never_fall { steps.old ≤ steps.new }
+    peer: &mut Peer<'_, '_, '_, S, K>,
+    pinned: u32,
+    leaves: usize,
+) -> Result<(), MirrorRefusal>
+    requires { leaves ≤ 65000 }
+    ensures reached { OnOk result (Reaches S.Source K.Sink pinned (asks_of_mosaic leaves) (TellsMosaic pinned leaves (body_of peer.new)) peer.old peer.new) }
+    ensures refused { IfErr result (λ refusal. (0 < leaves) × IsRefusedIn S.Source K.Sink pinned (File Allsky ∷ [])
+        (λ bytes. RefusesReply (OfSurvey pinned) (3 + leaves) bytes refusal) peer.old peer.new refusal) }
 {
-    if leaves.len() == 0 {
-        let built = build(rt, alloc, survey, leaves, gate, steps);
-        say_refused(rt, Request::properties(), &built);
-        return built;
+    if leaves == 0 {
+        return Ok(());
     }
-    let request = request_behind(&leaves);
-    let ask = Ask::File(Path::Allsky);
-    let due = Due::Survey(survey.pinned);
-    match request_file(rt, src, sink, inbox, request, &ask, due) {
-        Ok(_) => {
-            let built = build_and_compare(rt, alloc, &inbox.body, survey, leaves, gate, steps);
-            say_refused(rt, Request::new(request, ask), &built);
-            built
-        }
+    match ask(rt, peer, &Request::mosaic(leaves), Due::Survey(pinned)) {
+        Ok(_) => Ok(()),
         Err(refusal) => Err(refusal),
     }
 }
 
-// The files of the leaves, where they have the properties and the mosaic that the peer sent.
-fn build_and_compare<R: Threads + Sync, G: Gate + Sync>(
-    rt: &R,
-    alloc: Global,
-    mosaic: &[u8],
-    survey: Survey,
-    leaves: Store<Tile>,
-    gate: &G,
-    steps: &mut Steps,
-) -> Result<Generation, MirrorRefusal>
-    requires fits { FitsLeaves survey.conf.shape leaves }
-    requires some { 0 < length leaves }
-    requires size { length leaves ≤ 65000 }
-    ensures made { IfOk result (λ made. made ≡ record { conf = survey.conf; prefix = 0; leaves = leaves }) }
-    ensures counted { OnOk result (survey.counted ≡ Some (length leaves)) }
-    ensures mosaic { OnOk result (mosaic.now ≡ file_of survey.conf (leaf_map leaves) Allsky) }
-    ensures refused { IfErr result (λ refusal. (properties : List ℕ) → Counts survey.conf properties survey.counted
-        → RefusedBy (WrongMosaic properties survey.conf (leaf_map leaves)) mosaic.now refusal) }
-    ensures no_fault { (result ≢ Err MirrorRefusal.ReadFault) × (result ≢ Err MirrorRefusal.WriteFault) × (result ≢ Err MirrorRefusal.ShelfFault) }
-    ensures steps { steps.new ≤ steps.old + tiles_above survey.conf.shape (leaf_map leaves) }
-    ensures steps_never_fall { steps.old ≤ steps.new }
-{
-    match build(rt, alloc, survey, leaves, gate, steps) {
-        Ok(generation) => judge_mosaic(alloc, generation, mosaic),
-        Err(refusal) => Err(refusal),
-    }
-}
-
-// The generation, which has a leaf, where its mosaic has these bytes.
-fn judge_mosaic(
-    alloc: Global,
-    generation: Generation,
-    mosaic: &[u8],
-) -> Result<Generation, MirrorRefusal>
-    requires { 0 < length generation.leaves }
-    ensures same { IfOk result (λ made. made ≡ generation) }
-    ensures mosaic { OnOk result (mosaic.now ≡ file_of generation.conf (leaf_map generation.leaves) Allsky) }
-    ensures refused { IfErr result (λ refusal.
-        ((refusal ≡ MirrorRefusal.Differs Allsky) × (mosaic.now ≢ file_of generation.conf (leaf_map generation.leaves) Allsky))
-        ⊎ (refusal ≡ MirrorRefusal.OutOfMemory)) }
-    ensures no_fault { (result ≢ Err MirrorRefusal.ReadFault) × (result ≢ Err MirrorRefusal.WriteFault) × (result ≢ Err MirrorRefusal.ShelfFault) }
-{
-    match has_mosaic(alloc, &generation, mosaic) {
-        Ok(true) => Ok(generation),
-        Ok(false) => Err(MirrorRefusal::Differs { path: Path::Allsky }),
-        Err(AllocError) => Err(MirrorRefusal::OutOfMemory),
-    }
-}
-
-// The files of the leaves, where they have the properties that the peer sent.
-fn build<R: Threads + Sync, G: Gate + Sync>(
+/// The files of the leaves, where they have the properties that the peer sent. The steps rise by the number of tiles that exist
+/// above the leaves, at most.
+///
+/// # Errors
+///
+/// `Differs` with the path of the properties exactly where these differ; `OutOfMemory`.
+pub(crate) fn build<R: Threads + Sync, G: Gate + Sync>(
     rt: &R,
     alloc: Global,
     survey: Survey,
@@ -158,7 +78,6 @@ fn build<R: Threads + Sync, G: Gate + Sync>(
     ensures counted { OnOk result (survey.counted ≡ Some (length leaves)) }
     ensures refused { IfErr result (λ refusal.
         ((refusal ≡ MirrorRefusal.Differs Properties) × (survey.counted ≢ Some (length leaves))) ⊎ (refusal ≡ MirrorRefusal.OutOfMemory)) }
-    ensures no_fault { (result ≢ Err MirrorRefusal.ReadFault) × (result ≢ Err MirrorRefusal.WriteFault) × (result ≢ Err MirrorRefusal.ShelfFault) }
     ensures steps { steps.new ≤ steps.old + tiles_above survey.conf.shape (leaf_map leaves) }
     ensures steps_never_fall { steps.old ≤ steps.new }
 {
@@ -168,6 +87,31 @@ fn build<R: Threads + Sync, G: Gate + Sync>(
         });
     }
     Ok(start(rt, alloc, survey.conf, leaves, gate, steps)?)
+}
+
+/// Compares the mosaic of the generation with the one that the peer sent, where there is a leaf.
+///
+/// # Errors
+///
+/// `Differs` with the path of the mosaic exactly where there is a leaf and they differ; `OutOfMemory`.
+pub(crate) fn compare_mosaic(
+    alloc: Global,
+    generation: &Generation,
+    mosaic: &[u8],
+) -> Result<(), MirrorRefusal>
+    ensures same { OnOk result (0 < length generation.now.leaves → mosaic.now ≡ file_of generation.now.conf (leaf_map generation.now.leaves) Allsky) }
+    ensures refused { IfErr result (λ refusal. (0 < length generation.now.leaves)
+        × (((refusal ≡ MirrorRefusal.Differs Allsky) × (mosaic.now ≢ file_of generation.now.conf (leaf_map generation.now.leaves) Allsky))
+        ⊎ (refusal ≡ MirrorRefusal.OutOfMemory))) }
+{
+    if generation.leaves().len() == 0 {
+        return Ok(());
+    }
+    match has_mosaic(alloc, generation, mosaic) {
+        Ok(true) => Ok(()),
+        Ok(false) => Err(MirrorRefusal::Differs { path: Path::Allsky }),
+        Err(AllocError) => Err(MirrorRefusal::OutOfMemory),
+    }
 }
 
 // The files of the leaves.

@@ -1,30 +1,23 @@
 //! The description of a peer's survey.
-ghost use Rattle.std.specs.Prelude.{◌≡◌, ◌≢◌, ◌↔◌, ◌≤◌, ℕ, List, [], ◌∷◌, ◌++◌, ◌&&◌, codes, length, All, Err, IfOk, IfErr, OnOk, IfSome, IsNone, IsErrOf};
-ghost use Rattle.std.specs.Io.KnownBytes.{Appends};
-ghost use Rattle.survey_link.specs.Link.{Rises};
-ghost use Rattle.survey_conf.specs.Description.{IsDescription};
-ghost use Rattle.http_frame.specs.Next.{most_head};
+ghost use Rattle.std.specs.Prelude.{◌≡◌, ◌≢◌, ℕ, List, [], ◌∷◌, ◌++◌, ◌&&◌, codes, All, IfOk, IfErr, IfSome, IsNone};
 ghost use Rattle.tile_path.specs.declared.path.Path.TheVariants.{Properties};
 ghost use Rattle.mirror_frame.specs.Reply.{IsReply, pinned_line};
-ghost use Rattle.mirror_frame.specs.Reading.{unread};
-ghost use Rattle.mirror_frame.specs.Requests.{request_bytes};
 ghost use Rattle.mirror_frame.specs.declared.ask.Ask.TheVariants.{Pin, File};
-ghost use Rattle.hips_mirror.specs.Mirror.{is_plain, are_lines, TellsLeaves, IsProperties, WrongProperties, RefusesReply, RefusesAt, Refuses};
 ghost use Rattle.mirror_frame.specs.declared.due.Due.TheVariants.{Pinned, Survey as OfSurvey};
-ghost use Rattle.hips_mirror.specs.Stages.{Told, TellsSurvey, Counts, RefusedBy};
+ghost use Rattle.hips_mirror.specs.Mirror.{is_plain, are_lines, TellsLeaves, IsProperties, WrongProperties, RefusesReply, RefusesAt, Refuses};
+ghost use Rattle.hips_mirror.specs.Stages.{TellsProperties, TellsSurvey, Counts, RefusedBy, Reaches, IsRefusedIn, IsOfBody};
 
-use crate::asking::request_file;
+use crate::asking::ask;
 use crate::refusal::MirrorRefusal;
-use crate::saying::{say_fault, say_no_count};
+use crate::saying::{Request, say_fault, say_no_count};
 use decimal_scale::plain_decimal;
 use http_frame::digits;
 use log::Log;
 use memchr::memrchr;
-use mirror_frame::{Ask, Due, Inbox};
+use mirror_frame::{Due, Peer};
 use std::alloc::{AllocError, Global};
 use survey_conf::{Conf, ConfRefusal};
 use survey_link::{Sink, Source};
-use tile_path::Path;
 
 /// What a peer tells of its survey.
 #[derive(Drop)]
@@ -41,53 +34,30 @@ pub(crate) struct Survey {
 ///
 /// # Errors
 ///
-/// As `request_file`; `Properties` exactly where what was sent isn't a properties file whose description is accepted.
+/// As `ask`; `Properties` exactly where what was sent isn't a properties file whose description is accepted.
 pub(crate) fn read_description<R: Log, S: Source, K: Sink>(
     rt: &R,
     alloc: Global,
-    src: &mut S,
-    sink: &mut K,
-    inbox: &mut Inbox,
+    peer: &mut Peer<'_, '_, '_, S, K>,
 ) -> Result<Survey, MirrorRefusal>
-    requires few { length inbox.old.held.items ≤ most_head }
-    ensures sent { OnOk result (Appends (K.held sink.old) (K.held sink.new) (request_bytes Pin ++ request_bytes (File Properties))) }
-    ensures read { IfOk result (λ survey. Told (unread inbox.old.held.items (S.left src.old)) (unread inbox.new.held.items (S.left src.new))
-        (TellsSurvey survey.pinned survey.conf survey.counted)) }
-    ensures refused { IfErr result (λ refusal. IfSome (unread inbox.old.held.items (S.left src.old)) (λ bytes. Refuses bytes refusal)) }
-    ensures no_shelf { result ≢ Err MirrorRefusal.ShelfFault }
-    ensures read_failed { IsErrOf result MirrorRefusal.ReadFault → Rises (S.faults src.old) (S.faults src.new) }
-    ensures write_failed { IsErrOf result MirrorRefusal.WriteFault → Rises (K.faults sink.old) (K.faults sink.new) }
-    ensures reads_never_fall { S.faults src.old ≤ S.faults src.new }
-    ensures writes_never_fall { K.faults sink.old ≤ K.faults sink.new }
-    ensures few { length inbox.new.held.items ≤ most_head }
+    ensures reached { IfOk result (λ survey. Reaches S.Source K.Sink survey.pinned (Pin ∷ File Properties ∷ [])
+        (TellsSurvey survey.pinned survey.conf survey.counted) peer.old peer.new) }
+    ensures refused { IfErr result (λ refusal. (k : ℕ) × IsRefusedIn S.Source K.Sink k (Pin ∷ File Properties ∷ [])
+        (λ bytes. Refuses bytes refusal) peer.old peer.new refusal) }
 {
-    match pin(rt, src, sink, inbox) {
-        Ok(pinned) => read_properties(rt, alloc, src, sink, inbox, pinned),
-        Err(refusal) => Err(refusal),
-    }
+    let pinned = pin(rt, peer)?;
+    read_properties(rt, alloc, peer, pinned)
 }
 
 // Has the newest state held, and answers how many edits are published in it.
 fn pin<R: Log, S: Source, K: Sink>(
     rt: &R,
-    src: &mut S,
-    sink: &mut K,
-    inbox: &mut Inbox,
+    peer: &mut Peer<'_, '_, '_, S, K>,
 ) -> Result<u32, MirrorRefusal>
-    requires few { length inbox.old.held.items ≤ most_head }
-    ensures sent { OnOk result (Appends (K.held sink.old) (K.held sink.new) (request_bytes Pin)) }
-    ensures read { IfOk result (λ k. Told (unread inbox.old.held.items (S.left src.old)) (unread inbox.new.held.items (S.left src.new))
-        (λ bytes rest. IsReply Pinned bytes (pinned_line k) rest)) }
-    ensures refused { IfErr result (λ refusal. IfSome (unread inbox.old.held.items (S.left src.old)) (λ bytes.
-        RefusesReply Pinned 0 bytes refusal)) }
-    ensures no_shelf { result ≢ Err MirrorRefusal.ShelfFault }
-    ensures read_failed { IsErrOf result MirrorRefusal.ReadFault → Rises (S.faults src.old) (S.faults src.new) }
-    ensures write_failed { IsErrOf result MirrorRefusal.WriteFault → Rises (K.faults sink.old) (K.faults sink.new) }
-    ensures reads_never_fall { S.faults src.old ≤ S.faults src.new }
-    ensures writes_never_fall { K.faults sink.old ≤ K.faults sink.new }
-    ensures few { length inbox.new.held.items ≤ most_head }
+    ensures reached { IfOk result (λ k. Reaches S.Source K.Sink k (Pin ∷ []) (λ bytes rest. IsReply Pinned bytes (pinned_line k) rest) peer.old peer.new) }
+    ensures refused { IfErr result (λ refusal. IsRefusedIn S.Source K.Sink 0 (Pin ∷ []) (λ bytes. RefusesReply Pinned 0 bytes refusal) peer.old peer.new refusal) }
 {
-    match request_file(rt, src, sink, inbox, 0, &Ask::Pin, Due::Pinned) {
+    match ask(rt, peer, &Request::pin(), Due::Pinned) {
         Ok(prefix) => Ok(prefix.unwrap()),
         Err(refusal) => Err(refusal),
     }
@@ -97,30 +67,16 @@ fn pin<R: Log, S: Source, K: Sink>(
 fn read_properties<R: Log, S: Source, K: Sink>(
     rt: &R,
     alloc: Global,
-    src: &mut S,
-    sink: &mut K,
-    inbox: &mut Inbox,
+    peer: &mut Peer<'_, '_, '_, S, K>,
     pinned: u32,
 ) -> Result<Survey, MirrorRefusal>
-    requires few { length inbox.old.held.items ≤ most_head }
-    ensures sent { OnOk result (Appends (K.held sink.old) (K.held sink.new) (request_bytes (File Properties))) }
     ensures pinned { IfOk result (λ survey. survey.pinned ≡ pinned) }
-    ensures read { IfOk result (λ survey. Told (unread inbox.old.held.items (S.left src.old)) (unread inbox.new.held.items (S.left src.new))
-        (λ bytes rest. IsReply (OfSurvey pinned) bytes inbox.new.body.items rest)) }
-    ensures described { IfOk result (λ survey. IsProperties inbox.new.body.items survey.conf) }
-    ensures counts { IfOk result (λ survey. Counts survey.conf inbox.new.body.items survey.counted) }
-    ensures refused { IfErr result (λ refusal. IfSome (unread inbox.old.held.items (S.left src.old)) (λ bytes.
-        RefusesAt (OfSurvey pinned) 1 WrongProperties bytes refusal)) }
-    ensures no_shelf { result ≢ Err MirrorRefusal.ShelfFault }
-    ensures read_failed { IsErrOf result MirrorRefusal.ReadFault → Rises (S.faults src.old) (S.faults src.new) }
-    ensures write_failed { IsErrOf result MirrorRefusal.WriteFault → Rises (K.faults sink.old) (K.faults sink.new) }
-    ensures reads_never_fall { S.faults src.old ≤ S.faults src.new }
-    ensures writes_never_fall { K.faults sink.old ≤ K.faults sink.new }
-    ensures few { length inbox.new.held.items ≤ most_head }
+    ensures reached { IfOk result (λ survey. Reaches S.Source K.Sink pinned (File Properties ∷ []) (TellsProperties pinned survey.conf survey.counted) peer.old peer.new) }
+    ensures refused { IfErr result (λ refusal. IsRefusedIn S.Source K.Sink pinned (File Properties ∷ [])
+        (λ bytes. RefusesAt (OfSurvey pinned) 1 WrongProperties bytes refusal) peer.old peer.new refusal) }
 {
-    let ask = Ask::File(Path::Properties);
-    match request_file(rt, src, sink, inbox, 1, &ask, Due::Survey(pinned)) {
-        Ok(_) => describe(rt, alloc, &inbox.body, pinned),
+    match ask(rt, peer, &Request::properties(), Due::Survey(pinned)) {
+        Ok(_) => describe(rt, alloc, peer.body(), pinned),
         Err(refusal) => Err(refusal),
     }
 }
@@ -136,7 +92,7 @@ fn describe<R: Log>(
     ensures described { IfOk result (λ survey. IsProperties body.now survey.conf) }
     ensures counts { IfOk result (λ survey. Counts survey.conf body.now survey.counted) }
     ensures refused { IfErr result (RefusedBy WrongProperties body.now) }
-    ensures no_fault { (result ≢ Err MirrorRefusal.ReadFault) × (result ≢ Err MirrorRefusal.WriteFault) × (result ≢ Err MirrorRefusal.ShelfFault) }
+    ensures of_body { IfErr result IsOfBody }
 {
     match split_properties(body) {
         Some((text, digits)) => describe_by(rt, alloc, body, text, digits, pinned),
@@ -161,7 +117,7 @@ fn describe_by<R: Log>(
     ensures described { IfOk result (λ survey. IsProperties body.now survey.conf) }
     ensures counts { IfOk result (λ survey. Counts survey.conf body.now survey.counted) }
     ensures refused { IfErr result (RefusedBy WrongProperties body.now) }
-    ensures no_fault { (result ≢ Err MirrorRefusal.ReadFault) × (result ≢ Err MirrorRefusal.WriteFault) × (result ≢ Err MirrorRefusal.ShelfFault) }
+    ensures of_body { IfErr result IsOfBody }
 {
     match Conf::read(alloc, text) {
         Ok(conf) => {

@@ -1,24 +1,18 @@
 //! The leaf tiles of a peer's survey.
-ghost use Rattle.std.specs.Prelude.{◌≡◌, ◌≢◌, ◌⊎◌, ◌≤◌, ◌<◌, ◌+◌, [], ◌∷◌, ◌++◌, map, length, All, Ok, Err, IfOk, IfErr, OnOk, OnErr, IfSome, IsErrOf};
+ghost use Rattle.std.specs.Prelude.{◌≡◌, ◌≤◌, ◌<◌, ◌+◌, [], ◌∷◌, ◌++◌, map, length, All, Ok, IfOk, IfErr, OnOk};
 ghost use Rattle.std.specs.Map.{keys_of};
 ghost use Rattle.std.specs.List.Sorted.{IsStrictlyIncreasing};
-ghost use Rattle.std.specs.Io.KnownBytes.{Appends};
 ghost use Rattle.healpix_nested.specs.Cells.{cell_count};
-ghost use Rattle.survey_link.specs.Link.{Rises};
-ghost use Rattle.http_frame.specs.Next.{most_head};
 ghost use Rattle.leaf_store.specs.Store.{IsAscending};
 ghost use Rattle.tile_pixels.specs.Tile.{HasShape};
 ghost use Rattle.fits_tile.specs.Reading.{reads};
-ghost use Rattle.mirror_frame.specs.Requests.{HasOrder, leaf_ask as spec_leaf_ask, request_bytes};
-ghost use Rattle.mirror_frame.specs.Reading.{unread};
-ghost use Rattle.mirror_frame.specs.Reply.{IsReply};
-ghost use Rattle.mirror_frame.specs.declared.due.Due.TheVariants.{Survey as OfSurvey};
+ghost use Rattle.mirror_frame.specs.Requests.{leaf_ask};
 ghost use Rattle.edit_journal.specs.Leaves.{FitsLeaves};
 ghost use Rattle.generation.specs.Files.{leaf_map};
-ghost use Rattle.hips_mirror.specs.Mirror.{AreLeaves, WrongLeaf, RefusesAt, RefusesLeaf};
-ghost use Rattle.hips_mirror.specs.Stages.{Told, TellsLeaf, PutsLeaf, RefusedBy, sent};
+ghost use Rattle.hips_mirror.specs.Mirror.{AreLeaves, WrongLeaf, RefusesLeaf};
+ghost use Rattle.hips_mirror.specs.Stages.{PutsLeaf, RefusedBy, Reaches, IsRefusedIn, IsOfBody};
 
-use crate::asking::{request_behind, request_file};
+use crate::asking::ask;
 use crate::description::Survey;
 use crate::progress::Progress;
 use crate::refusal::MirrorRefusal;
@@ -27,14 +21,13 @@ use fits_tile::{TileRefusal, decode};
 use healpix_nested::Cell;
 use leaf_store::Store;
 use log::Log;
-use mirror_frame::{Ask, Due, Inbox};
+use mirror_frame::{Due, Peer};
 use parent_rule::Steps;
 use std::alloc::{AllocError, Global};
 use std::sync::Arc;
 use std::time::Clock;
 use survey_conf::Conf;
 use survey_link::{Sink, Source};
-use tile_path::Path;
 use tile_pixels::Tile;
 
 /// Reads the tiles of these leaves, one after another; each is decoded before the next is asked for. The steps rise by one for
@@ -42,34 +35,24 @@ use tile_pixels::Tile;
 ///
 /// # Errors
 ///
-/// As `request_file`; `Leaf` exactly where what was sent as a leaf is refused, for the first such leaf.
+/// As `ask`; `Leaf` exactly where what was sent as a leaf is refused, for the first such leaf.
 pub(crate) fn read_leaves<R: Clock + Log, S: Source, K: Sink>(
     rt: &R,
     alloc: Global,
-    src: &mut S,
-    sink: &mut K,
-    inbox: &mut Inbox,
+    peer: &mut Peer<'_, '_, '_, S, K>,
     survey: &Survey,
     numbers: &[u64],
     steps: &mut Steps,
 ) -> Result<Store<Tile>, MirrorRefusal>
-    requires few { length inbox.old.held.items ≤ most_head }
     requires ascending { IsStrictlyIncreasing numbers.now }
     requires cells { All (λ leaf. leaf < cell_count survey.now.conf.shape.top) numbers.now }
     requires size { length numbers.now ≤ 65000 }
-    ensures sent { OnOk result (Appends (K.held sink.old) (K.held sink.new) (sent (map (spec_leaf_ask survey.now.conf.shape.top) numbers.now))) }
     ensures keys { IfOk result (λ tiles. keys_of tiles ≡ numbers.now) }
     ensures fits { IfOk result (FitsLeaves survey.now.conf.shape) }
-    ensures read { IfOk result (λ tiles. Told (unread inbox.old.held.items (S.left src.old)) (unread inbox.new.held.items (S.left src.new))
-        (λ bytes rest. AreLeaves survey.now.pinned survey.now.conf bytes (leaf_map tiles) rest)) }
-    ensures refused { IfErr result (λ refusal. IfSome (unread inbox.old.held.items (S.left src.old)) (λ bytes.
-        RefusesLeaf survey.now.pinned survey.now.conf numbers.now bytes refusal)) }
-    ensures no_shelf { result ≢ Err MirrorRefusal.ShelfFault }
-    ensures read_failed { IsErrOf result MirrorRefusal.ReadFault → Rises (S.faults src.old) (S.faults src.new) }
-    ensures write_failed { IsErrOf result MirrorRefusal.WriteFault → Rises (K.faults sink.old) (K.faults sink.new) }
-    ensures reads_never_fall { S.faults src.old ≤ S.faults src.new }
-    ensures writes_never_fall { K.faults sink.old ≤ K.faults sink.new }
-    ensures few { length inbox.new.held.items ≤ most_head }
+    ensures reached { IfOk result (λ tiles. Reaches S.Source K.Sink survey.now.pinned (map (leaf_ask survey.now.conf.shape.top) numbers.now)
+        (λ bytes rest. AreLeaves survey.now.pinned survey.now.conf bytes (leaf_map tiles) rest) peer.old peer.new) }
+    ensures refused { IfErr result (λ refusal. IsRefusedIn S.Source K.Sink survey.now.pinned (map (leaf_ask survey.now.conf.shape.top) numbers.now)
+        (λ bytes. RefusesLeaf survey.now.pinned survey.now.conf numbers.now bytes refusal) peer.old peer.new refusal) }
     ensures steps { steps.new ≤ steps.old + length numbers.now }
     ensures steps_never_fall { steps.old ≤ steps.new }
 {
@@ -78,69 +61,21 @@ pub(crate) fn read_leaves<R: Clock + Log, S: Source, K: Sink>(
     let mut tiles = Store::new(alloc);
     let mut progress = Progress::begin(rt, numbers.len());
     for number in numbers {
-        read_leaf(
-            rt, alloc, src, sink, inbox, survey, *number, steps, &mut tiles,
-        )?;
-        progress.leaf_read(rt, inbox.body.len());
+        let request = Request::leaf(leaf_cell(&survey.conf, *number), tiles.len());
+        ask(rt, peer, &request, Due::Survey(survey.pinned))?;
+        let taken = take_leaf(
+            alloc,
+            peer.body(),
+            &survey.conf,
+            *number,
+            steps,
+            &mut tiles,
+        );
+        say_refused(rt, &request, &taken);
+        taken?;
+        progress.leaf_read(rt, peer.body().len());
     }
     Ok(tiles)
-}
-
-// Reads the tile of a leaf, and puts it behind those of leaves with lower numbers.
-fn read_leaf<R: Log, S: Source, K: Sink>(
-    rt: &R,
-    alloc: Global,
-    src: &mut S,
-    sink: &mut K,
-    inbox: &mut Inbox,
-    survey: &Survey,
-    number: u64,
-    steps: &mut Steps,
-    tiles: &mut Store<Tile>,
-) -> Result<(), MirrorRefusal>
-    requires few { length inbox.old.held.items ≤ most_head }
-    requires cell { number < cell_count survey.now.conf.shape.top }
-    requires lower { All (λ key. key < number) (keys_of tiles.old) }
-    requires fits { FitsLeaves survey.now.conf.shape tiles.old }
-    requires size { length tiles.old < 65000 }
-    ensures sent { OnOk result (Appends (K.held sink.old) (K.held sink.new) (request_bytes (spec_leaf_ask survey.now.conf.shape.top number))) }
-    ensures keys { OnOk result (keys_of tiles.new ≡ keys_of tiles.old ++ number ∷ []) }
-    ensures count { OnOk result (length tiles.new ≡ length tiles.old + 1) }
-    ensures fits { OnOk result (FitsLeaves survey.now.conf.shape tiles.new) }
-    ensures higher { OnOk result (All (λ key. key < number + 1) (keys_of tiles.new)) }
-    ensures read { OnOk result (Told (unread inbox.old.held.items (S.left src.old)) (unread inbox.new.held.items (S.left src.new))
-        (TellsLeaf survey.now.pinned survey.now.conf (leaf_map tiles.old) (leaf_map tiles.new))) }
-    ensures refused { IfErr result (λ refusal. IfSome (unread inbox.old.held.items (S.left src.old)) (λ bytes.
-        RefusesAt (OfSurvey survey.now.pinned) (3 + length tiles.old) (WrongLeaf survey.now.conf number) bytes refusal)) }
-    ensures no_shelf { result ≢ Err MirrorRefusal.ShelfFault }
-    ensures read_failed { IsErrOf result MirrorRefusal.ReadFault → Rises (S.faults src.old) (S.faults src.new) }
-    ensures write_failed { IsErrOf result MirrorRefusal.WriteFault → Rises (K.faults sink.old) (K.faults sink.new) }
-    ensures reads_never_fall { S.faults src.old ≤ S.faults src.new }
-    ensures writes_never_fall { K.faults sink.old ≤ K.faults sink.new }
-    ensures few { length inbox.new.held.items ≤ most_head }
-    ensures steps { steps.new ≤ steps.old + 1 }
-    ensures steps_never_fall { steps.old ≤ steps.new }
-{
-    let request = request_behind(tiles);
-    let ask = leaf_ask(&survey.conf, number);
-    let due = Due::Survey(survey.pinned);
-    match request_file(rt, src, sink, inbox, request, &ask, due) {
-        Ok(_) => {
-            let taken = take_leaf(alloc, &inbox.body, &survey.conf, number, steps, tiles);
-            say_refused(rt, Request::new(request, ask), &taken);
-            taken
-        }
-        Err(refusal) => Err(refusal),
-    }
-}
-
-// The request of a leaf.
-fn leaf_ask(conf: &Conf, number: u64) -> Ask
-    requires { number < cell_count conf.now.shape.top }
-    ensures asks { result ≡ spec_leaf_ask conf.now.shape.top number }
-    ensures order { HasOrder result }
-{
-    Ask::File(Path::Tile(leaf_cell(conf, number)))
 }
 
 // The cell of a leaf.
@@ -167,7 +102,7 @@ fn take_leaf(
     requires fits { FitsLeaves conf.now.shape tiles.old }
     ensures put { OnOk result (PutsLeaf conf.now number body.now tiles.old tiles.new) }
     ensures refused { IfErr result (RefusedBy (WrongLeaf conf.now number) body.now) }
-    ensures no_fault { (result ≢ Err MirrorRefusal.ReadFault) × (result ≢ Err MirrorRefusal.WriteFault) × (result ≢ Err MirrorRefusal.ShelfFault) }
+    ensures of_body { IfErr result IsOfBody }
     ensures steps { steps.new ≤ steps.old + 1 }
     ensures steps_never_fall { steps.old ≤ steps.new }
 {
@@ -187,7 +122,7 @@ fn read_tile(
     ensures shape { IfOk result (λ tile. HasShape tile conf.now.shape.depth conf.now.shape.n) }
     ensures numbers { IfOk result (λ tile. reads conf.now body.now ≡ Ok tile.numbers) }
     ensures refused { IfErr result (RefusedBy (WrongLeaf conf.now number) body.now) }
-    ensures no_fault { (result ≢ Err MirrorRefusal.ReadFault) × (result ≢ Err MirrorRefusal.WriteFault) × (result ≢ Err MirrorRefusal.ShelfFault) }
+    ensures of_body { IfErr result IsOfBody }
     ensures steps { steps.new ≤ steps.old + 1 }
     ensures steps_never_fall { steps.old ≤ steps.new }
 {

@@ -6,7 +6,7 @@ use Rattle.std.proofs.lemmas.List.{append-nil, append_cancel_left}
 use Rattle.std.proofs.lemmas.Grind.{common_steps}
 use Rattle.std.proofs.lemmas.List.Elements.{All-nil, All-head, All-tail, All-push, Contains-append_left, Contains-append_right}
 use Rattle.survey_conf.specs.Description.{Description}
-use Rattle.survey_link.specs.Door.{Connection, Connections, Takes, NoneWaits, given_back}
+use Rattle.survey_link.specs.Door.{Connection, Numbered, HasNumber, AreNumbered, Connections, Takes, NoneWaits, given_back}
 use Rattle.survey_link.specs.Link.{Rises}
 use Rattle.survey_link.specs.declared.faults.DoorFault.{DoorFault}
 use Rattle.survey_link.specs.declared.faults.DoorFault.TheVariants as fault
@@ -23,7 +23,7 @@ use Rattle.hips_place.specs.declared.place.PlaceEnd.{PlaceEnd}
 use Rattle.hips_place.specs.declared.place.PlaceEnd.TheVariants.{Done, Failed}
 use Rattle.hips_place.specs.declared.place.PlaceEnd.TheVariants as placed
 use Rattle.reader_pin.specs.SeatLaws.{keeps_itself, keeps_trans}
-use Rattle.hips_place.specs.Place.{IsSession, IsServedOnce, PlaceRun, AllReturned, HandsOut, DoorCounts, WantsFirst, EndsBy, IsPlace, PlaceGoes, TakesOne}
+use Rattle.hips_place.specs.Place.{IsSession, IsServedOnce, HasSameEnds, PlaceRun, AllReturned, HandsOut, DoorCounts, WantsFirst, EndsBy, IsPlace, PlaceGoes, TakesOne}
 
 begins_same : {X : Type 0} (xs ys : List X) → ys ≡ xs → Begins xs ys
 begins_same xs ys same = record { rest = []; is = grind (arith, common_steps) }
@@ -66,25 +66,33 @@ once_served old new unread taken back steps steps' served is goes all own own_is
 
 -- ---- one connection more
 
-place_push : (conf : Description) (opening : LeafTiles) (states : List SurveyState) (takens backs : List Connection) (ends : List SessionEnd) (owns : List (List ℕ)) (mid states' : List SurveyState)
-    (taken back : Connection) (end : SessionEnd) (own : List ℕ) → PlaceRun conf opening states takens backs ends owns mid → IsServedOnce conf opening mid taken back states' end own
+place_push : (conf : Description) (opening : LeafTiles) (states : List SurveyState) (takens backs : List Numbered) (ends : List SessionEnd) (owns : List (List ℕ)) (mid states' : List SurveyState)
+    (taken back : Numbered) (end : SessionEnd) (own : List ℕ) → PlaceRun conf opening states takens backs ends owns mid → HasSameEnds taken back → IsServedOnce conf opening mid taken.told back.told states' end own
     → PlaceRun conf opening states (takens ++ taken ∷ []) (backs ++ back ∷ []) (ends ++ end ∷ []) (owns ++ own ∷ []) states'
-place_push conf opening states [] [] [] [] mid states' taken back end own run served =
-    (states', subst (λ (s : List SurveyState). IsServedOnce conf opening s taken back states' end own) run served, refl)
-place_push conf opening states [] [] [] (o ∷ owns) mid states' taken back end own run served = absurd run
-place_push conf opening states [] [] (e ∷ ends) owns mid states' taken back end own run served = absurd run
-place_push conf opening states [] (b ∷ backs) ends owns mid states' taken back end own run served = absurd run
-place_push conf opening states (t ∷ takens) [] ends owns mid states' taken back end own run served = absurd run
-place_push conf opening states (t ∷ takens) (b ∷ backs) [] owns mid states' taken back end own run served = absurd run
-place_push conf opening states (t ∷ takens) (b ∷ backs) (e ∷ ends) [] mid states' taken back end own run served = absurd run
-place_push conf opening states (t ∷ takens) (b ∷ backs) (e ∷ ends) (o ∷ owns) mid states' taken back end own run served =
-    (run.0, run.1, place_push conf opening run.0 takens backs ends owns mid states' taken back end own run.2 served)
+place_push conf opening states [] [] [] [] mid states' taken back end own run same served =
+    (states', same, subst (λ (s : List SurveyState). IsServedOnce conf opening s taken.told back.told states' end own) run served, refl)
+place_push conf opening states [] [] [] (o ∷ owns) mid states' taken back end own run same served = absurd run
+place_push conf opening states [] [] (e ∷ ends) owns mid states' taken back end own run same served = absurd run
+place_push conf opening states [] (b ∷ backs) ends owns mid states' taken back end own run same served = absurd run
+place_push conf opening states (t ∷ takens) [] ends owns mid states' taken back end own run same served = absurd run
+place_push conf opening states (t ∷ takens) (b ∷ backs) [] owns mid states' taken back end own run same served = absurd run
+place_push conf opening states (t ∷ takens) (b ∷ backs) (e ∷ ends) [] mid states' taken back end own run same served = absurd run
+place_push conf opening states (t ∷ takens) (b ∷ backs) (e ∷ ends) (o ∷ owns) mid states' taken back end own run same served =
+    (run.0, run.1, run.2, place_push conf opening run.0 takens backs ends owns mid states' taken back end own run.3 same served)
 
 -- it is given back where fewer were given back than taken
-returns : (back : Connection) (mid : Connections) → length mid.returned < length mid.taken → given_back back mid ≡ record mid { returned = mid.returned ++ back ∷ [] }
+returns : (back : Numbered) (mid : Connections) → length mid.returned < length mid.taken → given_back back mid ≡ record mid { returned = mid.returned ++ back ∷ [] }
 returns back mid fewer = grind (arith, common_steps)
 
-hands_push : (door now mid door' : Option Connections) (takens backs : List Connection) (taken back : Connection) → AllReturned door → length takens ≡ length backs
+numbered_push : (number : ℕ) (takens : List Numbered) (taken : Numbered) → AreNumbered number takens → HasNumber (number + length takens) taken → AreNumbered number (takens ++ taken ∷ [])
+numbered_push number [] taken are has =
+    let here : number + 0 ≡ number = omega arith in
+    (subst (λ (n : ℕ). HasNumber n taken) here has, tt)
+numbered_push number (first ∷ takens) taken are has =
+    let there : number + length (first ∷ takens) ≡ number + 1 + length takens = omega arith in
+    (are.0, numbered_push (number + 1) takens taken are.1 (subst (λ (n : ℕ). HasNumber n taken) there has))
+
+hands_push : (door now mid door' : Option Connections) (takens backs : List Numbered) (taken back : Numbered) → AllReturned door → length takens ≡ length backs
     → HandsOut door takens backs now → Takes now mid taken → door' ≡ option_map (given_back back) mid → HandsOut door (takens ++ taken ∷ []) (backs ++ back ∷ []) door'
 hands_push None now mid door' takens backs taken back all same handed takes is = tt
 hands_push (Some old) None mid door' takens backs taken back all same handed takes is = absurd handed
@@ -100,6 +108,7 @@ hands_push (Some old) (Some now) (Some mid) (Some new) takens backs taken back a
       handed.0 ∙ ap (λ xs. takens ++ xs) (takes.0 ∙ ap (λ xs. taken ∷ xs) (sym waits)) ∙ sym (append_assoc takens (taken ∷ []) new.waiting),
       takens_are ∙ takes.1 ∙ ap (λ xs. xs ++ taken ∷ []) handed.1 ∙ append_assoc old.taken takens (taken ∷ []),
       backs_are ∙ ap (λ xs. xs ++ back ∷ []) (takes.2 ∙ handed.2) ∙ append_assoc old.returned backs (back ∷ []),
+      numbered_push (length old.taken) takens taken handed.3 (subst (λ (n : ℕ). HasNumber n taken) (ap length handed.1 ∙ length-append old.taken takens) takes.3),
     )
 
 -- ---- the loop
@@ -161,8 +170,8 @@ framed_push frame frame' ends end (inl all) stays was = elim (is_want end) [
 
 -- what was done so far: the board's history goes on by the connections that were taken, and none is out
 pub record SoFar (old now : BoardContent) (door door' : Option Connections) (count : ℕ) (wanted : Bool) (frame : Option FrameState) (owns : List (List ℕ)) : Type 0 where
-  pub takens : List Connection
-  pub backs : List Connection
+  pub takens : List Numbered
+  pub backs : List Numbered
   pub ends : List SessionEnd
   pub run : PlaceRun now.conf now.opening old.history takens backs ends owns now.history
   pub handed : HandsOut door takens backs door'
@@ -174,7 +183,7 @@ pub record SoFar (old now : BoardContent) (door door' : Option Connections) (cou
 
 none_handed : (door : Option Connections) → HandsOut door [] [] door
 none_handed None = tt
-none_handed (Some told) = (refl, grind (arith, common_steps), grind (arith, common_steps))
+none_handed (Some told) = (refl, grind (arith, common_steps), grind (arith, common_steps), tt)
 
 pub begins_place : (board : BoardContent) (door : Option Connections) (frame : Option FrameState) → SoFar board board door door 0 false frame []
 begins_place board door frame = record {
@@ -202,7 +211,7 @@ one_more old now new door door1 door2 count wanted wanted' frame frame' end owns
       takens = s.takens ++ one.taken ∷ [];
       backs = s.backs ++ one.back ∷ [];
       ends = s.ends ++ end ∷ [];
-      run = place_push new.conf new.opening old.history s.takens s.backs s.ends owns now.history new.history one.taken one.back end goes.own run (one.served goes.own goes.own_is);
+      run = place_push new.conf new.opening old.history s.takens s.backs s.ends owns now.history new.history one.taken one.back end goes.own run one.same (one.served goes.own goes.own_is);
       handed = hands_push door door1 one.mid door2 s.takens s.backs one.taken one.back all (s.count_is ∙ sym s.backs_are) s.handed one.takes one.returned;
       count_is = length-append s.takens (one.taken ∷ []) ∙ ap (λ n. n + 1) s.count_is;
       backs_are = length-append s.backs (one.back ∷ []) ∙ ap (λ n. n + 1) s.backs_are;

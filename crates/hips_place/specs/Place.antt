@@ -5,7 +5,7 @@ use Rattle.std.specs.List.{concat}
 use Rattle.std.specs.Io.KnownBytes.{Appends}
 use Rattle.survey_conf.specs.Description.{Description}
 use Rattle.survey_link.specs.Link.{Rises}
-use Rattle.survey_link.specs.Door.{Connection, Connections, Takes, NoneWaits, given_back}
+use Rattle.survey_link.specs.Door.{Connection, Numbered, AreNumbered, Connections, Takes, NoneWaits, given_back}
 use Rattle.edit_journal.specs.Leaves.{LeafTiles}
 use Rattle.survey_core.specs.History.{SurveyState, opening_state, IsHistory, Begins}
 use Rattle.shared_history.specs.Histories.{places_of}
@@ -49,14 +49,20 @@ pub record IsServedOnce (conf : Description) (opening : LeafTiles) (states : Lis
   pub begins : Begins states states'
   pub session : IfSome taken.unread (IsSession conf opening states taken back states' end own)
 
+-- the ends that were given back are those that were taken
+pub record HasSameEnds (taken back : Numbered) : Type 0 where
+  pub source : back.source ≡ taken.source
+  pub sink : back.sink ≡ taken.sink
+
 -- ---- a place
 
--- connections as they were taken and as they were given back, with their ends and the events of each, lead one after another
--- from the states seen before to those seen then
-abbrev pub PlaceRun : Description → LeafTiles → List SurveyState → List Connection → List Connection → List SessionEnd → List (List ℕ) → List SurveyState → Type 0
+-- connections as they were taken and as they were given back, each over its own two ends, with how they ended and the events of
+-- each, lead one after another from the states seen before to those seen then
+abbrev pub PlaceRun : Description → LeafTiles → List SurveyState → List Numbered → List Numbered → List SessionEnd → List (List ℕ) → List SurveyState → Type 0
 PlaceRun conf opening states [] [] [] [] states' = states' ≡ states
 PlaceRun conf opening states (taken ∷ takens) (back ∷ backs) (end ∷ ends) (own ∷ owns) states' = (mid : List SurveyState)
-    × IsServedOnce conf opening states taken back mid end own
+    × HasSameEnds taken back
+    × IsServedOnce conf opening states taken.told back.told mid end own
     × PlaceRun conf opening mid takens backs ends owns states'
 PlaceRun conf opening states takens backs ends owns states' = ⊥
 
@@ -65,12 +71,13 @@ abbrev pub AllReturned : Option Connections → Type 0
 AllReturned None = ⊤
 AllReturned (Some told) = length told.returned ≡ length told.taken
 
--- the door has handed out these connections, and got them back like that, where it tells them
-abbrev pub HandsOut : Option Connections → List Connection → List Connection → Option Connections → Type 0
+-- the door has handed out these connections, each with a number of its own, and got them back like that, where it tells them
+abbrev pub HandsOut : Option Connections → List Numbered → List Numbered → Option Connections → Type 0
 HandsOut None takens backs new = ⊤
 HandsOut (Some old) takens backs None = ⊥
 HandsOut (Some old) takens backs (Some new) =
     (old.waiting ≡ takens ++ new.waiting) × (new.taken ≡ old.taken ++ takens) × (new.returned ≡ old.returned ++ backs)
+    × AreNumbered (length old.taken) takens
 
 -- how often a door has failed, and how often it had no memory to accept a connection
 pub record DoorCounts : Type 0 where
@@ -97,8 +104,8 @@ WantsFirst (end ∷ ends) = All (λ each. each ≢ WantOfMemory) ends
 -- an accept was refused. It ends for want of memory where an accept wanted it or a connection ended so, and is done where none
 -- did
 pub record IsPlace (old new : BoardContent) (door door' : Option Connections) (counts counts' : DoorCounts) (most : ℕ) (end : PlaceEnd) (owns : List (List ℕ)) : Type 0 where
-  pub takens : List Connection
-  pub backs : List Connection
+  pub takens : List Numbered
+  pub backs : List Numbered
   pub ends : List SessionEnd
   pub run : PlaceRun new.conf new.opening old.history takens backs ends owns new.history
   pub handed : HandsOut door takens backs door'
@@ -130,18 +137,20 @@ pub record ServesPlace (old new : BoardContent) (door door' : Option Connections
 
 -- a connection was taken and given back
 pub record TakesOne (door door' : Option Connections) (old new : BoardContent) (end : SessionEnd) : Type 0 where
-  pub taken : Connection
-  pub back : Connection
+  pub taken : Numbered
+  pub back : Numbered
   pub mid : Option Connections
   pub takes : Takes door mid taken
   pub returned : door' ≡ option_map (given_back back) mid
-  pub served : (own : List ℕ) → new.own ≡ old.own ++ own → IsServedOnce new.conf new.opening old.history taken back new.history end own
+  pub same : HasSameEnds taken back
+  pub served : (own : List ℕ) → new.own ≡ old.own ++ own → IsServedOnce new.conf new.opening old.history taken.told back.told new.history end own
 
 -- a connection that was taken like this is served and given back
-pub record GivesBack (door door' : Option Connections) (old new : BoardContent) (taken : Connection) (end : SessionEnd) : Type 0 where
-  pub back : Connection
+pub record GivesBack (door door' : Option Connections) (old new : BoardContent) (taken : Numbered) (end : SessionEnd) : Type 0 where
+  pub back : Numbered
   pub returned : door' ≡ option_map (given_back back) door
-  pub served : (own : List ℕ) → new.own ≡ old.own ++ own → IsServedOnce new.conf new.opening old.history taken back new.history end own
+  pub same : HasSameEnds taken back
+  pub served : (own : List ℕ) → new.own ≡ old.own ++ own → IsServedOnce new.conf new.opening old.history taken.told back.told new.history end own
 
 -- ---- the places of a server
 
@@ -213,8 +222,8 @@ pub record DoorRun : Type 0 where
 -- a door of the server, of which so many connections were to be taken, where the server's places ended all in all so: those
 -- that it handed out and got back lead from the survey's first state to states with which these begin
 pub record ServesDoor (conf : Description) (opening : LeafTiles) (states : List SurveyState) (most : ℕ) (end : PlaceEnd) (served : DoorRun) : Type 0 where
-  pub takens : List Connection
-  pub backs : List Connection
+  pub takens : List Numbered
+  pub backs : List Numbered
   pub ends : List SessionEnd
   pub seen : List SurveyState
   pub run : PlaceRun conf opening (opening_state ∷ []) takens backs ends served.owns seen

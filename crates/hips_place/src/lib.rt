@@ -5,6 +5,7 @@
 #![tactic(auto)]
 
 mod doors;
+mod numbered;
 mod place;
 mod places;
 

@@ -6,6 +6,7 @@ ghost use Rattle.hips_http.specs.Moment.{connection_of};
 ghost use Rattle.hips_http.specs.SessionRun.{Goes, room_of};
 ghost use Rattle.hips_place.specs.Place.{EndsBy, IsServedOnce, ServesPlace, TakesOne, GivesBack, counts_of, worse};
 
+use crate::numbered::{NumberedSink, NumberedSource, Numbers};
 use hips_http::{SessionEnd, frame_for, session_in};
 use http_frame::Frame;
 use log::kv::With;
@@ -13,6 +14,7 @@ use log::{Level, Log, Span, debug, info, log_enabled};
 use parent_rule::Steps;
 use reader_pin::ChangedWith;
 use std::alloc::Global;
+use std::marker::Brand;
 use std::thread::Threads;
 use std::time::Clock;
 use survey_link::{Door, DoorFault, Gate, Sink, Source};
@@ -198,7 +200,7 @@ fn serve_next<
     match door.accept()? {
         None => Ok(None),
         Some(connection) => {
-            let end = serve_connection::<R, N, B, D, G>(
+            let end = serve_connection::<Brand, R, N, B, D, G>(
                 rt, alloc, name, frame, board, door, connection, gate, steps,
             );
             Ok(Some(end))
@@ -206,8 +208,10 @@ fn serve_next<
     }
 }
 
-// Serves a connection and gives it back; how it ended. What is said meanwhile names it, where requests are said.
+// Serves a connection, whose ends have the numbers of `J`, and gives it back; how it ended. What is said meanwhile names it, where
+// requests are said.
 fn serve_connection<
+    J: Numbers,
     R: Log + NamesConnections<N>,
     N: Threads + Sync + Clock + Log + Drop,
     B: ChangedWith<N>,
@@ -224,14 +228,20 @@ fn serve_connection<
     gate: &G,
     steps: &mut Steps,
 ) -> SessionEnd
+    requires source { D.In.number connection.0 ≡ J.source }
+    requires sink { D.Out.number connection.1 ≡ J.sink }
     requires room { IfSome frame.old (λ frame. frame.room ≡ room_of (B.content board.old).conf) }
     ensures room { IfSome frame.new (λ frame. frame.room ≡ room_of (B.content board.new).conf) }
     ensures gives_back { GivesBack (D.connections door.old) (D.connections door.new) (B.content board.old) (B.content board.new) (record {
-      unread = D.In.left connection.0;
-      written = D.Out.held connection.1;
-      flushed = D.Out.flushed connection.1;
-      source_faults = D.In.faults connection.0;
-      sink_faults = D.Out.faults connection.1;
+      source = D.In.number connection.0;
+      sink = D.Out.number connection.1;
+      told = record {
+        unread = D.In.left connection.0;
+        written = D.Out.held connection.1;
+        flushed = D.Out.flushed connection.1;
+        source_faults = D.In.faults connection.0;
+        sink_faults = D.Out.faults connection.1;
+      };
     }) result }
     ensures goes { Goes (B.content board.old) (B.content board.new) }
     ensures faults { D.faults door.new ≡ D.faults door.old }
@@ -241,7 +251,8 @@ fn serve_connection<
     ensures steps_never_fall { steps.old ≤ steps.new }
 {
     let rt: N = rt.within(name.place, name.number);
-    let (mut input, mut output) = connection;
+    let mut input = NumberedSource::<D::In, J>::new(connection.0);
+    let mut output = NumberedSink::<D::Out, J>::new(connection.1);
     let end = serve(
         &rt,
         alloc,
@@ -252,7 +263,7 @@ fn serve_connection<
         gate,
         steps,
     );
-    door.done(input, output);
+    door.done(input.into_inner(), output.into_inner());
     debug!(rt; target: "ended", "{end:?}");
     end
 }

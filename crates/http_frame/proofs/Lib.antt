@@ -3,10 +3,11 @@ mod DigitSteps
 mod Values
 mod Targets
 mod FirstLine
-mod Held
 mod HeadEnds
 pub mod Fills
-mod ReadingSteps
+pub mod ReadingSteps
+pub mod ReadLemmas
+pub mod Taken
 pub mod Nexts
 pub mod Unique
 mod Stands

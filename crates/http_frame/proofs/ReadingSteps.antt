@@ -98,3 +98,11 @@ module _ {S : Type 0} (left : S → Option (List ℕ)) (readings : S → Option 
   -- nothing was read
   pub reads_none : (held : List ℕ) (s : S) → ReadsWhile left readings needs held s s []
   reads_none held s = record { pieces = []; came_is = refl; each = refl; counted = counted_none (readings s) }
+
+  -- nothing was read where nothing was needed
+  each_full : (held came : List ℕ) (pieces : List (List ℕ)) (a b : S) → EachNeeded left readings needs held pieces a b → came ≡ concat pieces → (needs held → ⊥) → (b ≡ a) × (came ≡ [])
+  each_full held came [] a b each is full = (each, is)
+  each_full held came (piece ∷ more) a b each is full = absurd (full each.0)
+
+  pub reads_full : (held came : List ℕ) (a b : S) → ReadsWhile left readings needs held a b came → (needs held → ⊥) → (b ≡ a) × (came ≡ [])
+  reads_full held came a b reads full = each_full held came reads.pieces a b reads.each reads.came_is full

@@ -12,6 +12,13 @@ pub record Takes (held held' : List ℕ) (left left' : Option (List ℕ)) : Type
   pub grown : held' ≡ held ++ more
   pub consumed : Consumes left left' more
 
+-- the input ends before so many bytes stand behind those that are held
+pub record EndsShort (count : ℕ) (held : List ℕ) (left left' : Option (List ℕ)) : Type 0 where
+  pub all : List ℕ
+  pub taken : Takes held all left left'
+  pub short : length all < count
+  pub end : IsAtEnd left'
+
 -- why no whole head is held
 abbrev pub StopsFill : List ℕ → Option (List ℕ) → ℕ → ℕ → Stop → Type 0
 StopsFill held left faults faults' End = (held ≡ []) × IsAtEnd left

@@ -4,7 +4,7 @@ use Rattle.http_frame.specs.declared.stop.Turn.{Turn}
 use Rattle.http_frame.specs.declared.stop.Turn.TheVariants.{AtHead, AtBody, Stopped}
 use Rattle.http_frame.specs.declared.frame.Frame.TheInside.{Inside}
 use Rattle.http_frame.specs.Next.{most_head}
-use Rattle.http_frame.specs.Held.{held, given, size}
+use Rattle.survey_link.specs.Inbox.{held, given, size}
 use Rattle.http_frame.specs.Frame.{FrameState}
 
 abbrev pub shown : Inside → FrameState

@@ -4,7 +4,6 @@ pub mod Request
 pub mod Refusal
 pub mod Next
 pub mod Reply
-pub mod Held
 pub mod Readings
 pub mod Fill
 pub mod Frame

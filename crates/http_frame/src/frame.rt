@@ -7,7 +7,6 @@ ghost use Rattle.http_frame.specs.Target.{path_of};
 ghost use Rattle.http_frame.specs.Next.{IsTaken, NeedsMore};
 ghost use Rattle.http_frame.specs.Refusal.{IsRefused};
 
-use crate::buffer::Buffer;
 use crate::fill::{MAX_HEAD, fill_body, fill_head};
 use crate::head::{Head, read_head};
 use crate::request::Request;
@@ -16,13 +15,13 @@ use crate::target::local_part;
 use percent_encoding::percent_decode;
 use std::alloc::{AllocError, Global};
 use std::marker::Model;
-use survey_link::Source;
+use survey_link::{Inbox, Source};
 
 /// One connection's input, read request by request: `head` and then `body`, again and again. All its memory is taken by
 /// `new`.
 #[derive(Drop)]
 pub struct Frame {
-    buffer: Buffer,
+    buffer: Inbox,
     path: Vec<u8>,
     has_path: bool,
     // How many bytes the body had that was given last.
@@ -64,7 +63,7 @@ impl Frame {
           room = body_room;
         }) }
     {
-        let buffer = Buffer::new(alloc, MAX_HEAD + body_room)?;
+        let buffer = Inbox::new(alloc, MAX_HEAD + body_room)?;
         let path = Vec::with_capacity(alloc, MAX_HEAD)?;
         Ok(Frame {
             buffer,

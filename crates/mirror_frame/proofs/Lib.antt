@@ -1,5 +1,5 @@
-mod Held
 mod Lines
 mod Heads
 mod Replies
 mod OneReply
+pub mod Exchanges

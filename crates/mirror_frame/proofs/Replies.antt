@@ -1,17 +1,25 @@
--- A reply that stands first in the bytes that are held and those that are left.
-use Rattle.std.proofs.Common.{◌≡◌, ℕ, ◌+◌, ◌-◌, ◌≤◌, inl, inr, List, [], ◌++◌, length, take, drop, Option, Some, None, refl, ap, ◌∙◌, subst, arith, append_assoc, length-append}
-use Rattle.std.specs.Prelude.{IfSome, IsSomeAnd, IsSome, Result, Ok, Err, IfOk, IfErr, OnOk}
+-- A reply that stands first in the bytes that are held and those that came.
+use Rattle.std.proofs.Common.{◌≡◌, ℕ, ◌+◌, ◌-◌, ◌<◌, ◌≤◌, inl, inr, List, [], ◌++◌, length, take, drop, Option, Some, None, sym, ap, ◌∙◌, subst, arith, append_assoc, length-append}
+use Rattle.std.specs.Prelude.{IfSome, Result, Ok, Err, IfOk, IfErr, OnOk}
 use Rattle.std.proofs.lemmas.List.{take-append-le, drop-append-le, append-nil, take_all}
-use Rattle.http_frame.specs.Next.{head_end, most_head, IsHeadLength, HasNoHead}
-use Rattle.http_frame.specs.Fill.{Takes}
-use Rattle.http_frame.proofs.Fills.{occurs_in_front, takes_none}
-use Rattle.http_frame.proofs.Nexts.{head_length_of_more, text_of_more, same_bytes}
-use Rattle.mirror_frame.specs.Reply.{BeginsReply, IsReply, IsCutReply, IsWrongReply, FitsPrefix, FitsBody, pinned_line}
-use Rattle.mirror_frame.specs.Reading.{StopsBegin, StopsReply, CutsBody, unread}
+use Rattle.std.specs.Io.KnownBytes.{Consumes}
+use Rattle.http_frame.specs.Next.{head_end, most_head, IsHeadLength, HasNoHead, NeedsMore}
+use Rattle.http_frame.proofs.Fills.{occurs_in_front}
+use Rattle.http_frame.proofs.Nexts.{head_length_of_more, text_of_more}
+use Rattle.survey_link.specs.Link.{Rises}
+use Rattle.http_frame.specs.Fill.{StopsFill}
+use Rattle.http_frame.specs.declared.stop.Stop.{Stop as Stopped}
+use Rattle.http_frame.specs.declared.stop.Stop.TheVariants as stopped
+use Rattle.http_frame.specs.Frame.{IsShort}
+use Rattle.http_frame.specs.Readings.{ReadsWhile}
+use Rattle.http_frame.proofs.ReadLemmas.{reads_for, reads_gave, reads_then}
+use Rattle.mirror_frame.specs.Reply.{BeginsReply, IsReply, IsCutReply, IsWrongReply, FitsPrefix, FitsBody}
+use Rattle.mirror_frame.specs.Reading.{StopsBegin, StopsReply, ReadsReply, TellsPinned, unread, of_stopped}
+use Rattle.mirror_frame.specs.Peer.{Told}
 use Rattle.mirror_frame.specs.declared.due.Due.{Due}
 use Rattle.mirror_frame.specs.declared.due.Due.TheVariants.{Pinned}
 use Rattle.mirror_frame.specs.declared.reading.Stop.{Stop}
-use Rattle.mirror_frame.specs.declared.reading.Stop.TheVariants.{Wrong, Cut, ReadFault, OutOfMemory}
+use Rattle.mirror_frame.specs.declared.reading.Stop.TheVariants.{Wrong, Cut, ReadFault, WriteFault, OutOfMemory}
 
 -- ---- more bytes behind
 
@@ -55,138 +63,152 @@ wrong_of_more due bytes more (inr (inr body)) =
       wrong = rw (after, take-append-le body.body_length (drop n bytes) more body.whole) body.wrong;
     }))
 
--- ---- the bytes that are held and those that are left
-
--- the unread bytes at the end of the input are those held
-at_end : (held held' xs ys : List ℕ) → Takes held held' (Some xs) (Some ys) → ys ≡ [] → held ++ xs ≡ held'
-at_end held held' xs ys takes end =
-    same_bytes held held' (Some xs) (Some ys) takes xs ys refl refl ∙ ap (λ rest. held' ++ rest) end ∙ append-nil held'
-
-pub stops_begun : (due : Due) (held held' : List ℕ) (left left' : Option (List ℕ)) (stop : Stop)
-    → Takes held held' left left' → StopsBegin due held' left' stop → IfSome (unread held left) (λ bytes. StopsReply due bytes stop)
-stops_begun due held held' None left' stop takes stops = tt
-stops_begun due held held' (Some xs) None stop takes stops = absurd takes.consumed
-stops_begun due held held' (Some xs) (Some ys) Wrong takes stops =
-    rw (same_bytes held held' (Some xs) (Some ys) takes xs ys refl refl) (wrong_of_more due held' ys stops)
-stops_begun due held held' (Some xs) (Some ys) Cut takes stops =
-    rw (at_end held held' xs ys takes stops.1) (inl (stops.0.short, stops.0.none))
-stops_begun due held held' (Some xs) (Some ys) ReadFault takes stops = tt
-stops_begun due held held' (Some xs) (Some ys) OutOfMemory takes stops = tt
-
--- the bytes behind a head in all of them
-module _ (due : Due) (held held' : List ℕ) (xs ys : List ℕ) (n size : ℕ) (prefix : Option ℕ)
-    (takes : Takes held held' (Some xs) (Some ys)) (begins : BeginsReply due held' n size prefix) where
-  begins_in_all : BeginsReply due (held ++ xs) n size prefix
-  begins_in_all = rw (same_bytes held held' (Some xs) (Some ys) takes xs ys refl refl) (begins_of_more due held' ys n size prefix begins)
-
-  behind_in_all : drop n (held ++ xs) ≡ drop n held' ++ ys
-  behind_in_all =
-      ap (drop n) (same_bytes held held' (Some xs) (Some ys) takes xs ys refl refl) ∙ drop-append-le n held' ys (head_fits held' n begins.ends)
-
-pub replies : (due : Due) (held held' body rest : List ℕ) (left left' left'' : Option (List ℕ)) (n : ℕ) (prefix : Option ℕ)
-    → Takes held held' left left' → BeginsReply due held' n (length body) prefix → FitsBody due prefix body
-    → Takes (drop n held') (body ++ rest) left' left''
-    → IfSome (unread held left) (λ bytes. IsSomeAnd (unread rest left'') (λ more. IsReply due bytes body more))
-replies due held held' body rest None left' left'' n prefix takes begins told behind = tt
-replies due held held' body rest (Some xs) None left'' n prefix takes begins told behind = absurd takes.consumed
-replies due held held' body rest (Some xs) (Some ys) None n prefix takes begins told behind = absurd behind.consumed
-replies due held held' body rest (Some xs) (Some ys) (Some zs) n prefix takes begins told behind = record {
-  head_length = n;
-  prefix = prefix;
-  begins = begins_in_all due held held' xs ys n (length body) prefix takes begins;
-  told = told;
-  rest_is = behind_in_all due held held' xs ys n (length body) prefix takes begins ∙ same_bytes (drop n held') (body ++ rest) (Some ys) (Some zs) behind ys zs refl refl ∙ append_assoc body rest zs;
+-- a reply in form stands first in more bytes, and these follow it
+reply_of_more : (due : Due) (bytes more body rest : List ℕ) → IsReply due bytes body rest → IsReply due (bytes ++ more) body (rest ++ more)
+reply_of_more due bytes more body rest r = record {
+  head_length = r.head_length;
+  prefix = r.prefix;
+  begins = begins_of_more due bytes more r.head_length (length body) r.prefix r.begins;
+  told = r.told;
+  rest_is = drop-append-le r.head_length bytes more (head_fits bytes r.head_length r.begins.ends) ∙ ap (λ after. after ++ more) r.rest_is ∙ append_assoc body rest more;
 }
 
-pub wrong_body : (due : Due) (held held' body rest : List ℕ) (left left' left'' : Option (List ℕ)) (n : ℕ) (prefix : Option ℕ)
-    → Takes held held' left left' → BeginsReply due held' n (length body) prefix → ¬ FitsBody due prefix body
-    → Takes (drop n held') (body ++ rest) left' left''
-    → IfSome (unread held left) (λ bytes. IsWrongReply due bytes)
-wrong_body due held held' body rest None left' left'' n prefix takes begins wrong behind = tt
-wrong_body due held held' body rest (Some xs) None left'' n prefix takes begins wrong behind = absurd takes.consumed
-wrong_body due held held' body rest (Some xs) (Some ys) None n prefix takes begins wrong behind = absurd behind.consumed
-wrong_body due held held' body rest (Some xs) (Some ys) (Some zs) n prefix takes begins wrong behind =
-    let after : drop n (held ++ xs) ≡ body ++ (rest ++ zs) =
-    behind_in_all due held held' xs ys n (length body) prefix takes begins ∙ same_bytes (drop n held') (body ++ rest) (Some ys) (Some zs) behind ys zs refl refl ∙ append_assoc body rest zs in
-    let front : take (length body) (body ++ (rest ++ zs)) ≡ body = take-append-le (length body) body (rest ++ zs) (omega arith) ∙ take_all (length body) body (omega arith) in
-    inr (inr (record {
-      head_length = n;
-      body_length = length body;
-      prefix = prefix;
-      begins = begins_in_all due held held' xs ys n (length body) prefix takes begins;
-      whole = omega (arith, ap length after, length-append body (rest ++ zs));
-      wrong = rw (after, front) wrong;
-    }))
+-- ---- the bytes that are held, and those that came behind a head
 
-pub cut_body : (due : Due) (held held' : List ℕ) (left left' left'' : Option (List ℕ)) (n size : ℕ) (prefix : Option ℕ)
-    → Takes held held' left left' → BeginsReply due held' n size prefix → CutsBody size (drop n held') left' left''
-    → IfSome (unread held left) (λ bytes. IsCutReply due bytes)
-cut_body due held held' None left' left'' n size prefix takes begins cuts = tt
-cut_body due held held' (Some xs) None left'' n size prefix takes begins cuts = absurd takes.consumed
-cut_body due held held' (Some xs) (Some ys) None n size prefix takes begins cuts = absurd cuts.taken.consumed
-cut_body due held held' (Some xs) (Some ys) (Some zs) n size prefix takes begins cuts =
-    let after : drop n (held ++ xs) ≡ cuts.all =
-    behind_in_all due held held' xs ys n size prefix takes begins ∙ at_end (drop n held') cuts.all ys zs cuts.taken cuts.end in
-    inr (record {
+module _ (due : Due) (held came : List ℕ) (n size : ℕ) (prefix : Option ℕ) (begins : BeginsReply due held n size prefix) where
+  begins_here : BeginsReply due (held ++ came) n size prefix
+  begins_here = begins_of_more due held came n size prefix begins
+
+  behind : drop n (held ++ came) ≡ drop n held ++ came
+  behind = drop-append-le n held came (head_fits held n begins.ends)
+
+  pub cut_reply : length (drop n held ++ came) < size → IsCutReply due (held ++ came)
+  cut_reply short = inr (record { head_length = n; body_length = size; prefix = prefix; begins = begins_here; short = rw behind short })
+
+  module _ (body rest : List ℕ) (size_is : length body ≡ size) (is : body ++ rest ≡ drop n held ++ came) where
+    whole_reply : FitsBody due prefix body → IsReply due (held ++ came) body rest
+    whole_reply told = record { head_length = n; prefix = prefix; begins = rw size_is begins_here; told = told; rest_is = behind ∙ sym is }
+
+    front : take size (drop n (held ++ came)) ≡ body
+    front =
+        ap (take size) (behind ∙ sym is) ∙ take-append-le size body rest (omega (arith, size_is)) ∙ take_all size body (omega (arith, size_is))
+
+    wrong_reply : ¬ FitsBody due prefix body → IsWrongReply due (held ++ came)
+    wrong_reply wrong = inr (inr (record {
       head_length = n;
       body_length = size;
       prefix = prefix;
-      begins = begins_in_all due held held' xs ys n size prefix takes begins;
-      short = rw after cuts.short;
-    })
+      begins = begins_here;
+      whole = omega (arith, ap length (behind ∙ sym is), length-append body rest, size_is);
+      wrong = rw front wrong;
+    }))
 
-pub stops_body : (due : Due) (held : List ℕ) (left left' : Option (List ℕ)) (n size : ℕ) (prefix : Option ℕ) (stop : Stop)
-    → BeginsReply due held n size prefix → (stop ≡ Cut → CutsBody size (drop n held) left left') → (stop ≡ Wrong → ⊥)
-    → IfSome (unread held left) (λ bytes. StopsReply due bytes stop)
-stops_body due held None left' n size prefix stop begins cuts sound = tt
-stops_body due held (Some xs) left' n size prefix Wrong begins cuts sound = absurd (sound refl)
-stops_body due held (Some xs) left' n size prefix Cut begins cuts sound =
-    cut_body due held held (Some xs) (Some xs) left' n size prefix (takes_none held (Some xs)) begins (cuts refl)
-stops_body due held (Some xs) left' n size prefix ReadFault begins cuts sound = tt
-stops_body due held (Some xs) left' n size prefix OutOfMemory begins cuts sound = tt
+    -- a reply whose body was judged
+    pub judged : (left : Option (List ℕ)) (r : Result (Option ℕ) Stop) → IfOk r (λ p. (p ≡ prefix) × FitsBody due prefix body)
+        → IfErr r (λ stop. (stop ≡ Wrong) × ¬ FitsBody due prefix body) → ReadsReply due (held ++ came) body rest left r
+    judged left (Ok p) told wrong = (
+      whole_reply told.1,
+      rw told.0 begins.fits,
+      λ pinned. rw told.0 (subst (λ d. FitsPrefix d prefix) pinned begins.fits, subst (λ d. FitsBody d prefix body) pinned told.1),
+    )
+    judged left (Err stop) told wrong = rw wrong.0 (wrong_reply wrong.1)
 
--- ---- a reply whose body was judged
+-- readings while a body is short are readings while the reply is cut
+pub cut_while : {S : Type 0} (left : S → Option (List ℕ)) (readings : S → Option ℕ) (due : Due) (held : List ℕ) (n size : ℕ) (prefix : Option ℕ) → BeginsReply due held n size prefix
+    → (rest : List ℕ) → rest ≡ drop n held → (count : ℕ) → count ≡ size → (a b : S) (came : List ℕ) → ReadsWhile left readings (IsShort count) rest a b came
+    → ReadsWhile left readings (IsCutReply due) held a b came
+cut_while left readings due held n size prefix begins rest rest_is count count_is a b came reads =
+    reads_for left readings (IsShort count) (IsCutReply due) rest held came
+    (λ more short.
+        let less : length (rest ++ more) < count = short in
+        cut_reply due held more n size prefix begins (subst (λ bytes. length (bytes ++ more) < size) rest_is (omega (arith, less, count_is))))
+    a b reads
 
-module _ (due : Due) (held body rest : List ℕ) (left left' : Option (List ℕ)) (n size : ℕ) (prefix : Option ℕ)
-    (begins : BeginsReply due held n size prefix) (size_is : length body ≡ size) (behind : Takes (drop n held) (body ++ rest) left left') where
-  begins_body : BeginsReply due held n (length body) prefix
-  begins_body = rw size_is begins
+-- why no head was read is why no reply was
+pub stops_begun : (due : Due) (held body rest : List ℕ) (left : Option (List ℕ)) (stop : Stop) → StopsBegin due held left stop → ReadsReply due held body rest left (Err stop)
+stops_begun due held body rest left Wrong stops = stops
+stops_begun due held body rest left Cut stops = (inl (stops.0.short, stops.0.none), stops.1)
+stops_begun due held body rest left ReadFault stops = tt
+stops_begun due held body rest left WriteFault stops = stops
+stops_begun due held body rest left OutOfMemory stops = tt
 
-  pub judged_read : (r : Result (Option ℕ) Stop) → IfOk r (λ p. (p ≡ prefix) × FitsBody due prefix body)
-      → OnOk r (IfSome (unread held left) (λ bytes. IsSomeAnd (unread rest left') (λ more. IsReply due bytes body more)))
-  judged_read (Ok p) told = replies due held held body rest left left left' n prefix (takes_none held left) begins_body told.1 behind
-  judged_read (Err stop) told = tt
+-- a head that ends within the bytes leaves nothing to be read for it
+pub head_is_enough : (bytes : List ℕ) (n : ℕ) → IsHeadLength bytes n → NeedsMore bytes → ⊥
+head_is_enough bytes n h needs =
+    let least : 4 ≤ n = h.least in
+    let most : n ≤ most_head = h.most in
+    needs.none (n - 4) (omega arith) (omega (arith, least, most)) h.ends
 
-  pub judged_stop : (r : Result (Option ℕ) Stop) → IfErr r (λ stop. (stop ≡ Wrong) × ¬ FitsBody due prefix body)
-      → IfErr r (λ stop. IfSome (unread held left) (λ bytes. StopsReply due bytes stop))
-  judged_stop (Ok p) wrong = tt
-  judged_stop (Err stop) wrong =
-      rw wrong.0 (wrong_body due held held body rest left left left' n prefix (takes_none held left) begins_body wrong.1 behind)
+-- where nothing is held, more is needed
+pub nothing_held : (bytes : List ℕ) → bytes ≡ [] → NeedsMore bytes
+nothing_held bytes none = record {
+  short = omega (arith, ap length none);
+  none = λ k low high there. let fits : k + 4 ≤ length bytes = there.fits in omega (arith, fits, ap length none);
+}
 
-pub judged_fits : (due : Due) (body : List ℕ) (prefix : Option ℕ) (r : Result (Option ℕ) Stop) → FitsPrefix due prefix → IfOk r (λ p. (p ≡ prefix) × FitsBody due prefix body)
-    → IfOk r (FitsPrefix due)
-judged_fits due body prefix (Err stop) fits told = tt
-judged_fits due body prefix (Ok p) fits told = rw told.0 fits
+-- why no head was read
+pub stops_head : (due : Due) (held : List ℕ) (left : Option (List ℕ)) (faults faults' : ℕ) (why : Stopped) → StopsFill held left faults faults' why → StopsBegin due held left (of_stopped why)
+stops_head due held left faults faults' (stopped.Refuse code) stops = inl (stops.2, stops.1)
+stops_head due held left faults faults' stopped.End stops = (nothing_held held stops.0, stops.1)
+stops_head due held left faults faults' stopped.Cut stops = (stops.1, stops.2)
+stops_head due held left faults faults' stopped.ReadFault stops = tt
 
-pub judged_pinned : (due : Due) (body : List ℕ) (prefix : Option ℕ) (r : Result (Option ℕ) Stop) → FitsPrefix due prefix → IfOk r (λ p. (p ≡ prefix) × FitsBody due prefix body)
-    → due ≡ Pinned → IfOk r (λ p. IsSome p × IfSome p (λ k. body ≡ pinned_line k))
-judged_pinned due body prefix (Err stop) fits told is = tt
-judged_pinned due body prefix (Ok p) fits told is =
-    let some : IsSome prefix = subst (λ d. FitsPrefix d prefix) is fits in
-    let line : IfSome prefix (λ k. body ≡ pinned_line k) = subst (λ d. FitsBody d prefix body) is told.1 in
-    rw told.0 (some, line)
+pub fails_head : (held : List ℕ) (left : Option (List ℕ)) (faults faults' : ℕ) (why : Stopped) → StopsFill held left faults faults' why → of_stopped why ≡ ReadFault → Rises faults faults'
+fails_head held left faults faults' (stopped.Refuse code) stops is = absurd cc
+fails_head held left faults faults' stopped.End stops is = absurd cc
+fails_head held left faults faults' stopped.Cut stops is = absurd cc
+fails_head held left faults faults' stopped.ReadFault stops is = stops.0
 
--- ---- what is said of the unread bytes after a head came is said of those before
+-- what came of a head, and then what came behind it
+pub read_both : {S : Type 0} (left : S → Option (List ℕ)) (readings : S → Option ℕ) (due : Due) (held held' : List ℕ) (a b c : S) (n : ℕ) → IsHeadLength held' n
+    → (came : List ℕ) × ReadsWhile left readings NeedsMore held a b came × (held' ≡ held ++ came) → (P : List ℕ → Type 0)
+    → (came : List ℕ) × ReadsWhile left readings (IsCutReply due) held' b c came × P (held' ++ came)
+    → (came : List ℕ) × ReadsWhile left readings (IsCutReply due) held a c came × P (held ++ came)
+read_both left readings due held held' a b c n ends first P second =
+    let enough : NeedsMore (held ++ first.0) → ⊥ = λ needs. head_is_enough held' n ends (subst NeedsMore (sym first.2) needs) in
+    let head : ReadsWhile left readings (IsCutReply due) held a b first.0
+    = reads_for left readings NeedsMore (IsCutReply due) held held first.0 (λ more needs. inl (needs.short, needs.none)) a b first.1 in
+    let behind : ReadsWhile left readings (IsCutReply due) (held ++ first.0) b c second.0
+    = subst (λ bytes. ReadsWhile left readings (IsCutReply due) bytes b c second.0) first.2 second.1 in (
+      first.0 ++ second.0,
+      reads_then left readings (IsCutReply due) held first.0 second.0 a b c head (reads_gave left readings NeedsMore held first.0 a b first.1 enough) behind,
+      subst P (ap (λ bytes. bytes ++ second.0) first.2 ∙ append_assoc held first.0 second.0) second.2,
+    )
 
-pub lift_known : (P : List ℕ → Type 0) (a b : Option (List ℕ)) → IfSome a (λ bytes. b ≡ Some bytes) → IfSome b P → IfSome a P
-lift_known P None b e p = tt
-lift_known P (Some x) b e p = subst (λ o. IfSome o P) e p
+-- ---- what is said of the bytes that came is said of those that were unread, where these are told
 
-pub lift_ok : {T E : Type 0} (P : List ℕ → Type 0) (a b : Option (List ℕ)) (r : Result T E) → IfSome a (λ bytes. b ≡ Some bytes) → OnOk r (IfSome b P) → OnOk r (IfSome a P)
-lift_ok P a b (Ok x) e p = lift_known P a b e p
-lift_ok P a b (Err x) e p = tt
+came_of : (held came xs ys : List ℕ) → Consumes (Some xs) (Some ys) came → held ++ xs ≡ (held ++ came) ++ ys
+came_of held came xs ys consumed = ap (λ all. held ++ all) consumed ∙ sym (append_assoc held came ys)
 
-pub lift_err : {T E : Type 0} (P : E → List ℕ → Type 0) (a b : Option (List ℕ)) (r : Result T E) → IfSome a (λ bytes. b ≡ Some bytes)
-    → IfErr r (λ x. IfSome b (P x)) → IfErr r (λ x. IfSome a (P x))
-lift_err P a b (Ok x) e p = tt
-lift_err P a b (Err x) e p = lift_known (P x) a b e p
+pub told_reply : (due : Due) (held came body rest : List ℕ) (prefix : Option ℕ) (left left' : Option (List ℕ)) → Consumes left left' came → IsReply due (held ++ came) body rest
+    → Told (unread held left) (unread rest left') (λ bytes more. IsReply due bytes body more)
+told_reply due held came body rest prefix None left' consumed reply = tt
+told_reply due held came body rest prefix (Some xs) None consumed reply = absurd consumed
+told_reply due held came body rest prefix (Some xs) (Some ys) consumed reply =
+    rw (came_of held came xs ys consumed) (reply_of_more due (held ++ came) ys body rest reply)
+
+pub told_ok : (due : Due) (held came body rest : List ℕ) (left left' : Option (List ℕ)) (r : Result (Option ℕ) Stop) → Consumes left left' came
+    → ReadsReply due (held ++ came) body rest left' r → OnOk r (Told (unread held left) (unread rest left') (λ bytes more. IsReply due bytes body more))
+told_ok due held came body rest left left' (Ok prefix) consumed reads = told_reply due held came body rest prefix left left' consumed reads.0
+told_ok due held came body rest left left' (Err stop) consumed reads = tt
+
+told_stop : (due : Due) (held came body rest : List ℕ) (left left' : Option (List ℕ)) (stop : Stop) → Consumes left left' came
+    → ReadsReply due (held ++ came) body rest left' (Err stop) → IfSome (unread held left) (λ bytes. StopsReply due bytes stop)
+told_stop due held came body rest None left' stop consumed reads = tt
+told_stop due held came body rest (Some xs) None stop consumed reads = absurd consumed
+told_stop due held came body rest (Some xs) (Some ys) Wrong consumed reads = rw (came_of held came xs ys consumed) (wrong_of_more due (held ++ came) ys reads)
+told_stop due held came body rest (Some xs) (Some ys) Cut consumed reads =
+    rw (came_of held came xs ys consumed ∙ ap (λ more. (held ++ came) ++ more) reads.1 ∙ append-nil (held ++ came)) reads.0
+told_stop due held came body rest (Some xs) (Some ys) ReadFault consumed reads = tt
+told_stop due held came body rest (Some xs) (Some ys) WriteFault consumed reads = tt
+told_stop due held came body rest (Some xs) (Some ys) OutOfMemory consumed reads = tt
+
+pub told_err : (due : Due) (held came body rest : List ℕ) (left left' : Option (List ℕ)) (r : Result (Option ℕ) Stop) → Consumes left left' came
+    → ReadsReply due (held ++ came) body rest left' r → IfErr r (λ stop. IfSome (unread held left) (λ bytes. StopsReply due bytes stop))
+told_err due held came body rest left left' (Ok prefix) consumed reads = tt
+told_err due held came body rest left left' (Err stop) consumed reads = told_stop due held came body rest left left' stop consumed reads
+
+pub told_prefix : (due : Due) (bytes body rest : List ℕ) (left : Option (List ℕ)) (r : Result (Option ℕ) Stop) → ReadsReply due bytes body rest left r
+    → IfOk r (λ prefix. FitsPrefix due prefix × TellsPinned due body prefix)
+told_prefix due bytes body rest left (Ok prefix) reads = (reads.1, reads.2)
+told_prefix due bytes body rest left (Err stop) reads = tt

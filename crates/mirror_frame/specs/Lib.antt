@@ -3,3 +3,5 @@ pub mod Reply
 pub mod Head
 pub mod Reading
 pub mod Laws
+pub mod Exchange
+pub mod Peer

@@ -1,42 +1,52 @@
 -- What reading one reply does, as its steps say it.
-use Rattle.std.specs.Prelude.{ℕ, ◌<◌, ◌≤◌, List, length, Option, ⊤}
+use Rattle.std.specs.Prelude.{◌≡◌, ℕ, List, length, Option, IfSome, IsSome, Result, Ok, Err, ⊤}
 use Rattle.std.specs.Io.KnownBytes.{prepend_known, IsAtEnd}
-use Rattle.survey_link.specs.Link.{Rises}
-use Rattle.http_frame.specs.Next.{HasNoHead, NeedsMore, most_head}
-use Rattle.http_frame.specs.Fill.{Takes}
-use Rattle.mirror_frame.specs.Reply.{IsCutReply, IsWrongReply}
+use Rattle.http_frame.specs.Next.{NeedsMore}
+use Rattle.http_frame.specs.declared.stop.Stop.{Stop as Stopped}
+use Rattle.http_frame.specs.declared.stop.Stop.TheVariants as stopped
+use Rattle.mirror_frame.specs.Reply.{IsReply, IsCutReply, IsWrongReply, FitsPrefix, pinned_line}
 use Rattle.mirror_frame.specs.declared.due.Due.{Due}
+use Rattle.mirror_frame.specs.declared.due.Due.TheVariants.{Pinned}
 use Rattle.mirror_frame.specs.declared.reading.Stop.{Stop}
-use Rattle.mirror_frame.specs.declared.reading.Stop.TheVariants.{Wrong, Cut, ReadFault, OutOfMemory}
+use Rattle.mirror_frame.specs.declared.reading.Stop.TheVariants.{Wrong, Cut, ReadFault, WriteFault, OutOfMemory}
 
--- why no whole head is held
-abbrev pub StopsHead : List ℕ → Option (List ℕ) → ℕ → ℕ → Stop → Type 0
-StopsHead held left faults faults' Wrong = HasNoHead held × (most_head ≤ length held)
-StopsHead held left faults faults' Cut = NeedsMore held × IsAtEnd left
-StopsHead held left faults faults' ReadFault = Rises faults faults'
-StopsHead held left faults faults' OutOfMemory = ⊤
+-- the unread bytes: those held and those left, where they are told
+abbrev pub unread : List ℕ → Option (List ℕ) → Option (List ℕ)
+unread held left = prepend_known held left
+
+-- why no reply was read, by the unread bytes
+abbrev pub StopsReply : Due → List ℕ → Stop → Type 0
+StopsReply due bytes Wrong = IsWrongReply due bytes
+StopsReply due bytes Cut = IsCutReply due bytes
+StopsReply due bytes ReadFault = ⊤
+StopsReply due bytes WriteFault = ⊤
+StopsReply due bytes OutOfMemory = ⊤
+
+-- a head that doesn't end is wrong, and one that isn't there is cut
+abbrev pub of_stopped : Stopped → Stop
+of_stopped (stopped.Refuse code) = Wrong
+of_stopped stopped.End = Cut
+of_stopped stopped.Cut = Cut
+of_stopped stopped.ReadFault = ReadFault
 
 -- why no head of the reply that is due is held
 abbrev pub StopsBegin : Due → List ℕ → Option (List ℕ) → Stop → Type 0
 StopsBegin due held left Wrong = IsWrongReply due held
 StopsBegin due held left Cut = NeedsMore held × IsAtEnd left
 StopsBegin due held left ReadFault = ⊤
-StopsBegin due held left OutOfMemory = ⊤
+StopsBegin due held left WriteFault = ⊥
+StopsBegin due held left OutOfMemory = ⊥
 
--- why no reply was read, by the unread bytes
-abbrev pub StopsReply : Due → List ℕ → Stop → Type 0
-StopsReply due unread Wrong = IsWrongReply due unread
-StopsReply due unread Cut = IsCutReply due unread
-StopsReply due unread ReadFault = ⊤
-StopsReply due unread OutOfMemory = ⊤
+-- the reply to a pin tells the same number twice
+abbrev pub TellsPinned : Due → List ℕ → Option ℕ → Type 0
+TellsPinned due body prefix = due ≡ Pinned → IsSome prefix × IfSome prefix (λ k. body ≡ pinned_line k)
 
--- the unread bytes: those held and those left, where they are told
-abbrev pub unread : List ℕ → Option (List ℕ) → Option (List ℕ)
-unread held left = prepend_known held left
-
--- the input ends before so many bytes stand behind those that are held
-pub record CutsBody (length' : ℕ) (after : List ℕ) (left left' : Option (List ℕ)) : Type 0 where
-  pub all : List ℕ
-  pub taken : Takes after all left left'
-  pub short : length all < length'
-  pub end : IsAtEnd left'
+-- the reply that is due stood first in these bytes, with this body, and the rest follows it; or why it didn't, where these bytes
+-- are left to be read
+abbrev pub ReadsReply : Due → List ℕ → List ℕ → List ℕ → Option (List ℕ) → Result (Option ℕ) Stop → Type 0
+ReadsReply due bytes body rest left (Ok prefix) = IsReply due bytes body rest × FitsPrefix due prefix × TellsPinned due body prefix
+ReadsReply due bytes body rest left (Err Wrong) = IsWrongReply due bytes
+ReadsReply due bytes body rest left (Err Cut) = IsCutReply due bytes × IsAtEnd left
+ReadsReply due bytes body rest left (Err ReadFault) = ⊤
+ReadsReply due bytes body rest left (Err WriteFault) = ⊥
+ReadsReply due bytes body rest left (Err OutOfMemory) = ⊤

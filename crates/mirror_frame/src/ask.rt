@@ -1,12 +1,12 @@
 //! What a mirror asks for.
 ghost use Rattle.std.specs.Prelude.{◌≡◌, ◌≤◌, OnOk, OnErr};
 ghost use Rattle.std.specs.Io.KnownBytes.{Appends};
-ghost use Rattle.survey_link.specs.Link.{Rises};
+ghost use Rattle.survey_link.specs.Link.{AppendsPrefix, Rises};
 ghost use Rattle.tile_path.specs.Spelling.{HasTileOrder, spelling};
 ghost use Rattle.mirror_frame.specs.Requests.{HasOrder, request_bytes};
 ghost use Rattle.mirror_frame.specs.declared.ask.Ask;
 
-use survey_link::{Failed, Sink, write_all_parts};
+use survey_link::{Failed, Sink, write_all_parts, write_whole};
 use tile_path::Path;
 
 // The longest spelling of a path.
@@ -27,37 +27,44 @@ pub enum Ask {
 ///
 /// # Errors
 ///
-/// `Failed` only where the sink's count of faults rose.
-pub fn send<K: Sink>(sink: &mut K, ask: &Ask) -> Result<(), Failed>
+/// `Failed` only where the sink's count of faults rose; some first bytes may have been written.
+pub(crate) fn send<K: Sink>(sink: &mut K, ask: &Ask) -> Result<(), Failed>
     requires { HasOrder ask.now }
     ensures sent { OnOk result (Appends (K.held sink.old) (K.held sink.new) (request_bytes ask.now)) }
+    ensures part { OnErr result (AppendsPrefix (K.held sink.old) (K.held sink.new) (request_bytes ask.now)) }
     ensures flushed { OnOk result (K.flushed sink.new ≡ K.held sink.new) }
     ensures failed { OnErr result (Rises (K.faults sink.old) (K.faults sink.new)) }
     ensures never_falls { K.faults sink.old ≤ K.faults sink.new }
 {
-    match ask {
-        Ask::Pin => write_all_parts(
-            sink,
-            [b"POST /pin HTTP/1.1\r\nHost: mirror\r\n\r\n", b"", b"", b""],
-        )?,
-        Ask::File(path) => send_get(sink, path)?,
-        Ask::Unpin => write_all_parts(
-            sink,
-            [
-                b"POST /unpin HTTP/1.1\r\nHost: mirror\r\nConnection: close\r\n\r\n",
-                b"",
-                b"",
-                b"",
-            ],
-        )?,
+    match write_request(sink, ask) {
+        Ok(()) => sink.flush(),
+        Err(failed) => Err(failed),
     }
-    sink.flush()
+}
+
+// Writes a request.
+fn write_request<K: Sink>(sink: &mut K, ask: &Ask) -> Result<(), Failed>
+    requires { HasOrder ask.now }
+    ensures sent { OnOk result (Appends (K.held sink.old) (K.held sink.new) (request_bytes ask.now)) }
+    ensures part { OnErr result (AppendsPrefix (K.held sink.old) (K.held sink.new) (request_bytes ask.now)) }
+    ensures failed { OnErr result (Rises (K.faults sink.old) (K.faults sink.new)) }
+    ensures never_falls { K.faults sink.old ≤ K.faults sink.new }
+{
+    match ask {
+        Ask::Pin => write_whole(sink, b"POST /pin HTTP/1.1\r\nHost: mirror\r\n\r\n"),
+        Ask::File(path) => write_get(sink, path),
+        Ask::Unpin => write_whole(
+            sink,
+            b"POST /unpin HTTP/1.1\r\nHost: mirror\r\nConnection: close\r\n\r\n",
+        ),
+    }
 }
 
 // Asks for the file at a path.
-fn send_get<K: Sink>(sink: &mut K, path: &Path) -> Result<(), Failed>
+fn write_get<K: Sink>(sink: &mut K, path: &Path) -> Result<(), Failed>
     requires { HasTileOrder path.now }
     ensures sent { OnOk result (Appends (K.held sink.old) (K.held sink.new) (request_bytes (Ask.File path.now))) }
+    ensures part { OnErr result (AppendsPrefix (K.held sink.old) (K.held sink.new) (request_bytes (Ask.File path.now))) }
     ensures failed { OnErr result (Rises (K.faults sink.old) (K.faults sink.new)) }
     ensures never_falls { K.faults sink.old ≤ K.faults sink.new }
 {

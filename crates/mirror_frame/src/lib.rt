@@ -1,15 +1,17 @@
 //! The conversation of a mirror with its peer as bytes (RFC 9110, RFC 9112).
 //!
-//! `send` sends a request to a sink. `read_reply` reads the reply to it from a source, in whatever pieces its bytes come, and
-//! says whether it is in form.
+//! A `Peer` is asked one thing after another: each request is sent once the reply to the one before was read, and a reply is
+//! read no further than it goes.
 #![tactic(auto)]
 
 mod ask;
 mod due;
 mod head;
 pub mod laws;
+mod peer;
 mod reading;
 
-pub use ask::{Ask, send};
+pub use ask::Ask;
 pub use due::Due;
-pub use reading::{Inbox, Stop, read_reply};
+pub use peer::{Peer, Received};
+pub use reading::Stop;

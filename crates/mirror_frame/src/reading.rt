@@ -1,20 +1,20 @@
 //! Reading of one reply.
-ghost use Rattle.std.specs.Prelude.{◌≡◌, ◌≢◌, ◌⊎◌, [], ◌<◌, ◌≤◌, ◌+◌, ◌++◌, length, take, drop, Ok, Err, IfOk, IfErr, OnOk, OnErr, IfSome, IsSome, IsNone, IsSomeAnd, IsErrOf, Option, ℕ};
+ghost use Rattle.std.specs.Prelude.{◌≡◌, ◌≢◌, ◌<◌, ◌≤◌, ◌++◌, length, take, drop, Ok, Err, IfOk, IfErr, OnOk, OnErr, IsErrOf, IsNone, IfSome, Option, ℕ, List};
 ghost use Rattle.std.specs.Io.KnownBytes.{IsAtEnd};
 ghost use Rattle.survey_link.specs.Link.{Rises};
-ghost use Rattle.http_frame.specs.Next.{IsHeadLength, NeedsMore, most_head};
-ghost use Rattle.http_frame.specs.Fill.{Takes};
-ghost use Rattle.mirror_frame.specs.Reply.{IsReply, BeginsReply, SaysReply, FitsPrefix, FitsBody, pinned_line};
-ghost use Rattle.mirror_frame.specs.Reading.{StopsHead, StopsBegin, StopsReply, CutsBody, unread};
-ghost use Rattle.mirror_frame.specs.declared.due.Due.TheVariants.{Pinned};
+ghost use Rattle.survey_link.specs.Inbox.{held, size};
+ghost use Rattle.http_frame.specs.Next.{NeedsMore, most_head};
+ghost use Rattle.http_frame.specs.Readings.{ReadsWhile};
+ghost use Rattle.mirror_frame.specs.Reply.{BeginsReply, SaysReply, FitsPrefix, FitsBody, IsCutReply};
+ghost use Rattle.mirror_frame.specs.Reading.{StopsBegin, ReadsReply, of_stopped};
 
 use crate::due::Due;
 use crate::head::{ReplyHead, read_head};
-use http_frame::{MAX_HEAD, head_length};
-use std::alloc::{AllocError, Global};
-use survey_link::{Failed, Source};
+use http_frame::{Stop as Stopped, fill_head, take_exact};
+use std::alloc::AllocError;
+use survey_link::{Failed, Inbox, Source};
 
-/// Why no reply was read.
+/// Why a request has no reply.
 #[derive(Clone, Copy, Debug, PartialEq, Eq)]
 pub enum Stop {
     /// The reply isn't in form.
@@ -23,6 +23,8 @@ pub enum Stop {
     Cut,
     /// The source failed.
     ReadFault,
+    /// The sink failed.
+    WriteFault,
     /// There was no memory.
     OutOfMemory,
 }
@@ -38,72 +40,48 @@ impl From<AllocError> for Stop {
     }
 }
 
-/// What came from a peer: the bytes that were read and belong to no reply yet, and the body of the last reply.
-#[derive(Drop)]
-pub struct Inbox {
-    /// The bytes that belong to no reply yet, at most 8,192.
-    pub held: Vec<u8>,
-    /// The body of the last reply.
-    pub body: Vec<u8>,
-}
-
-impl Inbox {
-    /// An inbox in which nothing is.
-    pub fn new(alloc: Global) -> Inbox
-        ensures { length result.held.items ≡ 0 }
-    {
-        Inbox {
-            held: Vec::new(alloc),
-            body: Vec::new(alloc),
-        }
-    }
-}
-
-/// Reads the next reply, and answers its Survey-Prefix; its body is then that of the inbox. What came behind it stays held.
-///
-/// # Errors
-///
-/// `Wrong` exactly where the reply isn't in form; `Cut` exactly where the input ends within it, before that is known;
-/// `ReadFault` only where the source's count of faults rose; `OutOfMemory`.
-pub fn read_reply<S: Source>(src: &mut S, inbox: &mut Inbox, due: Due) -> Result<Option<u32>, Stop>
-    requires { length inbox.old.held.items ≤ most_head }
-    ensures read { OnOk result (IfSome (unread inbox.old.held.items (S.left src.old)) (λ bytes.
-        IsSomeAnd (unread inbox.new.held.items (S.left src.new)) (λ rest. IsReply due bytes inbox.new.body.items rest))) }
-    ensures fits { IfOk result (FitsPrefix due) }
-    ensures pinned { due ≡ Pinned → IfOk result (λ prefix. IsSome prefix × IfSome prefix (λ k. inbox.new.body.items ≡ pinned_line k)) }
-    ensures stop { IfErr result (λ stop. IfSome (unread inbox.old.held.items (S.left src.old)) (λ bytes. StopsReply due bytes stop)) }
+// Reads the next reply into `body`, and answers its Survey-Prefix. What came behind it stays held.
+pub(crate) fn read_reply<S: Source>(
+    inbox: &mut Inbox,
+    src: &mut S,
+    body: &mut Vec<u8>,
+    due: Due,
+) -> Result<Option<u32>, Stop>
+    requires { size inbox.old ≡ most_head }
+    ensures read { (came : List ℕ) × ReadsWhile S.left S.readings (IsCutReply due) (held inbox.old) src.old src.new came
+        × ReadsReply due (held inbox.old ++ came) body.new.items (held inbox.new) (S.left src.new) result }
     ensures failed { IsErrOf result Stop.ReadFault → Rises (S.faults src.old) (S.faults src.new) }
     ensures never_falls { S.faults src.old ≤ S.faults src.new }
-    ensures most { length inbox.new.held.items ≤ most_head }
+    ensures size { size inbox.new ≡ size inbox.old }
 {
-    match begin_reply(src, &mut inbox.held, due) {
-        Ok(begun) => finish_reply(src, inbox, due, begun),
+    match begin_reply(inbox, src, due) {
+        Ok(begun) => finish_reply(inbox, src, body, due, begun),
         Err(stop) => Err(stop),
     }
 }
 
 // Reads the body of the reply whose head is held.
 fn finish_reply<S: Source>(
-    src: &mut S,
     inbox: &mut Inbox,
+    src: &mut S,
+    body: &mut Vec<u8>,
     due: Due,
     begun: Begun,
 ) -> Result<Option<u32>, Stop>
-    requires begun { BeginsReply due inbox.old.held.items begun.end begun.head.length begun.head.prefix }
-    requires end { begun.end ≤ length inbox.old.held.items }
-    requires most { length inbox.old.held.items ≤ most_head }
-    ensures read { OnOk result (IfSome (unread inbox.old.held.items (S.left src.old)) (λ bytes.
-        IsSomeAnd (unread inbox.new.held.items (S.left src.new)) (λ rest. IsReply due bytes inbox.new.body.items rest))) }
-    ensures fits { IfOk result (FitsPrefix due) }
-    ensures pinned { due ≡ Pinned → IfOk result (λ prefix. IsSome prefix × IfSome prefix (λ k. inbox.new.body.items ≡ pinned_line k)) }
-    ensures stop { IfErr result (λ stop. IfSome (unread inbox.old.held.items (S.left src.old)) (λ bytes. StopsReply due bytes stop)) }
+    requires begun { BeginsReply due (held inbox.old) begun.end begun.head.length begun.head.prefix }
+    requires end { begun.end ≤ length (held inbox.old) }
+    ensures read { (came : List ℕ) × ReadsWhile S.left S.readings (IsCutReply due) (held inbox.old) src.old src.new came
+        × ReadsReply due (held inbox.old ++ came) body.new.items (held inbox.new) (S.left src.new) result }
     ensures failed { IsErrOf result Stop.ReadFault → Rises (S.faults src.old) (S.faults src.new) }
     ensures never_falls { S.faults src.old ≤ S.faults src.new }
-    ensures most { length inbox.new.held.items ≤ most_head }
+    ensures size { size inbox.new ≡ size inbox.old }
 {
-    match take_body(src, inbox, begun.end, begun.head.length) {
-        Ok(()) => judge_body(&inbox.body, due, begun.head.prefix),
-        Err(stop) => Err(stop),
+    body.resize(begun.head.length, 0)?;
+    inbox.give(begun.end);
+    match take_exact(inbox, src, body) {
+        Ok(true) => judge_body(body, due, begun.head.prefix),
+        Ok(false) => Err(Stop::Cut),
+        Err(Failed) => Err(Stop::ReadFault),
     }
 }
 
@@ -127,20 +105,33 @@ struct Begun {
 }
 
 // Reads until the head of the reply that is due is held.
-fn begin_reply<S: Source>(src: &mut S, held: &mut Vec<u8>, due: Due) -> Result<Begun, Stop>
-    requires { length held.old.items ≤ most_head }
-    ensures begun { IfOk result (λ begun. BeginsReply due held.new.items begun.end begun.head.length begun.head.prefix) }
-    ensures end { IfOk result (λ begun. begun.end ≤ length held.new.items) }
-    ensures taken { Takes held.old.items held.new.items (S.left src.old) (S.left src.new) }
-    ensures stop { IfErr result (StopsBegin due held.new.items (S.left src.new)) }
+fn begin_reply<S: Source>(inbox: &mut Inbox, src: &mut S, due: Due) -> Result<Begun, Stop>
+    requires { size inbox.old ≡ most_head }
+    ensures begun { IfOk result (λ begun. BeginsReply due (held inbox.new) begun.end begun.head.length begun.head.prefix) }
+    ensures end { IfOk result (λ begun. begun.end ≤ length (held inbox.new)) }
+    ensures read { (came : List ℕ) × ReadsWhile S.left S.readings NeedsMore (held inbox.old) src.old src.new came × (held inbox.new ≡ held inbox.old ++ came) }
+    ensures stop { IfErr result (StopsBegin due (held inbox.new) (S.left src.new)) }
     ensures failed { IsErrOf result Stop.ReadFault → Rises (S.faults src.old) (S.faults src.new) }
     ensures never_falls { S.faults src.old ≤ S.faults src.new }
-    ensures most { length held.new.items ≤ most_head }
+    ensures size { size inbox.new ≡ size inbox.old }
 {
-    let end = fill_head(src, held)?;
-    match judge_head(&held[..end], due) {
-        Some(head) => Ok(Begun { end, head }),
-        None => Err(Stop::Wrong),
+    match fill_head(inbox, src) {
+        Ok(end) => match judge_head(&inbox.held()[..end], due) {
+            Some(head) => Ok(Begun { end, head }),
+            None => Err(Stop::Wrong),
+        },
+        Err(stopped) => Err(stop_of(stopped)),
+    }
+}
+
+// Why no reply is read where no head was.
+fn stop_of(stopped: Stopped) -> Stop
+    ensures { result ≡ of_stopped stopped }
+{
+    match stopped {
+        Stopped::Refuse(_) => Stop::Wrong,
+        Stopped::End | Stopped::Cut => Stop::Cut,
+        Stopped::ReadFault => Stop::ReadFault,
     }
 }
 
@@ -159,137 +150,4 @@ fn judge_head(text: &[u8], due: Due) -> Option<ReplyHead>
         }
         None => None,
     }
-}
-
-// Reads until a whole head is held, and answers its length.
-fn fill_head<S: Source>(src: &mut S, held: &mut Vec<u8>) -> Result<usize, Stop>
-    requires { length held.old.items ≤ most_head }
-    ensures found { IfOk result (IsHeadLength held.new.items) }
-    ensures taken { Takes held.old.items held.new.items (S.left src.old) (S.left src.new) }
-    ensures stop { IfErr result (StopsHead held.new.items (S.left src.new) (S.faults src.old) (S.faults src.new)) }
-    ensures never_falls { S.faults src.old ≤ S.faults src.new }
-    ensures most { length held.new.items ≤ most_head }
-{
-    let mut searched = 0;
-    loop {
-        if let Some(length) = head_length(held, searched) {
-            return Ok(length);
-        }
-        if held.len() >= MAX_HEAD {
-            return Err(Stop::Wrong);
-        }
-        searched = held.len();
-        read_more(src, held)?;
-    }
-}
-
-// Reads once behind the bytes that are held, which are fewer than those of the longest head.
-fn read_more<S: Source>(src: &mut S, held: &mut Vec<u8>) -> Result<(), Stop>
-    requires { NeedsMore held.old.items }
-    ensures taken { Takes held.old.items held.new.items (S.left src.old) (S.left src.new) }
-    ensures more { OnOk result (length held.old.items < length held.new.items) }
-    ensures stop { IfErr result (StopsHead held.new.items (S.left src.new) (S.faults src.old) (S.faults src.new)) }
-    ensures never_falls { S.faults src.old ≤ S.faults src.new }
-    ensures most { length held.new.items ≤ most_head }
-{
-    let len = held.len();
-    held.resize(MAX_HEAD, 0)?;
-    match read_behind(src, held, len) {
-        Ok(count) => {
-            held.truncate(len + count);
-            if count > 0 { Ok(()) } else { Err(Stop::Cut) }
-        }
-        Err(Failed) => {
-            held.truncate(len);
-            Err(Stop::ReadFault)
-        }
-    }
-}
-
-// Takes a body of `count` bytes, which follows the first `end` bytes that are held: these are given up.
-fn take_body<S: Source>(
-    src: &mut S,
-    inbox: &mut Inbox,
-    end: usize,
-    count: usize,
-) -> Result<(), Stop>
-    requires end { end ≤ length inbox.old.held.items }
-    requires most { length inbox.old.held.items ≤ most_head }
-    ensures length { OnOk result (length inbox.new.body.items ≡ count) }
-    ensures taken { OnOk result (Takes (drop end inbox.old.held.items) (inbox.new.body.items ++ inbox.new.held.items) (S.left src.old) (S.left src.new)) }
-    ensures cut { IsErrOf result Stop.Cut → CutsBody count (drop end inbox.old.held.items) (S.left src.old) (S.left src.new) }
-    ensures sound { result ≢ Err Stop.Wrong }
-    ensures failed { IsErrOf result Stop.ReadFault → Rises (S.faults src.old) (S.faults src.new) }
-    ensures never_falls { S.faults src.old ≤ S.faults src.new }
-    ensures most { length inbox.new.held.items ≤ most_head }
-{
-    inbox.body.resize(count, 0)?;
-    let front = move_front(&mut inbox.held, end, &mut inbox.body);
-    fill(src, &mut inbox.body, front)
-}
-
-// Moves the bytes that follow the first `end` that are held to the front of a body, as many as it has room for, and answers how
-// many these are. Those before them are given up.
-fn move_front(held: &mut Vec<u8>, end: usize, body: &mut [u8]) -> usize
-    requires { end ≤ length held.old.items }
-    ensures within { result ≤ length body.new }
-    ensures moved { take result body.new ++ held.new.items ≡ drop end held.old.items }
-    ensures all { (held.new.items ≡ []) ⊎ (result ≡ length body.new) }
-    ensures len { length body.new ≡ length body.old }
-    ensures fewer { length held.new.items ≤ length held.old.items }
-{
-    let len = held.len();
-    let front = body.len().min(len - end);
-    body[..front].copy_from_slice(&held[end..end + front]);
-    give_up(held, end + front);
-    front
-}
-
-// Gives up the first `count` bytes.
-fn give_up(held: &mut Vec<u8>, count: usize)
-    requires { count ≤ length held.old.items }
-    ensures { held.new.items ≡ drop count held.old.items }
-{
-    let _ = held.drain(..count);
-}
-
-// Reads until all of `out` behind the first `start` bytes is filled.
-fn fill<S: Source>(src: &mut S, out: &mut [u8], start: usize) -> Result<(), Stop>
-    requires { start ≤ length out.old }
-    ensures filled { OnOk result (Takes (take start out.old) out.new (S.left src.old) (S.left src.new)) }
-    ensures cut { IsErrOf result Stop.Cut → CutsBody (length out.old) (take start out.old) (S.left src.old) (S.left src.new) }
-    ensures sound { (result ≢ Err Stop.Wrong) × (result ≢ Err Stop.OutOfMemory) }
-    ensures failed { IsErrOf result Stop.ReadFault → Rises (S.faults src.old) (S.faults src.new) }
-    ensures never_falls { S.faults src.old ≤ S.faults src.new }
-    ensures len { length out.new ≡ length out.old }
-{
-    let mut at = start;
-    while at < out.len() {
-        match read_behind(src, out, at) {
-            Ok(count) => {
-                if count == 0 {
-                    return Err(Stop::Cut);
-                }
-                at += count;
-            }
-            Err(Failed) => return Err(Stop::ReadFault),
-        }
-    }
-    Ok(())
-}
-
-// Reads once behind the first `at` bytes, and answers how many bytes came.
-fn read_behind<S: Source>(src: &mut S, bytes: &mut [u8], at: usize) -> Result<usize, Failed>
-    requires { at < length bytes.old }
-    ensures read { IfOk result (λ count. Takes (take at bytes.old) (take (at + count) bytes.new) (S.left src.old) (S.left src.new)) }
-    ensures within { IfOk result (λ count. at + count ≤ length bytes.new) }
-    ensures end { result ≡ Ok 0 → IsAtEnd (S.left src.new) }
-    ensures kept { OnErr result (S.left src.new ≡ S.left src.old) }
-    ensures front { take at bytes.new ≡ take at bytes.old }
-    ensures failed { OnErr result (Rises (S.faults src.old) (S.faults src.new)) }
-    ensures never_falls { S.faults src.old ≤ S.faults src.new }
-    ensures len { length bytes.new ≡ length bytes.old }
-{
-    let count = src.read(&mut bytes[at..])?;
-    Ok(count)
 }

@@ -1,3 +1,2 @@
 mod Records
-mod Held
 mod Readings

@@ -1,19 +1,26 @@
 -- The record that stands first in the bytes that are held and those that come behind them.
-use Rattle.std.proofs.Common.{◌≡◌, ℕ, zero, suc, ◌+◌, ◌≤◌, ◌<◌, inl, inr, true, false, cond, List, [], ◌∷◌, ◌++◌, length, take, drop, Option, Some, None, refl, sym, ap, ◌∙◌, subst, arith, length-append, append_assoc}
-use Rattle.std.specs.Prelude.{position, nat_lt, ◌==◌, Result, Ok, Err, IfErr}
-use Rattle.std.specs.Io.KnownBytes.{Consumes, IsAtEnd}
-use Rattle.std.proofs.lemmas.List.{take-append-le, drop-append-le, take_all, append-nil}
+use Rattle.std.proofs.Common.{◌≡◌, ℕ, ◌+◌, ◌≤◌, ◌<◌, inl, inr, true, false, cond, List, [], ◌∷◌, ◌++◌, length, take, drop, Option, Some, None, refl, sym, ap, ◌∙◌, subst, arith, length-append, append_assoc}
+use Rattle.std.specs.Prelude.{position, nat_lt, ◌==◌}
+use Rattle.std.proofs.lemmas.List.{take_all, append-nil}
 use Rattle.std.proofs.Math.Seq.{take-append_seam, drop-append_seam}
 use Rattle.std.proofs.lemmas.Bool.Decides.{nat_tests}
-use Rattle.http_frame.specs.Fill.{Takes}
-use Rattle.http_frame.proofs.Fills.{consumes_none, consumes_both}
+use Rattle.std.proofs.lemmas.Option.{none-some}
+use Rattle.survey_link.specs.declared.inbox.Inbox.{Inbox}
+use Rattle.survey_link.specs.Inbox.{held, size}
+use Rattle.survey_link.proofs.Held.{front_length}
+use Rattle.http_frame.specs.Frame.{IsShort}
+use Rattle.http_frame.specs.Readings.{ReadsWhile}
+use Rattle.http_frame.proofs.ReadLemmas.{reads_for, reads_gave, reads_then}
 use Rattle.past_frame.specs.Line.{RecordLine, batch_line, read_line, line_of, line_feed}
-use Rattle.past_frame.specs.Record.{PastRecord, batch, read, no_more, cut_short, no_line, then_rest, most_line, by_line, by_end, line_end, next_record}
-use Rattle.past_frame.specs.Reading.{ReadsRecord, StopsRecord, Stops, NeedsMore, NeedsLine, StopsLine, StopsBody}
-use Rattle.past_frame.specs.declared.record.Record.{Record}
+use Rattle.past_frame.specs.Record.{batch, read, cut_short, no_line, then_rest, most_line, by_line, by_end, line_end, next_record}
+use Rattle.past_frame.specs.Reading.{Stops, NeedsMore, NeedsLine, StopsLine}
 use Rattle.past_frame.specs.declared.record.Stop.{Stop}
 use Rattle.past_frame.specs.declared.record.Stop.TheVariants.{End, Cut, BadLine, ReadFault, OutOfMemory}
 use Rattle.past_frame.proofs.Records.{line_end_of_more, line_fits, text_of_more}
+
+-- an inbox of the longest line's room holds no more
+pub held_most : (inbox : Inbox) → size inbox ≡ most_line → length (held inbox) ≤ most_line
+held_most inbox is = omega (arith, front_length inbox.bytes.items inbox.start inbox.end inbox.ordered inbox.within, inbox.within, is)
 
 -- ---- bytes that hold a line
 
@@ -33,58 +40,33 @@ module _ (room : ℕ) (held : List ℕ) (end : ℕ) (most : length held ≤ most
   next_held said more rest line tail =
       next_by room held more end (held_end held (Some end) most is) ∙ ap (λ l. by_line l (drop (end + 1) held ++ more)) (sym line) ∙ ap (by_line said) tail
 
-  pub bad_line : (left : Option (List ℕ)) → None ≡ line_of room (take end held) → StopsRecord room held left left BadLine
-  bad_line left line = record { came = []; consumed = consumes_none left; why = next_held None [] (drop (end + 1) held) line (append-nil _) }
+  pub bad_line : None ≡ line_of room (take end held) → next_record room (held ++ []) ≡ no_line
+  bad_line line = next_held None [] (drop (end + 1) held) line (append-nil _)
 
-  pub reads_path : (left : Option (List ℕ)) (k : ℕ) (path text rest : List ℕ) → Some (read_line k path) ≡ line_of room (take end held) → text ≡ path → rest ≡ drop (end + 1) held
-      → ReadsRecord room held rest left left (read k text)
-  reads_path left k path text rest line same tail = record {
-    came = [];
-    consumed = consumes_none left;
-    is = next_held (Some (read_line k path)) [] rest line (append-nil _ ∙ sym tail) ∙ ap (λ t. then_rest (read k t) rest) (sym same);
-  }
+  pub path_first : (k : ℕ) (path text rest : List ℕ) → Some (read_line k path) ≡ line_of room (take end held) → text ≡ path → rest ≡ drop (end + 1) held
+      → next_record room (held ++ []) ≡ then_rest (read k text) rest
+  path_first k path text rest line same tail =
+      next_held (Some (read_line k path)) [] rest line (append-nil _ ∙ sym tail) ∙ ap (λ t. then_rest (read k t) rest) (sym same)
 
-  batch_first : (text rest : List ℕ) → by_line (Some (batch_line (length text))) (text ++ rest) ≡ then_rest (batch text) rest
-  batch_first text rest =
-      let size = length-append text rest in
-      let enough : nat_lt (length (text ++ rest)) (length text) ≡ false = grind (arith, nat_tests, size) in
-      rw (enough, take-append_seam text rest, drop-append_seam text rest) refl
+  module _ (count : ℕ) (line : Some (batch_line count) ≡ line_of room (take end held)) where
+    pub body_cut : (came : List ℕ) → length (drop (end + 1) held ++ came) < count → next_record room (held ++ came) ≡ cut_short
+    body_cut came short =
+        let all = drop (end + 1) held ++ came in
+        let few : nat_lt (length all) count ≡ true = grind (arith, nat_tests) in
+        next_held (Some (batch_line count)) came all line refl ∙ ap (λ t. cond t cut_short (then_rest (batch (take count all)) (drop count all))) few
 
-  pub reads_body : (left left' : Option (List ℕ)) (count : ℕ) (text rest : List ℕ) → Some (batch_line count) ≡ line_of room (take end held) → length text ≡ count
-      → Takes (drop (end + 1) held) (text ++ rest) left left' → ReadsRecord room held rest left left' (batch text)
-  reads_body left left' count text rest line size takes = record {
-    came = takes.more;
-    consumed = takes.consumed;
-    is = next_held (Some (batch_line count)) takes.more (text ++ rest) line (sym takes.grown)
-        ∙ ap (λ n. by_line (Some (batch_line n)) (text ++ rest)) (sym size) ∙ batch_first text rest;
-  }
+    pub body_first : (came text rest : List ℕ) → length text ≡ count → text ++ rest ≡ drop (end + 1) held ++ came → next_record room (held ++ came) ≡ then_rest (batch text) rest
+    body_first came text rest size all =
+        let enough : nat_lt (length (text ++ rest)) (length text) ≡ false = grind (arith, nat_tests, length-append text rest) in
+        let whole : by_line (Some (batch_line (length text))) (text ++ rest) ≡ then_rest (batch text) rest = rw (enough, take-append_seam text rest, drop-append_seam text rest) refl in
+        next_held (Some (batch_line count)) came (text ++ rest) line (sym all) ∙ ap (λ n. by_line (Some (batch_line n)) (text ++ rest)) (sym size) ∙ whole
 
-  cut_body : (left left' : Option (List ℕ)) (count : ℕ) → Some (batch_line count) ≡ line_of room (take end held) → (stops : StopsBody count (drop (end + 1) held) left left')
-      → next_record room (held ++ stops.taken.more) ≡ cut_short
-  cut_body left left' count line stops =
-      let short : length stops.all < count = stops.short in
-      let few : nat_lt (length stops.all) count ≡ true = grind (arith, nat_tests) in
-      next_held (Some (batch_line count)) stops.taken.more stops.all line (sym stops.taken.grown)
-      ∙ ap (λ t. cond t cut_short (then_rest (batch (take count stops.all)) (drop count stops.all))) few
-
-  pub cuts_body : (left left' : Option (List ℕ)) (count : ℕ) → Some (batch_line count) ≡ line_of room (take end held) → StopsBody count (drop (end + 1) held) left left' → IsAtEnd left'
-      → StopsRecord room held left left' Cut
-  cuts_body left left' count line stops at_end = record { came = stops.taken.more; consumed = stops.taken.consumed; why = (cut_body left left' count line stops, at_end) }
-
-  pub fails_body : (left left' : Option (List ℕ)) (count : ℕ) → Some (batch_line count) ≡ line_of room (take end held) → StopsBody count (drop (end + 1) held) left left'
-      → StopsRecord room held left left' ReadFault
-  fails_body left left' count line stops = record { came = stops.taken.more; consumed = stops.taken.consumed; why = inr (cut_body left left' count line stops) }
-
-  pub stops_body : (left left' : Option (List ℕ)) (count : ℕ) (stop : Stop) → Some (batch_line count) ≡ line_of room (take end held) → ((stop ≡ OutOfMemory → ⊥) → StopsBody count (drop (end + 1) held) left left')
-      → (stop ≡ Cut → IsAtEnd left') → (stop ≡ End → ⊥) → (stop ≡ BadLine → ⊥) → (stop ≡ OutOfMemory → left' ≡ left) → StopsRecord room held left left' stop
-  stops_body left left' count End line stops at_end whole lined same = absurd (whole refl)
-  stops_body left left' count Cut line stops at_end whole lined same = cuts_body left left' count line (stops (λ e. cc)) (at_end refl)
-  stops_body left left' count BadLine line stops at_end whole lined same = absurd (lined refl)
-  stops_body left left' count ReadFault line stops at_end whole lined same = fails_body left left' count line (stops (λ e. cc))
-  stops_body left left' count OutOfMemory line stops at_end whole lined same = record { came = []; consumed = rw (same refl) (consumes_none left); why = tt }
-
-pub wants : (room : ℕ) (held : List ℕ) (left : Option (List ℕ)) → StopsRecord room held left left OutOfMemory
-wants room held left = record { came = []; consumed = consumes_none left; why = tt }
+    -- readings while the body is short are readings while the record is cut
+    pub body_while : {S : Type 0} (left : S → Option (List ℕ)) (readings : S → Option ℕ) (rest : List ℕ) (n : ℕ) → rest ≡ drop (end + 1) held → n ≡ count → (a b : S) (came : List ℕ)
+        → ReadsWhile left readings (IsShort n) rest a b came → ReadsWhile left readings (NeedsMore room) held a b came
+    body_while left readings rest n rest_is n_is a b came reads =
+        reads_for left readings (IsShort n) (NeedsMore room) rest held came
+        (λ more short. inr (body_cut more (subst (λ r. length (r ++ more) < count) rest_is (subst (λ m. length (rest ++ more) < m) n_is short)))) a b reads
 
 -- ---- bytes that hold none
 
@@ -103,46 +85,30 @@ long_line room (b ∷ bytes) most long none =
     let many : nat_lt (length (b ∷ bytes)) most_line ≡ false = grind (arith, nat_tests) in
     ap (by_end room (b ∷ bytes)) (held_end (b ∷ bytes) None most none) ∙ ap (λ t. cond t cut_short no_line) many
 
-needs_more : (room : ℕ) (held : List ℕ) → NeedsLine held → NeedsMore room held
+pub needs_more : (room : ℕ) (held : List ℕ) → NeedsLine held → NeedsMore room held
 unfolding next_record
 needs_more room [] needs = inl refl
 needs_more room (b ∷ bytes) needs = inr (cut_line room (b ∷ bytes) (omega arith) needs)
 
-stops_line : (room : ℕ) (held : List ℕ) (left' : Option (List ℕ)) (stop : Stop) → length held ≤ most_line → StopsLine held left' stop → Stops room held left' stop
-stops_line room held left' End most stops = stops
-stops_line room held left' Cut most stops = (cut_line room held stops.0 stops.1, stops.2)
-stops_line room held left' BadLine most stops = long_line room held most stops.0 stops.1
-stops_line room held left' ReadFault most stops = needs_more room held stops
-stops_line room held left' OutOfMemory most stops = tt
+pub stops_line : (room : ℕ) (held : List ℕ) (left : Option (List ℕ)) (stop : Stop) → length held ≤ most_line → StopsLine held left stop → Stops room held left stop
+stops_line room held left End most stops = stops
+stops_line room held left Cut most stops = (cut_line room held stops.0 stops.1, stops.2)
+stops_line room held left BadLine most stops = long_line room held most stops.0 stops.1
+stops_line room held left ReadFault most stops = needs_more room held stops
+stops_line room held left OutOfMemory most stops = absurd stops
 
-pub no_record : (room : ℕ) (held held' : List ℕ) (left left' : Option (List ℕ)) (stop : Stop) → Takes held held' left left' → length held' ≤ most_line → StopsLine held' left' stop
-    → StopsRecord room held left left' stop
-no_record room held held' left left' stop takes most stops = record {
-  came = takes.more;
-  consumed = takes.consumed;
-  why = subst (λ bytes. Stops room bytes left' stop) takes.grown (stops_line room held' left' stop most stops);
-}
-
--- ---- after some bytes came
-
-module _ (room : ℕ) (held held' : List ℕ) (left left' left'' : Option (List ℕ)) (takes : Takes held held' left left') where
-  joined : (came : List ℕ) → held' ++ came ≡ held ++ (takes.more ++ came)
-  joined came = ap (λ bytes. bytes ++ came) takes.grown ∙ append_assoc held takes.more came
-
-  pub reads_later : (rest : List ℕ) (first : PastRecord) → ReadsRecord room held' rest left' left'' first → ReadsRecord room held rest left left'' first
-  reads_later rest first reads = record {
-    came = takes.more ++ reads.came;
-    consumed = consumes_both left left' left'' takes.more reads.came takes.consumed reads.consumed;
-    is = ap (next_record room) (sym (joined reads.came)) ∙ reads.is;
-  }
-
-  pub stops_later : (stop : Stop) → StopsRecord room held' left' left'' stop → StopsRecord room held left left'' stop
-  stops_later stop stops = record {
-    came = takes.more ++ stops.came;
-    consumed = consumes_both left left' left'' takes.more stops.came takes.consumed stops.consumed;
-    why = subst (λ bytes. Stops room bytes left'' stop) (joined stops.came) stops.why;
-  }
-
-  pub stops_result : (result : Result Record Stop) → IfErr result (StopsRecord room held' left' left'') → IfErr result (StopsRecord room held left left'')
-  stops_result (Ok asked) stops = tt
-  stops_result (Err stop) stops = stops_later stop stops
+-- what came of a line, and then what came behind it
+pub read_both : {S : Type 0} (left : S → Option (List ℕ)) (readings : S → Option ℕ) (room : ℕ) (held held' : List ℕ) (a b c : S) (end : ℕ) → position (λ b. b == line_feed) held' ≡ Some end
+    → (came : List ℕ) × ReadsWhile left readings NeedsLine held a b came × (held' ≡ held ++ came) → (P : List ℕ → Type 0)
+    → (came : List ℕ) × ReadsWhile left readings (NeedsMore room) held' b c came × P (held' ++ came)
+    → (came : List ℕ) × ReadsWhile left readings (NeedsMore room) held a c came × P (held ++ came)
+read_both left readings room held held' a b c end found first P second =
+    let enough : NeedsLine (held ++ first.0) → ⊥ = λ needs. none-some end (sym (subst NeedsLine (sym first.2) needs).none ∙ found) in
+    let line : ReadsWhile left readings (NeedsMore room) held a b first.0
+    = reads_for left readings NeedsLine (NeedsMore room) held held first.0 (λ more needs. needs_more room (held ++ more) needs) a b first.1 in
+    let behind : ReadsWhile left readings (NeedsMore room) (held ++ first.0) b c second.0
+    = subst (λ bytes. ReadsWhile left readings (NeedsMore room) bytes b c second.0) first.2 second.1 in (
+      first.0 ++ second.0,
+      reads_then left readings (NeedsMore room) held first.0 second.0 a b c line (reads_gave left readings NeedsLine held first.0 a b first.1 enough) behind,
+      subst P (ap (λ bytes. bytes ++ second.0) first.2 ∙ append_assoc held first.0 second.0) second.2,
+    )

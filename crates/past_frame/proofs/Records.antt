@@ -1,13 +1,13 @@
 -- What stands first in some bytes, and in them and more.
-use Rattle.std.proofs.Common.{◌≡◌, ℕ, zero, suc, ◌+◌, ◌-◌, ◌≤◌, ◌<◌, Bool, true, false, cond, List, [], ◌∷◌, ◌++◌, length, take, drop, get_or, Option, Some, None, refl, sym, ap, ◌∙◌, subst, arith, length-append}
+use Rattle.std.proofs.Common.{◌≡◌, ℕ, zero, suc, ◌+◌, ◌-◌, ◌≤◌, ◌<◌, Bool, true, false, cond, List, [], ◌∷◌, ◌++◌, length, take, drop, Option, Some, None, refl, ap, ◌∙◌, arith, length-append}
 use Rattle.std.specs.Prelude.{position, nat_lt, ◌==◌}
 use Rattle.std.specs.List.{position_or_len}
-use Rattle.std.proofs.lemmas.List.{take-append-le, drop-append-le, get_or_append_left, length-take-le, take_all}
+use Rattle.std.proofs.lemmas.List.{take-append-le, drop-append-le, get_or_append_left}
 use Rattle.std.proofs.lemmas.List.Sums.{position_or_len_is}
 use Rattle.std.proofs.lemmas.List.Quantifiers.{position-Some}
 use Rattle.std.proofs.lemmas.Bool.Decides.{nat_tests}
 use Rattle.past_frame.specs.Line.{RecordLine, batch_line, read_line, line_of, line_feed}
-use Rattle.past_frame.specs.Record.{PastRecord, batch, read, NextRecord, no_more, cut_short, no_line, then_rest, most_line, by_line, by_end, line_end, next_record}
+use Rattle.past_frame.specs.Record.{PastRecord, batch, cut_short, no_line, then_rest, most_line, by_line, by_end, line_end, next_record}
 use Rattle.past_frame.specs.Laws.{RecordsStand}
 
 -- ---- the place of the line feed

@@ -9,5 +9,5 @@ mod line;
 mod reading;
 mod record;
 
-pub use reading::{has_more, read_record};
-pub use record::{Inbox, Record, Stop};
+pub use reading::{MAX_LINE, has_more, read_record};
+pub use record::{Record, Stop};

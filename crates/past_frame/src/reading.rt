@@ -1,87 +1,97 @@
 //! Reading of one record.
-ghost use Rattle.std.specs.Prelude.{◌≡◌, ◌≢◌, ◌⊎◌, [], ◌==◌, ◌+◌, ◌^◌, ◌<◌, ◌≤◌, ◌++◌, length, take, drop, position, Some, Ok, Err, IfOk, IfErr, OnOk, OnErr, IsErrOf};
-ghost use Rattle.std.specs.Io.KnownBytes.{IsAtEnd};
-ghost use Rattle.survey_link.specs.Link.{Rises};
+ghost use Rattle.std.specs.Prelude.{◌≡◌, ◌==◌, ◌+◌, ◌^◌, ◌<◌, ◌≤◌, ◌++◌, ℕ, List, length, position, Some, Err, IfOk, IfErr, OnOk, OnErr, IsErrOf};
+ghost use Rattle.survey_link.specs.Link.{Rises, readings_after};
+ghost use Rattle.survey_link.specs.Inbox.{held, size};
 ghost use Rattle.http_frame.specs.Fill.{Takes};
-ghost use Rattle.past_frame.specs.Line.{line_feed};
+ghost use Rattle.http_frame.specs.Frame.{IsShort};
+ghost use Rattle.http_frame.specs.Readings.{ReadsWhile};
+ghost use Rattle.past_frame.specs.Line.{batch_line, line_of, line_feed};
 ghost use Rattle.past_frame.specs.Record.{most_line};
-ghost use Rattle.past_frame.specs.Reading.{record_of, ReadsRecord, StopsRecord, LooksOn, NeedsLine, StopsLine, StopsBody};
+ghost use Rattle.past_frame.specs.Reading.{NeedsMore, ReadsRecord, LooksOn, NeedsLine, StopsLine};
 
 use crate::line::{Line, line_of, place_of};
-use crate::record::{Inbox, Record, Stop};
-use survey_link::{Failed, Source};
+use crate::record::{Record, Stop};
+use http_frame::take_exact;
+use survey_link::{Failed, Inbox, Source};
 
-// The greatest length of a line with its line feed.
-const MAX_LINE: usize = 128;
+/// The greatest length of a line with its line feed: an inbox has so much room.
+pub const MAX_LINE: usize = 128;
 
-/// Reads the next record: a line of at most 128 bytes with its line feed, `batch LENGTH` or `read K PATH`, numbers in plain
-/// decimals, and behind the line of a batch its body of LENGTH bytes, at most `room`. K is below 2^32. The record's text is
-/// then that of the inbox. What came behind it stays held.
+/// Reads the next record, and its text into `text`. A record is a line of at most 128 bytes with its line feed,
+/// `batch LENGTH` or `read K PATH`, numbers in plain decimals, K below 2^32, and behind the line of a batch its body of LENGTH
+/// bytes, at most `room`. The source is read only while the bytes that came are no whole record, and may become one. What came
+/// behind it stays held.
 ///
 /// # Errors
 ///
 /// `End` exactly where the input ends before the record; `Cut` exactly where it ends within it; `BadLine` exactly where no
 /// line of a record comes; `ReadFault` only where the source's count of faults rose; `OutOfMemory`.
-pub fn read_record<S: Source>(src: &mut S, inbox: &mut Inbox, room: usize) -> Result<Record, Stop>
-    requires most { length inbox.old.held.items ≤ most_line }
+pub fn read_record<S: Source>(
+    inbox: &mut Inbox,
+    src: &mut S,
+    text: &mut Vec<u8>,
+    room: usize,
+) -> Result<Record, Stop>
+    requires size { size inbox.old ≡ most_line }
     requires room { room ≤ 2 ^ 30 }
-    ensures read { IfOk result (λ asked. ReadsRecord room inbox.old.held.items inbox.new.held.items (S.left src.old) (S.left src.new)
-        (record_of asked inbox.new.text.items)) }
-    ensures stop { IfErr result (StopsRecord room inbox.old.held.items (S.left src.old) (S.left src.new)) }
+    ensures read { (came : List ℕ) × ReadsWhile S.left S.readings (NeedsMore room) (held inbox.old) src.old src.new came
+        × ReadsRecord room (held inbox.old ++ came) text.new.items (held inbox.new) (S.left src.new) result }
     ensures failed { IsErrOf result Stop.ReadFault → Rises (S.faults src.old) (S.faults src.new) }
     ensures never_falls { S.faults src.old ≤ S.faults src.new }
-    ensures most { length inbox.new.held.items ≤ most_line }
+    ensures size { size inbox.new ≡ size inbox.old }
 {
-    match fill_line(src, &mut inbox.held) {
-        Ok(end) => take_record(src, inbox, room, end),
+    match fill_line(inbox, src) {
+        Ok(end) => take_record(inbox, src, text, room, end),
         Err(stop) => Err(stop),
     }
 }
 
-/// Whether bytes follow the last record.
+/// Whether bytes follow the last record. One of them is then no longer held.
 ///
 /// # Errors
 ///
 /// `Failed` only where the source's count of faults rose; nothing is held then.
-pub fn has_more<S: Source>(src: &mut S, inbox: &Inbox) -> Result<bool, Failed>
-    ensures looks { IfOk result (LooksOn inbox.now.held.items (S.left src.old) (S.left src.new)) }
-    ensures kept { OnErr result ((inbox.now.held.items ≡ []) × (S.left src.new ≡ S.left src.old)) }
+pub fn has_more<S: Source>(inbox: &mut Inbox, src: &mut S) -> Result<bool, Failed>
+    ensures looks { (came : List ℕ) × ReadsWhile S.left S.readings (IsShort 1) (held inbox.old) src.old src.new came
+        × LooksOn (held inbox.old ++ came) (S.left src.new) result }
     ensures failed { OnErr result (Rises (S.faults src.old) (S.faults src.new)) }
     ensures never_falls { S.faults src.old ≤ S.faults src.new }
+    ensures size { size inbox.new ≡ size inbox.old }
 {
-    if !inbox.held.is_empty() {
-        return Ok(true);
-    }
-    let count = src.read(&mut [0])?;
-    Ok(count > 0)
+    take_exact(inbox, src, &mut [0])
 }
 
 // Takes the record whose line feed is the byte `end` of those that are held.
 fn take_record<S: Source>(
-    src: &mut S,
     inbox: &mut Inbox,
+    src: &mut S,
+    text: &mut Vec<u8>,
     room: usize,
     end: usize,
 ) -> Result<Record, Stop>
-    requires most { length inbox.old.held.items ≤ most_line }
+    requires size { size inbox.old ≡ most_line }
     requires room { room ≤ 2 ^ 30 }
-    requires end { position (λ b. b == line_feed) inbox.old.held.items ≡ Some end }
-    ensures read { IfOk result (λ asked. ReadsRecord room inbox.old.held.items inbox.new.held.items (S.left src.old) (S.left src.new)
-        (record_of asked inbox.new.text.items)) }
-    ensures stop { IfErr result (StopsRecord room inbox.old.held.items (S.left src.old) (S.left src.new)) }
+    requires end { position (λ b. b == line_feed) (held inbox.old) ≡ Some end }
+    ensures read { (came : List ℕ) × ReadsWhile S.left S.readings (NeedsMore room) (held inbox.old) src.old src.new came
+        × ReadsRecord room (held inbox.old ++ came) text.new.items (held inbox.new) (S.left src.new) result }
     ensures failed { IsErrOf result Stop.ReadFault → Rises (S.faults src.old) (S.faults src.new) }
     ensures never_falls { S.faults src.old ≤ S.faults src.new }
-    ensures most { length inbox.new.held.items ≤ most_line }
+    ensures size { size inbox.new ≡ size inbox.old }
 {
-    match line_of(room, &inbox.held[..end]) {
+    match line_of(room, &inbox.held()[..end]) {
         None => Err(Stop::BadLine),
-        Some(Line::Batch { length }) => match take_body(src, inbox, end + 1, length) {
-            Ok(()) => Ok(Record::Batch),
-            Err(stop) => Err(stop),
-        },
+        Some(Line::Batch { length }) => {
+            text.resize(length, 0)?;
+            inbox.give(end + 1);
+            match take_exact(inbox, src, text) {
+                Ok(true) => Ok(Record::Batch),
+                Ok(false) => Err(Stop::Cut),
+                Err(Failed) => Err(Stop::ReadFault),
+            }
+        }
         Some(Line::Read { k, path }) => {
-            keep_path(&mut inbox.text, path)?;
-            give_up(&mut inbox.held, end + 1);
+            keep_path(text, path)?;
+            inbox.give(end + 1);
             Ok(Record::Read { k })
         }
     }
@@ -98,143 +108,50 @@ fn keep_path(text: &mut Vec<u8>, path: &[u8]) -> Result<(), Stop>
 }
 
 // Reads until a line is held, and answers the place of its line feed.
-fn fill_line<S: Source>(src: &mut S, held: &mut Vec<u8>) -> Result<usize, Stop>
-    requires { length held.old.items ≤ most_line }
-    ensures found { IfOk result (λ end. position (λ b. b == line_feed) held.new.items ≡ Some end) }
-    ensures taken { Takes held.old.items held.new.items (S.left src.old) (S.left src.new) }
-    ensures stop { IfErr result (StopsLine held.new.items (S.left src.new)) }
+fn fill_line<S: Source>(inbox: &mut Inbox, src: &mut S) -> Result<usize, Stop>
+    requires { size inbox.old ≡ most_line }
+    ensures found { IfOk result (λ end. position (λ b. b == line_feed) (held inbox.new) ≡ Some end) }
+    ensures read { (came : List ℕ) × ReadsWhile S.left S.readings NeedsLine (held inbox.old) src.old src.new came × (held inbox.new ≡ held inbox.old ++ came) }
+    ensures stop { IfErr result (StopsLine (held inbox.new) (S.left src.new)) }
     ensures failed { IsErrOf result Stop.ReadFault → Rises (S.faults src.old) (S.faults src.new) }
     ensures never_falls { S.faults src.old ≤ S.faults src.new }
-    ensures most { length held.new.items ≤ most_line }
+    ensures size { size inbox.new ≡ size inbox.old }
 {
     loop {
+        let held = inbox.held();
         if let Some(end) = place_of(b'\n', held) {
             return Ok(end);
         }
         if held.len() >= MAX_LINE {
             return Err(Stop::BadLine);
         }
-        read_more(src, held)?;
+        read_more(inbox, src)?;
     }
 }
 
 // Reads once behind the bytes that are held, which are fewer than those of the longest line.
-fn read_more<S: Source>(src: &mut S, held: &mut Vec<u8>) -> Result<(), Stop>
-    requires { NeedsLine held.old.items }
-    ensures taken { Takes held.old.items held.new.items (S.left src.old) (S.left src.new) }
-    ensures more { OnOk result (length held.old.items < length held.new.items) }
-    ensures stop { IfErr result (StopsLine held.new.items (S.left src.new)) }
+fn read_more<S: Source>(inbox: &mut Inbox, src: &mut S) -> Result<(), Stop>
+    requires size { size inbox.old ≡ most_line }
+    requires needed { NeedsLine (held inbox.old) }
+    ensures taken { Takes (held inbox.old) (held inbox.new) (S.left src.old) (S.left src.new) }
+    ensures more { OnOk result (length (held inbox.old) < length (held inbox.new)) }
+    ensures counted { S.readings src.new ≡ readings_after 1 (S.readings src.old) }
+    ensures stop { IfErr result (StopsLine (held inbox.new) (S.left src.new)) }
     ensures failed { IsErrOf result Stop.ReadFault → Rises (S.faults src.old) (S.faults src.new) }
     ensures never_falls { S.faults src.old ≤ S.faults src.new }
-    ensures most { length held.new.items ≤ most_line }
+    ensures size { size inbox.new ≡ size inbox.old }
 {
-    let len = held.len();
-    held.resize(MAX_LINE, 0)?;
-    match read_behind(src, held, len) {
+    inbox.move_to_front();
+    match inbox.read(src, MAX_LINE) {
         Ok(count) => {
-            held.truncate(len + count);
             if count > 0 {
                 Ok(())
-            } else if len > 0 {
-                Err(Stop::Cut)
-            } else {
+            } else if inbox.held().is_empty() {
                 Err(Stop::End)
+            } else {
+                Err(Stop::Cut)
             }
         }
-        Err(Failed) => {
-            held.truncate(len);
-            Err(Stop::ReadFault)
-        }
+        Err(Failed) => Err(Stop::ReadFault),
     }
-}
-
-// Takes the body of a batch, of `count` bytes, which follows the first `end` bytes that are held: these are given up.
-fn take_body<S: Source>(
-    src: &mut S,
-    inbox: &mut Inbox,
-    end: usize,
-    count: usize,
-) -> Result<(), Stop>
-    requires end { end ≤ length inbox.old.held.items }
-    requires most { length inbox.old.held.items ≤ most_line }
-    ensures length { OnOk result (length inbox.new.text.items ≡ count) }
-    ensures taken { OnOk result (Takes (drop end inbox.old.held.items) (inbox.new.text.items ++ inbox.new.held.items) (S.left src.old) (S.left src.new)) }
-    ensures stop { IfErr result (λ stop. stop ≢ Stop.OutOfMemory → StopsBody count (drop end inbox.old.held.items) (S.left src.old) (S.left src.new)) }
-    ensures cut { IsErrOf result Stop.Cut → IsAtEnd (S.left src.new) }
-    ensures whole { (result ≢ Err Stop.End) × (result ≢ Err Stop.BadLine) }
-    ensures no_memory { IsErrOf result Stop.OutOfMemory → src.new ≡ src.old }
-    ensures failed { IsErrOf result Stop.ReadFault → Rises (S.faults src.old) (S.faults src.new) }
-    ensures never_falls { S.faults src.old ≤ S.faults src.new }
-    ensures most { length inbox.new.held.items ≤ most_line }
-{
-    inbox.text.resize(count, 0)?;
-    let front = move_front(&mut inbox.held, end, &mut inbox.text);
-    fill(src, &mut inbox.text, front)
-}
-
-// Moves the bytes that follow the first `end` that are held to the front of a body, as many as it has room for, and answers how
-// many these are. Those before them are given up.
-fn move_front(held: &mut Vec<u8>, end: usize, body: &mut [u8]) -> usize
-    requires { end ≤ length held.old.items }
-    ensures within { result ≤ length body.new }
-    ensures moved { take result body.new ++ held.new.items ≡ drop end held.old.items }
-    ensures all { (held.new.items ≡ []) ⊎ (result ≡ length body.new) }
-    ensures len { length body.new ≡ length body.old }
-    ensures fewer { length held.new.items ≤ length held.old.items }
-{
-    let len = held.len();
-    let front = body.len().min(len - end);
-    body[..front].copy_from_slice(&held[end..end + front]);
-    give_up(held, end + front);
-    front
-}
-
-// Gives up the first `count` bytes.
-fn give_up(held: &mut Vec<u8>, count: usize)
-    requires { count ≤ length held.old.items }
-    ensures { held.new.items ≡ drop count held.old.items }
-{
-    let _ = held.drain(..count);
-}
-
-// Reads until all of `out` behind the first `start` bytes is filled.
-fn fill<S: Source>(src: &mut S, out: &mut [u8], start: usize) -> Result<(), Stop>
-    requires { start ≤ length out.old }
-    ensures filled { OnOk result (Takes (take start out.old) out.new (S.left src.old) (S.left src.new)) }
-    ensures stop { OnErr result (StopsBody (length out.old) (take start out.old) (S.left src.old) (S.left src.new)) }
-    ensures cut { IsErrOf result Stop.Cut → IsAtEnd (S.left src.new) }
-    ensures sound { IfErr result (λ stop. (stop ≡ Stop.Cut) ⊎ (stop ≡ Stop.ReadFault)) }
-    ensures failed { IsErrOf result Stop.ReadFault → Rises (S.faults src.old) (S.faults src.new) }
-    ensures never_falls { S.faults src.old ≤ S.faults src.new }
-    ensures len { length out.new ≡ length out.old }
-{
-    let mut at = start;
-    while at < out.len() {
-        match read_behind(src, out, at) {
-            Ok(count) => {
-                if count == 0 {
-                    return Err(Stop::Cut);
-                }
-                at += count;
-            }
-            Err(Failed) => return Err(Stop::ReadFault),
-        }
-    }
-    Ok(())
-}
-
-// Reads once behind the first `at` bytes, and answers how many bytes came.
-fn read_behind<S: Source>(src: &mut S, bytes: &mut [u8], at: usize) -> Result<usize, Failed>
-    requires { at < length bytes.old }
-    ensures read { IfOk result (λ count. Takes (take at bytes.old) (take (at + count) bytes.new) (S.left src.old) (S.left src.new)) }
-    ensures within { IfOk result (λ count. at + count ≤ length bytes.new) }
-    ensures end { result ≡ Ok 0 → IsAtEnd (S.left src.new) }
-    ensures kept { OnErr result (S.left src.new ≡ S.left src.old) }
-    ensures front { take at bytes.new ≡ take at bytes.old }
-    ensures failed { OnErr result (Rises (S.faults src.old) (S.faults src.new)) }
-    ensures never_falls { S.faults src.old ≤ S.faults src.new }
-    ensures len { length bytes.new ≡ length bytes.old }
-{
-    let count = src.read(&mut bytes[at..])?;
-    Ok(count)
 }

@@ -1,7 +1,5 @@
 //! Records, and why none is read.
-ghost use Rattle.std.specs.Prelude.{◌≡◌, length};
-
-use std::alloc::{AllocError, Global};
+use std::alloc::AllocError;
 
 /// A record. Its text, the body of a batch or the path of a read, stands apart from it.
 #[derive(Clone, Copy, Debug, PartialEq, Eq)]
@@ -38,26 +36,5 @@ impl From<AllocError> for Stop {
 
     fn from(_error: AllocError) -> Stop {
         Stop::OutOfMemory
-    }
-}
-
-/// What came from a source: the bytes that were read and belong to no record yet, and the text of the last record.
-#[derive(Drop)]
-pub struct Inbox {
-    /// The bytes that belong to no record yet, at most 128.
-    pub held: Vec<u8>,
-    /// The body of the batch, or the path of the read, that was the last record.
-    pub text: Vec<u8>,
-}
-
-impl Inbox {
-    /// An inbox in which nothing is.
-    pub fn new(alloc: Global) -> Inbox
-        ensures { length result.held.items ≡ 0 }
-    {
-        Inbox {
-            held: Vec::new(alloc),
-            text: Vec::new(alloc),
-        }
     }
 }

@@ -1,5 +1,5 @@
 -- What a session keeps, as it is seen.
-use Rattle.std.proofs.Common.{◌≡◌, ℕ, ◌+◌, ◌≤◌, List, [], ◌∷◌, ◌++◌, length, slice_get, Option, Some, None, refl, sym, ap, ◌∙◌, subst, arith, length-append, append_assoc}
+use Rattle.std.proofs.Common.{◌≡◌, ℕ, ◌+◌, ◌≤◌, List, [], ◌∷◌, ◌++◌, length, slice_get, Option, Some, None, sym, ap, ◌∙◌, subst, length-append, append_assoc}
 use Rattle.std.specs.Prelude.{Contains, codes, decimal, Result, Ok, Err, OnOk}
 use Rattle.std.proofs.lemmas.List.{append-nil}
 use Rattle.survey_conf.specs.Description.{Description}
@@ -11,14 +11,13 @@ use Rattle.edit_journal.specs.declared.fault.BatchFault.{BatchFault}
 use Rattle.edit_journal.specs.Journal.{JournalContent}
 use Rattle.survey_core.specs.BatchBody.{batch_entries}
 use Rattle.survey_core.specs.declared.fault.EntryFault.{EntryFault}
-use Rattle.survey_core.specs.History.{Begins}
 use Rattle.survey_core.specs.HistoryLaws.{edits_of-append}
 use Rattle.past_frame.specs.Line.{line_feed}
 use Rattle.past_frame.specs.Record.{read}
 use Rattle.past_reads.specs.Past.{PastContent, GoesOnFrom}
 use Rattle.past_reads.specs.Costs.{held_after}
-use Rattle.past_session.specs.Answers.{PastState, first_state, state_after, faulty, verdict_by, judged, batch_verdict, batch_text}
-use Rattle.past_session.specs.Session.{SessionContent, kept_content, IsKeptSession}
+use Rattle.past_session.specs.Answers.{PastState, first_state, faulty, verdict_by, judged, batch_verdict, batch_text}
+use Rattle.past_session.specs.Session.{kept_content, IsKeptSession}
 use Rattle.past_session.specs.Steps.{session_after}
 use Rattle.past_session.proofs.Asked.{found_state, same_state, first_held}
 

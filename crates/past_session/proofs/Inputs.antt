@@ -1,8 +1,8 @@
 -- Which records of an input stand before others.
-use Rattle.std.proofs.Common.{◌≡◌, ℕ, zero, suc, ◌+◌, ◌-◌, ◌≤◌, ◌<◌, List, [], ◌∷◌, ◌++◌, length, refl, sym, ap, ◌∙◌, subst, arith, length-append}
+use Rattle.std.proofs.Common.{◌≡◌, ℕ, suc, ◌+◌, ◌-◌, ◌≤◌, ◌<◌, List, [], ◌∷◌, ◌++◌, length, refl, sym, ap, ◌∙◌, arith}
 use Rattle.std.proofs.lemmas.List.{append-nil}
 use Rattle.past_frame.specs.Laws.{RecordsStand}
-use Rattle.past_frame.specs.Record.{PastRecord, NextRecord, no_more, cut_short, no_line, then_rest, next_record}
+use Rattle.past_frame.specs.Record.{PastRecord, NextRecord, then_rest, next_record}
 use Rattle.past_session.specs.Records.{PastInput, most_records, ends_by, with_record, then_records, behind_all, records_from, records_of}
 use Rattle.past_session.specs.declared.ending.PastEnd.{PastEnd}
 use Rattle.past_session.specs.declared.ending.PastEnd.TheVariants.{Done, Spent}

@@ -1,7 +1,6 @@
 mod Inputs
 mod Going
-mod Ends
-mod Read
+mod Runs
 mod Asked
 mod NoFile
 mod Content

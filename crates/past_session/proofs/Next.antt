@@ -1,36 +1,30 @@
 -- One record of a session.
-use Rattle.std.proofs.Common.{◌≡◌, ℕ, ◌+◌, ◌≤◌, List, Option, refl, subst}
-use Rattle.past_frame.specs.Record.{PastRecord}
-use Rattle.past_frame.specs.Reading.{ReadsRecord, StopsRecord}
+use Rattle.std.proofs.Common.{ℕ, ◌<◌, inl, inr, List, [], ◌∷◌, length, refl, arith}
+use Rattle.survey_link.specs.declared.source.Source as source
+use Rattle.survey_link.specs.declared.sink.Sink as sink
+use Rattle.past_frame.specs.Record.{next_record}
+use Rattle.past_frame.specs.Reading.{NeedsMore}
 use Rattle.past_frame.specs.declared.record.Stop.{Stop}
-use Rattle.past_session.specs.Records.{room_of}
-use Rattle.past_session.specs.Run.{SinkBytes}
-use Rattle.past_session.specs.Session.{SessionContent}
-use Rattle.past_session.specs.Steps.{answer_text, answer_cost, session_after, Sends, FailsToSend, AnswersNext, ReadsNone, AnswersPart}
+use Rattle.past_frame.specs.declared.record.Stop.TheVariants as stop
+use Rattle.past_session.specs.Ending.{end_of_stop, end_of_halt}
+use Rattle.past_session.specs.Order.{Moment, ReadsNone, AnswersPart, EndsAt}
 use Rattle.past_session.specs.declared.ending.Halt.{Halt}
+use Rattle.past_session.specs.declared.ending.Halt.TheVariants as halt
 
-pub reads_none : (room : ℕ) (session : SessionContent) (held : List ℕ) (left left' : Option (List ℕ)) (sink : SinkBytes) (steps : ℕ) (why : Stop) → room ≡ room_of session.conf
-    → StopsRecord room held left left' why → ReadsNone session held left left' sink sink steps steps why
-reads_none room session held left left' sink steps why is stops = record { stops = subst (λ r. StopsRecord r held left left' why) is stops; sink_stays = refl; no_steps = refl }
+-- where nothing is held, more is needed
+pub needs_first : (room : ℕ) (bytes : List ℕ) → length bytes < 1 → NeedsMore room bytes
+unfolding next_record
+needs_first room [] few = inl refl
+needs_first room (b ∷ bytes) few = absurd (omega (arith, few))
 
-pub answers_part : (room : ℕ) (session : SessionContent) (held rest : List ℕ) (left left' : Option (List ℕ)) (sink sink' : SinkBytes) (steps steps' : ℕ) (why : Halt) (asked : PastRecord) → room ≡ room_of session.conf
-    → ReadsRecord room held rest left left' asked → FailsToSend (answer_text session asked) sink sink' why → steps' ≤ steps + answer_cost session asked
-    → AnswersPart session held left left' sink sink' steps steps' why
-answers_part room session held rest left left' sink sink' steps steps' why asked is reads fails cost = record {
-  asked = asked;
-  rest = rest;
-  reads = subst (λ r. ReadsRecord r held rest left left' asked) is reads;
-  fails = fails;
-  cost = cost;
-}
+module _ {S K : Type 0} (told_source : source.Ghosts S) (told_sink : sink.Ghosts K) (old new : Moment S K) where
+  pub none_read : (at : ℕ) (why : Stop) → ReadsNone told_source told_sink old new why → EndsAt told_source told_sink at old new (end_of_stop why at)
+  none_read at stop.End none = none
+  none_read at stop.Cut none = none
+  none_read at stop.BadLine none = (refl, none)
+  none_read at stop.ReadFault none = none
+  none_read at stop.OutOfMemory none = inl none
 
-pub answers_whole : (room : ℕ) (session session' : SessionContent) (held held' : List ℕ) (left left' : Option (List ℕ)) (sink sink' : SinkBytes) (steps steps' : ℕ) (asked : PastRecord) → room ≡ room_of session.conf
-    → ReadsRecord room held held' left left' asked → Sends (answer_text session asked) sink sink' → session' ≡ session_after session asked → steps' ≤ steps + answer_cost session asked
-    → AnswersNext session session' held held' left left' sink sink' steps steps'
-answers_whole room session session' held held' left left' sink sink' steps steps' asked is reads sends after cost = record {
-  asked = asked;
-  reads = subst (λ r. ReadsRecord r held held' left left' asked) is reads;
-  sends = sends;
-  after = after;
-  cost = cost;
-}
+  pub part_answered : (at : ℕ) (why : Halt) → AnswersPart told_source told_sink old new why → EndsAt told_source told_sink at old new (end_of_halt why)
+  part_answered at halt.WriteFault part = part
+  part_answered at halt.OutOfMemory part = inr part

@@ -1,5 +1,5 @@
 -- A read is answered, by what a session keeps.
-use Rattle.std.proofs.Common.{◌≡◌, ◌≢◌, ℕ, ◌+◌, ◌≤◌, true, List, [], ◌∷◌, ◌++◌, length, slice_get, refl, sym, ap, ◌∙◌, subst, arith}
+use Rattle.std.proofs.Common.{◌≡◌, ℕ, ◌+◌, ◌≤◌, true, List, [], ◌∷◌, ◌++◌, slice_get, refl, sym, ap, ◌∙◌, subst, arith}
 use Rattle.std.specs.Prelude.{Contains, codes, decimal, Result, Ok, Err, OnOk, IfErr}
 use Rattle.std.specs.FinMap.{get}
 use Rattle.survey_conf.specs.Description.{Description}
@@ -15,9 +15,9 @@ use Rattle.past_reads.specs.Past.{PastContent, past_generation, TellsPastRefusal
 use Rattle.past_reads.specs.Costs.{held_after, past_work}
 use Rattle.past_reads.specs.declared.refusal.PastRefusal.{PastRefusal}
 use Rattle.past_reads.specs.declared.refusal.PastRefusal.TheVariants.{TooNew, Split, OutOfMemory}
-use Rattle.past_session.specs.Answers.{PastState, file_text, past_file, refusal_text}
+use Rattle.past_session.specs.Answers.{file_text, past_file, refusal_text}
 use Rattle.past_session.specs.Run.{SinkBytes}
-use Rattle.past_session.specs.Session.{SessionContent, kept_content, IsKeptSession}
+use Rattle.past_session.specs.Session.{kept_content, IsKeptSession}
 use Rattle.past_session.specs.Steps.{answer_text, answer_cost, session_after, Sends, FailsToSend}
 use Rattle.past_session.specs.declared.ending.Halt.{Halt}
 use Rattle.past_session.specs.declared.ending.Halt.TheVariants as halt

@@ -2,6 +2,7 @@
 use Rattle.std.specs.Prelude.{◌≡◌, ◌⊎◌, ℕ, ◌+◌, ◌≤◌, List, [], ◌∷◌, ◌++◌, take, Option, Some}
 use Rattle.std.specs.Io.KnownBytes.{Appends, Consumes}
 use Rattle.survey_link.specs.Link.{AppendsPrefix}
+use Rattle.survey_link.specs.declared.sink.Sink as sink
 use Rattle.survey_conf.specs.Description.{Description}
 use Rattle.edit_journal.specs.Leaves.{LeafTiles}
 use Rattle.past_frame.specs.Record.{PastRecord}
@@ -14,6 +15,9 @@ use Rattle.past_session.specs.declared.ending.PastEnd.TheVariants.{Done, Cut, Ba
 pub record SinkBytes : Type 0 where
   pub held : Option (List ℕ)
   pub flushed : Option (List ℕ)
+
+abbrev pub sink_bytes : {K : Type 0} → sink.Ghosts K → K → SinkBytes
+sink_bytes told end = record { held = told.held end; flushed = told.flushed end }
 
 -- all was flushed with the answer to a record; without one nothing was touched
 abbrev pub Flushes : List PastRecord → SinkBytes → SinkBytes → Type 0

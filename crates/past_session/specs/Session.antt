@@ -1,5 +1,5 @@
 -- A session between two records, as contracts see it, and what it is kept as.
-use Rattle.std.specs.Prelude.{◌≡◌, ℕ, ◌≤◌, true, List, slice_get}
+use Rattle.std.specs.Prelude.{◌≡◌, ◌≤◌, true, List, slice_get}
 use Rattle.survey_conf.specs.Description.{Description}
 use Rattle.edit_journal.specs.Edit.{LeafEdit}
 use Rattle.edit_journal.specs.Leaves.{LeafTiles}

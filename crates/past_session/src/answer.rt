@@ -3,9 +3,11 @@ ghost use Rattle.std.specs.Prelude.{◌≡◌, ◌≤◌, ◌+◌, IfErr, OnOk, 
 ghost use Rattle.survey_link.specs.Link.{Rises};
 ghost use Rattle.past_frame.specs.Record.{batch, read};
 ghost use Rattle.past_frame.specs.Reading.{record_of};
+ghost use Rattle.past_session.specs.Run.{sink_bytes};
 ghost use Rattle.past_session.specs.Steps.{answer_text, answer_cost, session_after, Sends, FailsToSend};
 
 use crate::ending::Halt;
+use crate::ends::Work;
 use crate::file::{send_file, send_refusal};
 use crate::kept::Session;
 use crate::send::send_text;
@@ -18,7 +20,7 @@ use std::time::Clock;
 use survey_link::{Gate, Sink};
 
 impl Session {
-    /// Answers a record with this text, and hands the answer on.
+    /// Answers a record with this text, and flushes the answer.
     ///
     /// # Errors
     ///
@@ -26,24 +28,23 @@ impl Session {
     /// any is written.
     pub(crate) fn answer<R: Threads + Sync + Clock + Log, K: Sink, G: Gate + Sync>(
         &mut self,
-        rt: &R,
+        work: &mut Work<'_, '_, '_, R, G>,
         sink: &mut K,
         asked: Record,
         text: &[u8],
-        gate: &G,
-        steps: &mut Steps,
     ) -> Result<(), Halt>
-        ensures sends { OnOk result (Sends (answer_text self.old (record_of asked text.now)) (record { held = K.held sink.old; flushed = K.flushed sink.old }) (record { held = K.held sink.new; flushed = K.flushed sink.new })) }
+        ensures sends { OnOk result (Sends (answer_text self.old (record_of asked text.now)) (sink_bytes K.Sink sink.old) (sink_bytes K.Sink sink.new)) }
         ensures after { OnOk result (self.new ≡ session_after self.old (record_of asked text.now)) }
-        ensures fails { IfErr result (FailsToSend (answer_text self.old (record_of asked text.now)) (record { held = K.held sink.old; flushed = K.flushed sink.old }) (record { held = K.held sink.new; flushed = K.flushed sink.new })) }
-        ensures steps { steps.new ≤ steps.old + answer_cost self.old (record_of asked text.now) }
+        ensures fails { IfErr result (FailsToSend (answer_text self.old (record_of asked text.now)) (sink_bytes K.Sink sink.old) (sink_bytes K.Sink sink.new)) }
+        ensures steps { work.new.steps.now ≤ work.old.steps.now + answer_cost self.old (record_of asked text.now) }
         ensures failed { IsErrOf result Halt.WriteFault → Rises (K.faults sink.old) (K.faults sink.new) }
         ensures never_falls { K.faults sink.old ≤ K.faults sink.new }
-        ensures steps_never_fall { steps.old ≤ steps.new }
+        ensures steps_never_fall { work.old.steps.now ≤ work.new.steps.now }
+        ensures same { work.new.steps.ghost_name ≡ work.old.steps.ghost_name }
     {
         match asked {
-            Record::Batch => self.answer_batch(sink, text, steps),
-            Record::Read { k } => self.answer_read(rt, sink, k, text, gate, steps),
+            Record::Batch => self.answer_batch(sink, text, work.steps),
+            Record::Read { k } => self.answer_read(work, sink, k, text),
         }
     }
 
@@ -54,9 +55,9 @@ impl Session {
         body: &[u8],
         steps: &mut Steps,
     ) -> Result<(), Halt>
-        ensures sends { OnOk result (Sends (answer_text self.old (batch body.now)) (record { held = K.held sink.old; flushed = K.flushed sink.old }) (record { held = K.held sink.new; flushed = K.flushed sink.new })) }
+        ensures sends { OnOk result (Sends (answer_text self.old (batch body.now)) (sink_bytes K.Sink sink.old) (sink_bytes K.Sink sink.new)) }
         ensures after { OnOk result (self.new ≡ session_after self.old (batch body.now)) }
-        ensures fails { IfErr result (FailsToSend (answer_text self.old (batch body.now)) (record { held = K.held sink.old; flushed = K.flushed sink.old }) (record { held = K.held sink.new; flushed = K.flushed sink.new })) }
+        ensures fails { IfErr result (FailsToSend (answer_text self.old (batch body.now)) (sink_bytes K.Sink sink.old) (sink_bytes K.Sink sink.new)) }
         ensures steps { steps.new ≤ steps.old + answer_cost self.old (batch body.now) }
         ensures failed { IsErrOf result Halt.WriteFault → Rises (K.faults sink.old) (K.faults sink.new) }
         ensures never_falls { K.faults sink.old ≤ K.faults sink.new }
@@ -70,24 +71,26 @@ impl Session {
     // Answers a read of the file at a path, by the first `k` edits.
     fn answer_read<R: Threads + Sync + Clock + Log, K: Sink, G: Gate + Sync>(
         &mut self,
-        rt: &R,
+        work: &mut Work<'_, '_, '_, R, G>,
         sink: &mut K,
         k: u32,
         path: &[u8],
-        gate: &G,
-        steps: &mut Steps,
     ) -> Result<(), Halt>
-        ensures sends { OnOk result (Sends (answer_text self.old (read k path.now)) (record { held = K.held sink.old; flushed = K.flushed sink.old }) (record { held = K.held sink.new; flushed = K.flushed sink.new })) }
+        ensures sends { OnOk result (Sends (answer_text self.old (read k path.now)) (sink_bytes K.Sink sink.old) (sink_bytes K.Sink sink.new)) }
         ensures after { OnOk result (self.new ≡ session_after self.old (read k path.now)) }
-        ensures fails { IfErr result (FailsToSend (answer_text self.old (read k path.now)) (record { held = K.held sink.old; flushed = K.flushed sink.old }) (record { held = K.held sink.new; flushed = K.flushed sink.new })) }
-        ensures steps { steps.new ≤ steps.old + answer_cost self.old (read k path.now) }
+        ensures fails { IfErr result (FailsToSend (answer_text self.old (read k path.now)) (sink_bytes K.Sink sink.old) (sink_bytes K.Sink sink.new)) }
+        ensures steps { work.new.steps.now ≤ work.old.steps.now + answer_cost self.old (read k path.now) }
         ensures failed { IsErrOf result Halt.WriteFault → Rises (K.faults sink.old) (K.faults sink.new) }
         ensures never_falls { K.faults sink.old ≤ K.faults sink.new }
-        ensures steps_never_fall { steps.old ≤ steps.new }
+        ensures steps_never_fall { work.old.steps.now ≤ work.new.steps.now }
+        ensures same { work.new.steps.ghost_name ≡ work.old.steps.ghost_name }
     {
         // Later edits touch no leaf that all of them don't.
         more_touched_is_more_work();
-        match self.past.at(rt, &self.journal, k, gate, steps) {
+        match self
+            .past
+            .at(work.rt, &self.journal, k, work.gate, work.steps)
+        {
             Ok(generation) => return send_file(self.alloc, sink, &generation, path),
             Err(refusal) => return send_refusal(self.alloc, sink, refusal),
         }

@@ -1,6 +1,8 @@
 //! How a session ends.
 ghost use Rattle.std.specs.Prelude.{◌≡◌};
+ghost use Rattle.past_session.specs.Ending.{end_of_stop};
 
+use past_frame::Stop;
 use std::alloc::AllocError;
 use survey_link::Failed;
 
@@ -54,5 +56,32 @@ impl From<Failed> for Halt {
 
     fn from(_failed: Failed) -> Halt {
         Halt::WriteFault
+    }
+}
+
+impl From<Halt> for PastEnd {
+    ghost use Rattle.std.specs.Prelude.{◌≡◌};
+    ghost use Rattle.past_session.specs.Ending.{end_of_halt};
+
+    ghost from_gives = { λ halt end. end ≡ end_of_halt halt };
+
+    fn from(halt: Halt) -> PastEnd {
+        match halt {
+            Halt::WriteFault => PastEnd::WriteFault,
+            Halt::OutOfMemory => PastEnd::OutOfMemory,
+        }
+    }
+}
+
+/// How a session ends where this is why the record `at` wasn't read.
+pub(crate) fn end_of(stop: Stop, at: u64) -> PastEnd
+    ensures { result ≡ end_of_stop stop at }
+{
+    match stop {
+        Stop::End => PastEnd::Done,
+        Stop::Cut => PastEnd::Cut,
+        Stop::BadLine => PastEnd::BadLine { at },
+        Stop::ReadFault => PastEnd::ReadFault,
+        Stop::OutOfMemory => PastEnd::OutOfMemory,
     }
 }

@@ -5,6 +5,7 @@ ghost use Rattle.survey_link.specs.Link.{Rises};
 ghost use Rattle.generation.specs.Files.{files_in};
 ghost use Rattle.tile_path.specs.Spelling.{spelling};
 ghost use Rattle.past_session.specs.Answers.{file_text, refusal_text};
+ghost use Rattle.past_session.specs.Run.{sink_bytes};
 ghost use Rattle.past_session.specs.Steps.{Sends, FailsToSend};
 
 use crate::ending::Halt;
@@ -27,8 +28,8 @@ pub(crate) fn send_file<K: Sink>(
     generation: &Generation,
     path: &[u8],
 ) -> Result<(), Halt>
-    ensures sends { OnOk result (Sends (file_text (get (files_in generation.now) path.now)) (record { held = K.held sink.old; flushed = K.flushed sink.old }) (record { held = K.held sink.new; flushed = K.flushed sink.new })) }
-    ensures fails { IfErr result (FailsToSend (file_text (get (files_in generation.now) path.now)) (record { held = K.held sink.old; flushed = K.flushed sink.old }) (record { held = K.held sink.new; flushed = K.flushed sink.new })) }
+    ensures sends { OnOk result (Sends (file_text (get (files_in generation.now) path.now)) (sink_bytes K.Sink sink.old) (sink_bytes K.Sink sink.new)) }
+    ensures fails { IfErr result (FailsToSend (file_text (get (files_in generation.now) path.now)) (sink_bytes K.Sink sink.old) (sink_bytes K.Sink sink.new)) }
     ensures failed { IsErrOf result Halt.WriteFault → Rises (K.faults sink.old) (K.faults sink.new) }
     ensures never_falls { K.faults sink.old ≤ K.faults sink.new }
 {
@@ -49,8 +50,8 @@ fn send_known<K: Sink>(
     generation: &Generation,
     path: &Path,
 ) -> Result<(), Halt>
-    ensures sends { OnOk result (Sends (file_text (get (files_in generation.now) (spelling path.now))) (record { held = K.held sink.old; flushed = K.flushed sink.old }) (record { held = K.held sink.new; flushed = K.flushed sink.new })) }
-    ensures fails { IfErr result (FailsToSend (file_text (get (files_in generation.now) (spelling path.now))) (record { held = K.held sink.old; flushed = K.flushed sink.old }) (record { held = K.held sink.new; flushed = K.flushed sink.new })) }
+    ensures sends { OnOk result (Sends (file_text (get (files_in generation.now) (spelling path.now))) (sink_bytes K.Sink sink.old) (sink_bytes K.Sink sink.new)) }
+    ensures fails { IfErr result (FailsToSend (file_text (get (files_in generation.now) (spelling path.now))) (sink_bytes K.Sink sink.old) (sink_bytes K.Sink sink.new)) }
     ensures failed { IsErrOf result Halt.WriteFault → Rises (K.faults sink.old) (K.faults sink.new) }
     ensures never_falls { K.faults sink.old ≤ K.faults sink.new }
 {
@@ -69,8 +70,8 @@ fn send_known<K: Sink>(
 
 // Answers that there is no file at the path.
 fn send_absent<K: Sink>(sink: &mut K) -> Result<(), Halt>
-    ensures sends { OnOk result (Sends (file_text None) (record { held = K.held sink.old; flushed = K.flushed sink.old }) (record { held = K.held sink.new; flushed = K.flushed sink.new })) }
-    ensures fails { IfErr result (FailsToSend (file_text None) (record { held = K.held sink.old; flushed = K.flushed sink.old }) (record { held = K.held sink.new; flushed = K.flushed sink.new })) }
+    ensures sends { OnOk result (Sends (file_text None) (sink_bytes K.Sink sink.old) (sink_bytes K.Sink sink.new)) }
+    ensures fails { IfErr result (FailsToSend (file_text None) (sink_bytes K.Sink sink.old) (sink_bytes K.Sink sink.new)) }
     ensures failed { IsErrOf result Halt.WriteFault → Rises (K.faults sink.old) (K.faults sink.new) }
     ensures never_falls { K.faults sink.old ≤ K.faults sink.new }
 {
@@ -88,8 +89,8 @@ pub(crate) fn send_refusal<K: Sink>(
     sink: &mut K,
     refusal: PastRefusal,
 ) -> Result<(), Halt>
-    ensures sends { OnOk result (Sends (refusal_text refusal) (record { held = K.held sink.old; flushed = K.flushed sink.old }) (record { held = K.held sink.new; flushed = K.flushed sink.new })) }
-    ensures fails { IfErr result (FailsToSend (refusal_text refusal) (record { held = K.held sink.old; flushed = K.flushed sink.old }) (record { held = K.held sink.new; flushed = K.flushed sink.new })) }
+    ensures sends { OnOk result (Sends (refusal_text refusal) (sink_bytes K.Sink sink.old) (sink_bytes K.Sink sink.new)) }
+    ensures fails { IfErr result (FailsToSend (refusal_text refusal) (sink_bytes K.Sink sink.old) (sink_bytes K.Sink sink.new)) }
     ensures wants { refusal ≡ PastRefusal.OutOfMemory → result ≡ Err Halt.OutOfMemory }
     ensures failed { IsErrOf result Halt.WriteFault → Rises (K.faults sink.old) (K.faults sink.new) }
     ensures never_falls { K.faults sink.old ≤ K.faults sink.new }

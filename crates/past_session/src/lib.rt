@@ -6,6 +6,7 @@
 
 mod answer;
 mod ending;
+mod ends;
 mod file;
 mod kept;
 mod send;

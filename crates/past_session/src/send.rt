@@ -1,6 +1,7 @@
 //! Answers are written.
 ghost use Rattle.std.specs.Prelude.{◌≡◌, ◌≤◌, ◌++◌, OnOk, OnErr};
 ghost use Rattle.survey_link.specs.Link.{Rises, AppendsPrefix};
+ghost use Rattle.past_session.specs.Run.{sink_bytes};
 ghost use Rattle.past_session.specs.Steps.{Sends};
 
 use survey_link::{Failed, Sink, write_all_parts, write_whole};
@@ -17,7 +18,7 @@ pub(crate) fn send_parts<'a, K: Sink>(
     kept: &'a [u8],
     zeros: &'a [u8],
 ) -> Result<(), Failed>
-    ensures sends { OnOk result (Sends (line.now ++ front.now ++ kept.now ++ zeros.now) (record { held = K.held sink.old; flushed = K.flushed sink.old }) (record { held = K.held sink.new; flushed = K.flushed sink.new })) }
+    ensures sends { OnOk result (Sends (line.now ++ front.now ++ kept.now ++ zeros.now) (sink_bytes K.Sink sink.old) (sink_bytes K.Sink sink.new)) }
     ensures part { OnErr result (AppendsPrefix (K.held sink.old) (K.held sink.new) (line.now ++ front.now ++ kept.now ++ zeros.now)) }
     ensures stays { OnErr result (K.flushed sink.new ≡ K.flushed sink.old) }
     ensures failed { OnErr result (Rises (K.faults sink.old) (K.faults sink.new)) }
@@ -33,7 +34,7 @@ pub(crate) fn send_parts<'a, K: Sink>(
 ///
 /// As for `send_parts`.
 pub(crate) fn send_text<K: Sink>(sink: &mut K, text: &[u8]) -> Result<(), Failed>
-    ensures sends { OnOk result (Sends text.now (record { held = K.held sink.old; flushed = K.flushed sink.old }) (record { held = K.held sink.new; flushed = K.flushed sink.new })) }
+    ensures sends { OnOk result (Sends text.now (sink_bytes K.Sink sink.old) (sink_bytes K.Sink sink.new)) }
     ensures part { OnErr result (AppendsPrefix (K.held sink.old) (K.held sink.new) text.now) }
     ensures stays { OnErr result (K.flushed sink.new ≡ K.flushed sink.old) }
     ensures failed { OnErr result (Rises (K.faults sink.old) (K.faults sink.new)) }

@@ -1,29 +1,33 @@
 //! A session, whole.
-ghost use Rattle.std.specs.Prelude.{◌≡◌, ◌≢◌, ◌≤◌, ◌^◌, ℕ, List, [], length, Some, IfErr, OnOk, IsErrOf};
+ghost use Rattle.std.specs.Prelude.{◌≡◌, ◌≢◌, ◌≤◌, ◌^◌, ℕ, List, [], Some, Err, IfErr, OnOk, IfOk, IsErrOf};
 ghost use Rattle.std.specs.Arc.{arc_value};
 ghost use Rattle.survey_link.specs.Link.{Rises};
+ghost use Rattle.survey_link.specs.Inbox.{held};
 ghost use Rattle.edit_journal.specs.Leaves.{charge_of};
 ghost use Rattle.edit_journal.specs.Faults.{most_charge};
-ghost use Rattle.past_frame.specs.Record.{most_line};
+ghost use Rattle.past_frame.specs.Record.{PastRecord};
+ghost use Rattle.past_frame.specs.Reading.{record_of};
 ghost use Rattle.past_session.specs.Answers.{first_state};
 ghost use Rattle.past_session.specs.Records.{room_of};
-ghost use Rattle.past_session.specs.Run.{PastRun, RunsOver, FlushesAll};
-ghost use Rattle.past_session.specs.Steps.{AnswersNext, EndsAt, EndsBehindAll};
+ghost use Rattle.past_session.specs.Run.{PastRun, RunsOver, FlushesAll, sink_bytes};
+ghost use Rattle.past_session.specs.Session.{SessionContent};
+ghost use Rattle.past_session.specs.Order.{Moment, moment, first_moment, SameEnds, NeverFalls, IsAsked, IsAnswered, EndsAt, EndsBehindAll, InOrder};
 ghost use Rattle.past_session.specs.declared.ending.PastEnd.TheVariants.{ReadFault, WriteFault};
 
-use crate::ending::{Halt, PastEnd};
+use crate::ending::{PastEnd, end_of};
+use crate::ends::{Ends, Input, Work};
 use crate::kept::Session;
 use generation::Generation;
 use log::Log;
 use parent_rule::Steps;
 use past_frame::laws::records_stand;
-use past_frame::{Inbox, Stop, has_more, read_record};
-use std::alloc::Global;
+use past_frame::{MAX_LINE, Record, has_more, read_record};
+use std::alloc::{AllocError, Global};
 use std::sync::Arc;
 use std::thread::Threads;
 use std::time::Clock;
 use survey_core::batch_room;
-use survey_link::{Gate, Sink, Source};
+use survey_link::{Gate, Inbox, Sink, Source};
 
 // How many records are taken.
 const MOST_RECORDS: u64 = 65_536;
@@ -56,43 +60,14 @@ pub fn past_session<R: Threads + Sync + Clock + Log, S: Source, K: Sink, G: Gate
     requires most { cache ≤ 8 }
     // Where the source tells its bytes, the session is a run of the definition, which knows no cache.
     ensures run { (input : List ℕ) → S.left src.old ≡ Some input → PastRun (arc_value opening).conf (arc_value opening).leaves input (S.left src.new)
-        (record { held = K.held sink.old; flushed = K.flushed sink.old }) (record { held = K.held sink.new; flushed = K.flushed sink.new }) steps.old steps.new result }
+        (sink_bytes K.Sink sink.old) (sink_bytes K.Sink sink.new) steps.old steps.new result }
     // Whatever it tells, the session is one of the bytes that were read.
     ensures over { RunsOver (arc_value opening).conf (arc_value opening).leaves (S.left src.old) (S.left src.new)
-        (record { held = K.held sink.old; flushed = K.flushed sink.old }) (record { held = K.held sink.new; flushed = K.flushed sink.new }) steps.old steps.new result }
-    ensures flushed { result ≢ WriteFault
-        → FlushesAll (record { held = K.held sink.old; flushed = K.flushed sink.old }) (record { held = K.held sink.new; flushed = K.flushed sink.new }) }
-    ensures read_fault { result ≡ ReadFault → Rises (S.faults src.old) (S.faults src.new) }
-    ensures write_fault { result ≡ WriteFault → Rises (K.faults sink.old) (K.faults sink.new) }
-    ensures source_never_falls { S.faults src.old ≤ S.faults src.new }
-    ensures sink_never_falls { K.faults sink.old ≤ K.faults sink.new }
-    ensures steps_never_fall { steps.old ≤ steps.new }
-{
-    let room = batch_room(opening.conf());
-    match Session::start(alloc, opening, cache) {
-        Ok(mut session) => answer_all(rt, alloc, &mut session, room, src, sink, gate, steps),
-        Err(_) => PastEnd::OutOfMemory,
-    }
-}
-
-// Answers the records of a session that has answered none.
-fn answer_all<R: Threads + Sync + Clock + Log, S: Source, K: Sink, G: Gate + Sync>(
-    rt: &R,
-    alloc: Global,
-    session: &mut Session,
-    room: usize,
-    src: &mut S,
-    sink: &mut K,
-    gate: &G,
-    steps: &mut Steps,
-) -> PastEnd
-    requires first { session.old.state ≡ first_state }
-    requires room { room ≡ room_of session.old.conf }
-    requires at_most { room ≤ 2 ^ 30 }
-    ensures run { (input : List ℕ) → S.left src.old ≡ Some input → PastRun session.old.conf session.old.opening input (S.left src.new)
-        (record { held = K.held sink.old; flushed = K.flushed sink.old }) (record { held = K.held sink.new; flushed = K.flushed sink.new }) steps.old steps.new result }
-    ensures over { RunsOver session.old.conf session.old.opening (S.left src.old) (S.left src.new)
-        (record { held = K.held sink.old; flushed = K.flushed sink.old }) (record { held = K.held sink.new; flushed = K.flushed sink.new }) steps.old steps.new result }
+        (sink_bytes K.Sink sink.old) (sink_bytes K.Sink sink.new) steps.old steps.new result }
+    // Each record is answered, and the answer flushed, before the next is read; behind a bad line nothing is.
+    ensures order { (session : SessionContent) × (held : List ℕ) × InOrder S.Source K.Sink (first_moment (arc_value opening).conf (arc_value opening).leaves src.old sink.old steps.old)
+        (record { session = session; src = src.new; sink = sink.new; held = held; steps = steps.new }) result }
+    ensures flushed { result ≢ WriteFault → FlushesAll (sink_bytes K.Sink sink.old) (sink_bytes K.Sink sink.new) }
     ensures read_fault { result ≡ ReadFault → Rises (S.faults src.old) (S.faults src.new) }
     ensures write_fault { result ≡ WriteFault → Rises (K.faults sink.old) (K.faults sink.new) }
     ensures source_never_falls { S.faults src.old ≤ S.faults src.new }
@@ -100,66 +75,123 @@ fn answer_all<R: Threads + Sync + Clock + Log, S: Source, K: Sink, G: Gate + Syn
     ensures steps_never_fall { steps.old ≤ steps.new }
 {
     records_stand();
-    let mut inbox = Inbox::new(alloc);
+    let room = batch_room(opening.conf());
+    match begin(alloc, opening, cache) {
+        Ok((mut session, mut input)) => {
+            let mut ends = Ends { src, sink };
+            let mut work = Work { rt, gate, steps };
+            answer_all(&mut session, &mut ends, &mut input, &mut work, room)
+        }
+        Err(_) => PastEnd::OutOfMemory,
+    }
+}
+
+// A session of the survey with this opening generation, of which nothing came.
+fn begin(
+    alloc: Global,
+    opening: Arc<Generation>,
+    cache: usize,
+) -> Result<(Session, Input), AllocError>
+    requires first { (arc_value opening).prefix ≡ 0 }
+    requires charge { charge_of (arc_value opening).leaves [] ≤ most_charge }
+    requires least { 1 ≤ cache }
+    requires most { cache ≤ 8 }
+    ensures session { IfOk result (λ begun. begun.0 ≡ record { conf = (arc_value opening).conf; opening = (arc_value opening).leaves; state = first_state }) }
+    ensures empty { IfOk result (λ begun. held begun.1.inbox ≡ []) }
+{
+    let inbox = Inbox::new(alloc, MAX_LINE)?;
+    let text = Vec::new(alloc);
+    let session = Session::start(alloc, opening, cache)?;
+    Ok((session, Input { inbox, text }))
+}
+
+// Answers the records of a session that has answered none.
+fn answer_all<R: Threads + Sync + Clock + Log, S: Source, K: Sink, G: Gate + Sync>(
+    session: &mut Session,
+    ends: &mut Ends<'_, '_, S, K>,
+    input: &mut Input,
+    work: &mut Work<'_, '_, '_, R, G>,
+    room: usize,
+) -> PastEnd
+    requires room { room ≡ room_of session.old.conf }
+    requires at_most { room ≤ 2 ^ 30 }
+    ensures order { InOrder S.Source K.Sink (moment session.old ends.old input.old work.old.steps.now) (moment session.new ends.new input.new work.new.steps.now) result }
+    ensures read_fault { result ≡ ReadFault → Rises (S.faults ends.old.src.now) (S.faults ends.new.src.now) }
+    ensures write_fault { result ≡ WriteFault → Rises (K.faults ends.old.sink.now) (K.faults ends.new.sink.now) }
+    ensures never_falls { NeverFalls S.Source K.Sink (moment session.old ends.old input.old work.old.steps.now) (moment session.new ends.new input.new work.new.steps.now) }
+    ensures same_ends { SameEnds ends.old ends.new }
+    ensures same_steps { work.new.steps.ghost_name ≡ work.old.steps.ghost_name }
+{
     for at in 0..MOST_RECORDS {
-        match answer_next(rt, session, &mut inbox, room, at, src, sink, gate, steps) {
+        match answer_next(session, ends, input, work, room, at) {
             Ok(()) => {}
             Err(end) => return end,
         }
     }
-    end_behind_all(src, &inbox)
+    end_behind_all(ends, input)
 }
 
 // Reads the next record, and answers it; `at` records stand before it.
-#[tactic(auto, using(crate::proofs::Next::reads_none, crate::proofs::Next::answers_part, crate::proofs::Next::answers_whole))]
 fn answer_next<R: Threads + Sync + Clock + Log, S: Source, K: Sink, G: Gate + Sync>(
-    rt: &R,
     session: &mut Session,
-    inbox: &mut Inbox,
+    ends: &mut Ends<'_, '_, S, K>,
+    input: &mut Input,
+    work: &mut Work<'_, '_, '_, R, G>,
     room: usize,
     at: u64,
-    src: &mut S,
-    sink: &mut K,
-    gate: &G,
-    steps: &mut Steps,
 ) -> Result<(), PastEnd>
-    requires held { length inbox.old.held.items ≤ most_line }
     requires room { room ≡ room_of session.old.conf }
     requires at_most { room ≤ 2 ^ 30 }
-    ensures answers { OnOk result (AnswersNext session.old session.new inbox.old.held.items inbox.new.held.items (S.left src.old) (S.left src.new)
-        (record { held = K.held sink.old; flushed = K.flushed sink.old }) (record { held = K.held sink.new; flushed = K.flushed sink.new }) steps.old steps.new) }
-    ensures ends { IfErr result (EndsAt session.old at inbox.old.held.items (S.left src.old) (S.left src.new)
-        (record { held = K.held sink.old; flushed = K.flushed sink.old }) (record { held = K.held sink.new; flushed = K.flushed sink.new }) steps.old steps.new) }
-    ensures held { length inbox.new.held.items ≤ most_line }
-    ensures read_fault { IsErrOf result ReadFault → Rises (S.faults src.old) (S.faults src.new) }
-    ensures write_fault { IsErrOf result WriteFault → Rises (K.faults sink.old) (K.faults sink.new) }
-    ensures source_never_falls { S.faults src.old ≤ S.faults src.new }
-    ensures sink_never_falls { K.faults sink.old ≤ K.faults sink.new }
-    ensures steps_never_fall { steps.old ≤ steps.new }
+    ensures answers { OnOk result ((asked : PastRecord) × (mid : Moment S K) × IsAsked S.Source K.Sink asked (moment session.old ends.old input.old work.old.steps.now) mid
+        × IsAnswered S.Source K.Sink asked mid (moment session.new ends.new input.new work.new.steps.now)) }
+    ensures ends { IfErr result (EndsAt S.Source K.Sink at (moment session.old ends.old input.old work.old.steps.now) (moment session.new ends.new input.new work.new.steps.now)) }
+    ensures read_fault { IsErrOf result ReadFault → Rises (S.faults ends.old.src.now) (S.faults ends.new.src.now) }
+    ensures write_fault { IsErrOf result WriteFault → Rises (K.faults ends.old.sink.now) (K.faults ends.new.sink.now) }
+    ensures never_falls { NeverFalls S.Source K.Sink (moment session.old ends.old input.old work.old.steps.now) (moment session.new ends.new input.new work.new.steps.now) }
+    ensures same_ends { SameEnds ends.old ends.new }
+    ensures same_steps { work.new.steps.ghost_name ≡ work.old.steps.ghost_name }
 {
     // For the prover: a count fits 64 bits.
-    let _count = steps.count();
-    match read_record(src, inbox, room) {
-        Ok(asked) => match session.answer(rt, sink, asked, &inbox.text, gate, steps) {
-            Ok(()) => Ok(()),
-            Err(Halt::WriteFault) => Err(PastEnd::WriteFault),
-            Err(Halt::OutOfMemory) => Err(PastEnd::OutOfMemory),
-        },
-        Err(Stop::End) => Err(PastEnd::Done),
-        Err(Stop::Cut) => Err(PastEnd::Cut),
-        Err(Stop::BadLine) => Err(PastEnd::BadLine { at }),
-        Err(Stop::ReadFault) => Err(PastEnd::ReadFault),
-        Err(Stop::OutOfMemory) => Err(PastEnd::OutOfMemory),
+    let _count = work.steps.count();
+    let asked = read_next(ends, input, room, at)?;
+    session.answer(work, ends.sink, asked, &input.text)?;
+    Ok(())
+}
+
+// Reads the next record; `at` records stand before it.
+fn read_next<S: Source, K: Sink>(
+    ends: &mut Ends<'_, '_, S, K>,
+    input: &mut Input,
+    room: usize,
+    at: u64,
+) -> Result<Record, PastEnd>
+    requires { room ≤ 2 ^ 30 }
+    ensures asked { IfOk result (λ asked. (session : SessionContent) (steps : ℕ) → room ≡ room_of session.conf
+        → IsAsked S.Source K.Sink (record_of asked input.new.text.items) (moment session ends.old input.old steps) (moment session ends.new input.new steps)) }
+    ensures ends { IfErr result (λ end. (session : SessionContent) (steps : ℕ) → room ≡ room_of session.conf
+        → EndsAt S.Source K.Sink at (moment session ends.old input.old steps) (moment session ends.new input.new steps) end) }
+    ensures read_fault { IsErrOf result ReadFault → Rises (S.faults ends.old.src.now) (S.faults ends.new.src.now) }
+    ensures not_written { result ≢ Err WriteFault }
+    ensures never_falls { S.faults ends.old.src.now ≤ S.faults ends.new.src.now }
+    ensures sink { ends.new.sink.now ≡ ends.old.sink.now }
+    ensures same { SameEnds ends.old ends.new }
+{
+    match read_record(&mut input.inbox, ends.src, &mut input.text, room) {
+        Ok(asked) => Ok(asked),
+        Err(stop) => Err(end_of(stop, at)),
     }
 }
 
 // How a session ends that has answered all records that are taken.
-fn end_behind_all<S: Source>(src: &mut S, inbox: &Inbox) -> PastEnd
-    ensures ends { EndsBehindAll inbox.now.held.items (S.left src.old) (S.left src.new) result }
-    ensures read_fault { result ≡ ReadFault → Rises (S.faults src.old) (S.faults src.new) }
-    ensures source_never_falls { S.faults src.old ≤ S.faults src.new }
+fn end_behind_all<S: Source, K: Sink>(ends: &mut Ends<'_, '_, S, K>, input: &mut Input) -> PastEnd
+    ensures ends { (session : SessionContent) (steps : ℕ) → EndsBehindAll S.Source K.Sink (moment session ends.old input.old steps) (moment session ends.new input.new steps) result }
+    ensures read_fault { result ≡ ReadFault → Rises (S.faults ends.old.src.now) (S.faults ends.new.src.now) }
+    ensures not_written { result ≢ WriteFault }
+    ensures never_falls { S.faults ends.old.src.now ≤ S.faults ends.new.src.now }
+    ensures sink { ends.new.sink.now ≡ ends.old.sink.now }
+    ensures same { SameEnds ends.old ends.new }
 {
-    match has_more(src, inbox) {
+    match has_more(&mut input.inbox, ends.src) {
         Ok(true) => PastEnd::Spent,
         Ok(false) => PastEnd::Done,
         Err(_) => PastEnd::ReadFault,

@@ -48,6 +48,8 @@ impl Source for Client {
 
     ghost faults = { λ _. 0 };
 
+    ghost number = { λ _. None };
+
     fn read(&mut self, buf: &mut [u8]) -> Result<usize, Failed> {
         for part in &mut self.parts {
             if !has(&self.other, part.after) {
@@ -76,6 +78,8 @@ impl Sink for Replies {
     ghost flushed = { λ _. None };
 
     ghost faults = { λ replies. replies.sink.faults };
+
+    ghost number = { λ _. None };
 
     fn write(&mut self, buf: &[u8]) -> Result<usize, Failed> {
         self.sink.write(buf)

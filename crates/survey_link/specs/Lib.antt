@@ -7,4 +7,5 @@ pub mod Stream
 pub mod Faults
 pub mod ShelfPath
 pub mod Folder
+pub mod Inbox
 pub mod Turns

@@ -1,12 +1,14 @@
 -- The forms in memory: what they hold, and what a call does to it. Calls are numbered from 0, and those whose numbers are
 -- listed fail.
-use Rattle.std.specs.Prelude.{ℕ, ◌+◌, ◌-◌, ◌≤◌, ◌⊎◌, min, List, [], ◌∷◌, ◌++◌, length, take, drop, map, Some, Contains, if◌then◌else◌, nat_lt}
+use Rattle.std.specs.Prelude.{ℕ, ◌+◌, ◌-◌, ◌≤◌, ◌⊎◌, min, List, [], ◌∷◌, ◌++◌, length, take, drop, map, Option, Some, Contains, if◌then◌else◌, nat_lt}
 use Rattle.survey_link.specs.Link.{next_count}
-use Rattle.survey_link.specs.Door.{Connection, Connections}
+use Rattle.survey_link.specs.Door.{Numbered, Connections}
 use Rattle.survey_link.specs.Shelf.{ShelfFiles}
 
--- a source: the bytes left, how many a read gives at most, the calls that fail, and how many calls came and failed
+-- a source: the number of its connection, where it came through a door, the bytes left, how many a read gives at most, the calls
+-- that fail, and how many calls came and failed
 pub record SourceState : Type 0 where
+  pub number : Option ℕ
   pub unread : List ℕ
   pub piece : ℕ
   pub fails : List ℕ
@@ -34,9 +36,10 @@ pub record SureState : Type 0 where
 abbrev pub after_sure_read : ℕ → SureState → SureState
 after_sure_read m source = record source { unread = drop m source.unread; calls = next_count source.calls }
 
--- a sink: the bytes written, those of them that were flushed, how many it holds at most, the calls that fail, and how many
--- calls came and failed
+-- a sink: the number of its connection, where it came through a door, the bytes written, those of them that were flushed, how
+-- many it holds at most, the calls that fail, and how many calls came and failed
 pub record SinkState : Type 0 where
+  pub number : Option ℕ
   pub written : List ℕ
   pub flushed : List ℕ
   pub room : ℕ
@@ -91,20 +94,33 @@ pub record DoorState : Type 0 where
   pub wants : ℕ
 
 -- what is told of a connection in memory
-abbrev pub connection_of : SourceState × SinkState → Connection
+abbrev pub connection_of : SourceState × SinkState → Numbered
 connection_of ends = record {
-  unread = Some ends.0.unread;
-  written = Some ends.1.written;
-  flushed = Some ends.1.flushed;
-  source_faults = ends.0.faults;
-  sink_faults = ends.1.faults;
+  source = ends.0.number;
+  sink = ends.1.number;
+  told = record {
+    unread = Some ends.0.unread;
+    written = Some ends.1.written;
+    flushed = Some ends.1.flushed;
+    source_faults = ends.0.faults;
+    sink_faults = ends.1.faults;
+  };
 }
+
+-- a connection as the door hands it out: with its number
+abbrev pub numbered : ℕ → SourceState × SinkState → SourceState × SinkState
+numbered number ends = (record ends.0 { number = Some number }, record ends.1 { number = Some number })
+
+-- connections that have the numbers from this one on
+abbrev pub numbered_from : ℕ → List (SourceState × SinkState) → List Numbered
+numbered_from number [] = []
+numbered_from number (ends ∷ rest) = connection_of (numbered number ends) ∷ numbered_from (number + 1) rest
 
 -- what is told of the connections of a door in memory
 abbrev pub connections_of : DoorState → Connections
 connections_of door = record {
-  waiting = map connection_of (drop door.next door.all);
-  taken = map connection_of (take door.next door.all);
+  waiting = numbered_from door.next (drop door.next door.all);
+  taken = numbered_from 0 (take door.next door.all);
   returned = map connection_of door.returned;
 }
 

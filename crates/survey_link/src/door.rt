@@ -24,7 +24,8 @@ pub trait Door {
     /// How often there was no memory to accept a connection. The count never falls.
     ghost wants: { Self → ℕ };
 
-    /// The next connection; `None` exactly where none is left, where that is told.
+    /// The next connection; `None` exactly where none is left, where that is told. Its ends have the same number, and no other
+    /// connection of the door has it, where the connections are told.
     ///
     /// # Errors
     ///
@@ -34,11 +35,15 @@ pub trait Door {
         ensures next { IfOk result (λ next. MatchOption next
             (NoneWaits (connections self.old) × (connections self.new ≡ connections self.old))
             (λ taken. Takes (connections self.old) (connections self.new) (record {
-              unread = Self.In.left taken.0;
-              written = Self.Out.held taken.1;
-              flushed = Self.Out.flushed taken.1;
-              source_faults = Self.In.faults taken.0;
-              sink_faults = Self.Out.faults taken.1;
+              source = Self.In.number taken.0;
+              sink = Self.Out.number taken.1;
+              told = record {
+                unread = Self.In.left taken.0;
+                written = Self.Out.held taken.1;
+                flushed = Self.Out.flushed taken.1;
+                source_faults = Self.In.faults taken.0;
+                sink_faults = Self.Out.faults taken.1;
+              };
             }))) }
         ensures kept { OnErr result (connections self.new ≡ connections self.old) }
         ensures sound { OnOk result ((faults self.new ≡ faults self.old) × (wants self.new ≡ wants self.old)) }
@@ -53,11 +58,15 @@ pub trait Door {
     /// Takes a connection back. A door that tells keeps it where fewer were given back than taken, and else drops it.
     fn done(&mut self, input: Self::In, output: Self::Out)
         ensures returned { connections self.new ≡ option_map (given_back (record {
-          unread = Self.In.left input;
-          written = Self.Out.held output;
-          flushed = Self.Out.flushed output;
-          source_faults = Self.In.faults input;
-          sink_faults = Self.Out.faults output;
+          source = Self.In.number input;
+          sink = Self.Out.number output;
+          told = record {
+            unread = Self.In.left input;
+            written = Self.Out.held output;
+            flushed = Self.Out.flushed output;
+            source_faults = Self.In.faults input;
+            sink_faults = Self.Out.faults output;
+          };
         })) (connections self.old) }
         ensures faults { faults self.new ≡ faults self.old }
         ensures wants { wants self.new ≡ wants self.old };

@@ -1,7 +1,7 @@
 //! The outside, as a survey sees it.
 //!
 //! Bytes come from a `Source` and go to a `Sink`; files lie on a `Shelf`; connections come through a `Door`; a `Gate` is
-//! passed before each merge of tiles. Each counts its faults. Those in memory tell what they hold; the real ones don't.
+//! passed before each merge of tiles. Each counts its faults. An `Inbox` keeps what was read and not yet used. Those in memory tell what they hold; the real ones don't.
 #![tactic(auto)]
 
 mod calls;
@@ -13,6 +13,7 @@ mod folder;
 mod folder_shelf;
 mod gate;
 mod here;
+mod inbox;
 mod mem_door;
 mod mem_shelf;
 mod mem_sink;
@@ -31,6 +32,7 @@ pub use failed_call::FailedCall;
 pub use faults::{DoorFault, Failed, LinkFault};
 pub use folder_shelf::FolderShelf;
 pub use gate::{Gate, OpenGate};
+pub use inbox::Inbox;
 pub use mem_door::MemDoor;
 pub use mem_shelf::MemShelf;
 pub use mem_sink::MemSink;

@@ -1,7 +1,7 @@
 //! A door in memory that fails where it is told to.
-ghost use Rattle.std.specs.Prelude.{◌≡◌, ◌≤◌, ◌↔◌, [], Some, Contains, length, slice_get, IfOk, IsErrOf, MatchOption, option_copied};
+ghost use Rattle.std.specs.Prelude.{◌≡◌, ◌≤◌, ◌↔◌, [], Some, Contains, length, slice_get, IfOk, IsErrOf, MatchOption, option_copied, option_map};
 ghost use Rattle.survey_link.specs.Door.{Takes, NoneWaits, given_back};
-ghost use Rattle.survey_link.specs.Memory.{connection_of, connections_of, after_accept, after_none, after_failed_accept, after_wanting, after_done};
+ghost use Rattle.survey_link.specs.Memory.{connection_of, connections_of, numbered, after_accept, after_none, after_failed_accept, after_wanting, after_done};
 
 use crate::calls::Calls;
 use crate::door::Door;
@@ -96,7 +96,7 @@ impl Door for MemDoor {
 
     fn accept(&mut self) -> Result<Option<(MemSource, MemSink)>, DoorFault>
         ensures fails { IsErrOf result DoorFault.Failed ↔ Contains self.old.fails self.old.calls }
-        ensures next { IfOk result (λ next. next ≡ slice_get self.old.all self.old.next) }
+        ensures next { IfOk result (λ next. next ≡ option_map (numbered self.old.next) (slice_get self.old.all self.old.next)) }
         ensures given { IfOk result (λ next. MatchOption next (self.new ≡ after_none self.old) (λ _. self.new ≡ after_accept self.old)) }
         ensures told { IfOk result (λ next. MatchOption next
             (NoneWaits (Some (connections_of self.old)) × (Some (connections_of self.new) ≡ Some (connections_of self.old)))
@@ -114,11 +114,11 @@ impl Door for MemDoor {
                 self.calls.count();
                 Ok(None)
             }
-            Some(ends) => match copy_of(self.alloc, ends) {
-                Ok(copy) => {
+            Some(ends) => match numbered(self.alloc, self.next, ends) {
+                Ok(numbered) => {
                     self.calls.count();
                     self.next += 1;
-                    Ok(Some(copy))
+                    Ok(Some(numbered))
                 }
                 Err(_) => {
                     self.wants = self.wants.saturating_add(1);
@@ -149,11 +149,15 @@ fn ends_at(connections: &[(MemSource, MemSink)], i: usize) -> Option<&(MemSource
     connections.get(i)
 }
 
-/// A connection in the same state.
-fn copy_of(alloc: Global, ends: &(MemSource, MemSink)) -> Result<(MemSource, MemSink), AllocError>
-    ensures { IfOk result (λ copy. copy ≡ ends.now) }
+/// A connection in the same state, with that number.
+fn numbered(
+    alloc: Global,
+    number: usize,
+    ends: &(MemSource, MemSink),
+) -> Result<(MemSource, MemSink), AllocError>
+    ensures { IfOk result (λ copy. copy ≡ numbered number ends.now) }
 {
-    let source = ends.0.copy(alloc)?;
-    let sink = ends.1.copy(alloc)?;
+    let source = ends.0.numbered(alloc, number)?;
+    let sink = ends.1.numbered(alloc, number)?;
     Ok((source, sink))
 }

@@ -1,5 +1,5 @@
 //! A sink in memory that fails where it is told to.
-ghost use Rattle.std.specs.Prelude.{◌≡◌, ◌<◌, ◌≤◌, ◌↔◌, [], Some, Contains, length, take, IfOk, OnOk, OnErr, IsErr};
+ghost use Rattle.std.specs.Prelude.{◌≡◌, ◌<◌, ◌≤◌, ◌↔◌, [], None, Some, Contains, length, take, IfOk, OnOk, OnErr, IsErr};
 ghost use Rattle.survey_link.specs.Link.{parts_bytes};
 ghost use Rattle.survey_link.specs.Memory.{WriteFails, taken_of, after_write, after_flush, after_failed_write};
 
@@ -18,6 +18,8 @@ pub struct MemSink {
     // How many of the bytes were flushed.
     flush_end: usize,
     calls: Calls,
+    // Of its connection, where it came through a door.
+    number: Option<usize>,
 }
 
 impl Model for MemSink {
@@ -27,6 +29,7 @@ impl Model for MemSink {
     ghost Value = { SinkState };
 
     ghost view = { λ a. record {
+      number = a.number;
       written = a.bytes.items;
       flushed = take a.flush_end a.bytes.items;
       room = a.room;
@@ -47,6 +50,7 @@ impl MemSink {
     /// `AllocError` where there is no memory for the room.
     pub fn new(alloc: Global, room: usize, fails: Vec<u64>) -> Result<MemSink, AllocError>
         ensures { IfOk result (λ sink. sink ≡ record {
+          number = None;
           written = [];
           flushed = [];
           room = room;
@@ -61,6 +65,7 @@ impl MemSink {
             room,
             flush_end: 0,
             calls: Calls::new(fails),
+            number: None,
         })
     }
 
@@ -71,9 +76,9 @@ impl MemSink {
         &self.bytes
     }
 
-    /// A sink in the same state, with room of its own.
-    pub(crate) fn copy(&self, alloc: Global) -> Result<MemSink, AllocError>
-        ensures { IfOk result (λ copy. copy ≡ self.now) }
+    /// A sink in the same state, with room of its own, of the connection with that number.
+    pub(crate) fn numbered(&self, alloc: Global, number: usize) -> Result<MemSink, AllocError>
+        ensures { IfOk result (λ copy. copy ≡ record self.now { number = Some number }) }
     {
         let mut bytes = Vec::with_capacity(alloc, self.room)?;
         bytes.extend_from_slice(self.bytes.as_slice())?;
@@ -83,6 +88,7 @@ impl MemSink {
             room: self.room,
             flush_end: self.flush_end,
             calls,
+            number: Some(number),
         })
     }
 }
@@ -93,6 +99,8 @@ impl Sink for MemSink {
     ghost flushed = { λ s. Some s.flushed };
 
     ghost faults = { λ s. s.faults };
+
+    ghost number = { λ s. s.number };
 
     fn write(&mut self, buf: &[u8]) -> Result<usize, Failed>
         requires { 0 < length buf.now }

@@ -1,5 +1,5 @@
 //! A source in memory that fails where it is told to.
-ghost use Rattle.std.specs.Prelude.{◌≡◌, ◌<◌, ◌≤◌, ◌↔◌, Some, Contains, length, take, IfOk, OnErr, IsErr};
+ghost use Rattle.std.specs.Prelude.{◌≡◌, ◌<◌, ◌≤◌, ◌↔◌, None, Some, Contains, length, take, IfOk, OnErr, IsErr};
 ghost use Rattle.std.specs.Io.KnownBytes.{Consumes, IsAtEnd};
 ghost use Rattle.survey_link.specs.Link.{told_count, readings_after};
 ghost use Rattle.survey_link.specs.Memory.{piece_of, after_read, after_failed_read};
@@ -17,6 +17,8 @@ pub struct MemSource {
     at: usize,
     piece: usize,
     calls: Calls,
+    // Of its connection, where it came through a door.
+    number: Option<usize>,
 }
 
 impl Model for MemSource {
@@ -26,6 +28,7 @@ impl Model for MemSource {
     ghost Value = { SourceState };
 
     ghost view = { λ a. record {
+      number = a.number;
       unread = drop a.at a.bytes.items;
       piece = a.piece;
       fails = a.calls.fails.items;
@@ -41,6 +44,7 @@ impl MemSource {
     pub fn new(bytes: Vec<u8>, piece: usize, fails: Vec<u64>) -> MemSource
         requires { 0 < piece }
         ensures { result ≡ record {
+          number = None;
           unread = bytes.items;
           piece = piece;
           fails = fails.items;
@@ -53,12 +57,13 @@ impl MemSource {
             at: 0,
             piece,
             calls: Calls::new(fails),
+            number: None,
         }
     }
 
-    /// A source in the same state.
-    pub(crate) fn copy(&self, alloc: Global) -> Result<MemSource, AllocError>
-        ensures { IfOk result (λ copy. copy ≡ self.now) }
+    /// A source in the same state, of the connection with that number.
+    pub(crate) fn numbered(&self, alloc: Global, number: usize) -> Result<MemSource, AllocError>
+        ensures { IfOk result (λ copy. copy ≡ record self.now { number = Some number }) }
     {
         let bytes = Vec::from_slice(alloc, self.bytes.as_slice())?;
         let calls = self.calls.copy(alloc)?;
@@ -67,6 +72,7 @@ impl MemSource {
             at: self.at,
             piece: self.piece,
             calls,
+            number: Some(number),
         })
     }
 }
@@ -77,6 +83,8 @@ impl Source for MemSource {
     ghost readings = { λ s. told_count s.calls };
 
     ghost faults = { λ s. s.faults };
+
+    ghost number = { λ s. s.number };
 
     fn read(&mut self, buf: &mut [u8]) -> Result<usize, Failed>
         requires { 0 < length buf.old }

@@ -24,6 +24,8 @@ impl Sink for NullSink {
 
     ghost faults = { λ _. 0 };
 
+    ghost number = { λ _. None };
+
     fn write(&mut self, buf: &[u8]) -> Result<usize, Failed>
         requires { 0 < length buf.now }
         ensures whole { result ≡ Ok (length buf.now) }

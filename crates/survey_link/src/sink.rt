@@ -17,6 +17,9 @@ pub trait Sink {
     /// How often it has failed. The count never falls.
     ghost faults: { Self → ℕ };
 
+    /// The number of its connection among those of the door that it came through, where it is told. It stays.
+    ghost number: { Self → Option ℕ };
+
     /// Writes some first bytes of `buf`, at least one, and answers how many. What was flushed stays.
     ///
     /// # Errors
@@ -30,7 +33,8 @@ pub trait Sink {
         ensures kept { OnErr result (held self.new ≡ held self.old) }
         ensures flushed { flushed self.new ≡ flushed self.old }
         ensures failed { OnErr result (Rises (faults self.old) (faults self.new)) }
-        ensures never_falls { faults self.old ≤ faults self.new };
+        ensures never_falls { faults self.old ≤ faults self.new }
+        ensures same { number self.new ≡ number self.old };
 
     /// As `write` of the parts one after another, which aren't all empty.
     ///
@@ -45,7 +49,8 @@ pub trait Sink {
         ensures kept { OnErr result (held self.new ≡ held self.old) }
         ensures flushed { flushed self.new ≡ flushed self.old }
         ensures failed { OnErr result (Rises (faults self.old) (faults self.new)) }
-        ensures never_falls { faults self.old ≤ faults self.new };
+        ensures never_falls { faults self.old ≤ faults self.new }
+        ensures same { number self.new ≡ number self.old };
 
     /// Flushes all that is held.
     ///
@@ -57,7 +62,8 @@ pub trait Sink {
         ensures flushed { OnOk result (flushed self.new ≡ held self.new) }
         ensures stays { OnErr result (flushed self.new ≡ flushed self.old) }
         ensures failed { OnErr result (Rises (faults self.old) (faults self.new)) }
-        ensures never_falls { faults self.old ≤ faults self.new };
+        ensures never_falls { faults self.old ≤ faults self.new }
+        ensures same { number self.new ≡ number self.old };
 }
 
 /// Writes all the bytes.

@@ -16,6 +16,9 @@ pub trait Source {
     /// How often it has failed. The count never falls.
     ghost faults: { Self → ℕ };
 
+    /// The number of its connection among those of the door that it came through, where it is told. It stays.
+    ghost number: { Self → Option ℕ };
+
     /// Reads the next bytes to the front of `buf`, and answers how many: 0 exactly where nothing is left.
     ///
     /// # Errors
@@ -29,5 +32,6 @@ pub trait Source {
         ensures kept { OnErr result (left self.new ≡ left self.old) }
         ensures counted { readings self.new ≡ readings_after 1 (readings self.old) }
         ensures failed { OnErr result (Rises (faults self.old) (faults self.new)) }
-        ensures never_falls { faults self.old ≤ faults self.new };
+        ensures never_falls { faults self.old ≤ faults self.new }
+        ensures same { number self.new ≡ number self.old };
 }

@@ -73,6 +73,8 @@ impl<R: Read> Source for StreamSource<R> {
 
     ghost faults = { λ s. s.faults };
 
+    ghost number = { λ _. None };
+
     fn read(&mut self, buf: &mut [u8]) -> Result<usize, Failed>
         requires { 0 < length buf.old }
         ensures count { IfOk result (λ m. m ≤ length buf.old) }
@@ -159,6 +161,8 @@ impl<W: Write> Sink for StreamSink<W> {
     ghost flushed = { λ _. None };
 
     ghost faults = { λ s. s.faults };
+
+    ghost number = { λ _. None };
 
     fn write(&mut self, buf: &[u8]) -> Result<usize, Failed>
         requires { 0 < length buf.now }

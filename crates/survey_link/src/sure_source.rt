@@ -1,5 +1,5 @@
 //! A source in memory that never fails.
-ghost use Rattle.std.specs.Prelude.{◌≡◌, ◌<◌, ◌≤◌, Some, length, take, min, IfOk, IsOk};
+ghost use Rattle.std.specs.Prelude.{◌≡◌, ◌<◌, ◌≤◌, None, Some, length, take, min, IfOk, IsOk};
 ghost use Rattle.std.specs.Io.KnownBytes.{Consumes};
 ghost use Rattle.survey_link.specs.Link.{told_count, readings_after};
 ghost use Rattle.survey_link.specs.Memory.{after_sure_read};
@@ -46,6 +46,8 @@ impl Source for SureSource {
     ghost readings = { λ s. told_count s.calls };
 
     ghost faults = { λ _. 0 };
+
+    ghost number = { λ _. None };
 
     fn read(&mut self, buf: &mut [u8]) -> Result<usize, Failed>
         requires { 0 < length buf.old }

@@ -12,6 +12,7 @@ mod dialing;
 mod listening;
 mod patience;
 mod refusal;
+mod shortage;
 mod tcp_door;
 mod tcp_in;
 mod tcp_out;

@@ -1,9 +1,16 @@
 //! What the doors of one address share.
+ghost use Rattle.std.specs.Prelude.{◌≡◌, false, IfErr};
+ghost use Rattle.std.specs.IoError.{error_kind};
+ghost use Rattle.tcp_link.specs.Tcp.{passes};
+
+use crate::again::again;
+use crate::shortage::Shortage;
 use log::{Log, error, info};
 use std::io;
 use std::io::ErrorKind;
-use std::net::{Net, TcpListener, TcpStream};
+use std::net::{Net, SocketAddr, TcpListener, TcpStream};
 use std::sync::{Mutex, OnceLock, Wait};
+use std::time::Clock;
 
 /// An address, and its listener once it is bound.
 #[derive(Drop)]
@@ -12,6 +19,7 @@ pub(crate) struct Listening {
     // Whether a refusal to bind it was said.
     binding: Mutex<bool>,
     listener: OnceLock<TcpListener>,
+    shortage: Shortage,
 }
 
 impl Listening {
@@ -20,7 +28,35 @@ impl Listening {
             address,
             binding: Mutex::new(false),
             listener: OnceLock::new(),
+            shortage: Shortage::new(),
         }
+    }
+
+    /// The next connection and its client, by the listener. Where the system is short of descriptors or of buffers it is tried
+    /// again for minutes.
+    ///
+    /// # Errors
+    ///
+    /// What it is refused for.
+    pub(crate) fn accept<R: Wait + Clock + Log>(
+        &self,
+        rt: &R,
+        listener: &TcpListener,
+    ) -> io::Result<(TcpStream, SocketAddr)>
+        ensures lasts { IfErr result (λ error. passes (error_kind error) ≡ false) }
+    {
+        let mut begun = None;
+        for _ in 0..u64::MAX {
+            match again(|| listener.accept()) {
+                Ok(accepted) => return Ok(accepted),
+                Err(error) => {
+                    if !self.shortage.may_pass(rt, &mut begun, error) {
+                        return Err(error);
+                    }
+                }
+            }
+        }
+        Err(ErrorKind::Other.into())
     }
 
     /// The listener, which the first call binds. Where that is refused the next call tries again. The log gets where it

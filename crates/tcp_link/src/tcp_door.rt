@@ -3,7 +3,6 @@ ghost use Rattle.std.specs.Prelude.{◌≡◌, ◌≤◌, None, Some, replicate,
 ghost use Rattle.survey_link.specs.Link.{next_count};
 ghost use Rattle.tcp_link.specs.Tcp.{Lasts, FailsAccept, WantsMemory, StopsListening, tells_want};
 
-use crate::again::again;
 use crate::connection::Connection;
 use crate::listening::Listening;
 use crate::patience::Patience;
@@ -23,7 +22,8 @@ use survey_link::{Door, DoorFault};
 ///
 /// The doors of one address share a listener, which the first call that needs it binds. What it answers as `Failed` counts as
 /// a fault: that the system refuses to listen, to accept, or to split a stream into its halves. An accept that the system
-/// interrupts, or whose client has gone, is made again and counts as none. Nor does one for which there is no memory, which has
+/// interrupts, or whose client has gone, is made again and counts as none; one for which the system has no descriptor or no
+/// buffer is made again for five minutes, after a pause each time, before it counts. Nor does one for which there is no memory, which has
 /// a count of its own; its client is let go. A connection that is given back is closed.
 ///
 /// The log gets each connection's client, with the place of the door among those of its address and the connection's number
@@ -129,7 +129,13 @@ impl<R> TcpDoor<R> {
 
 impl<R> TcpDoor<R>
 where
-    R: Net<Listener = TcpListener, Stream = TcpStream> + Wait + Log + AllocGlobal + Clone + Drop,
+    R: Net<Listener = TcpListener, Stream = TcpStream>
+        + Wait
+        + Clock
+        + Log
+        + AllocGlobal
+        + Clone
+        + Drop,
 {
     /// Listens, where no door of the address does yet, and answers where: at the port that the system chose, if it was asked
     /// for port 0.
@@ -171,7 +177,10 @@ where
         ensures cause { IfErr result Lasts }
     {
         let listener = self.listener()?;
-        let (stream, client) = again(|| listener.accept()).map_err(Refusal::Accept)?;
+        let (stream, client) = self
+            .listening
+            .accept(&self.runtime, listener)
+            .map_err(Refusal::Accept)?;
         self.say_client(client);
         self.halves(stream).map_err(Refusal::Split)
     }

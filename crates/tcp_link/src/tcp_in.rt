@@ -116,6 +116,8 @@ where
 
     ghost faults = { λ faults. faults };
 
+    ghost number = { λ _. None };
+
     fn read(&mut self, buf: &mut [u8]) -> Result<usize, Failed>
         requires { 0 < length buf.old }
         ensures count { IfOk result (λ m. m ≤ length buf.old) }

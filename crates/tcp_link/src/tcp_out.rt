@@ -127,6 +127,8 @@ where
 
     ghost faults = { λ faults. faults };
 
+    ghost number = { λ _. None };
+
     fn write(&mut self, buf: &[u8]) -> Result<usize, Failed>
         requires { 0 < length buf.now }
         ensures some { IfOk result (λ m. 0 < m) }

@@ -1,15 +1,16 @@
 use Rattle.std.proofs.Common.{◌≡◌, ◌-◌, ◌≤◌, length}
 use Rattle.catalog_command.specs.Lines.{most_bytes}
-use Rattle.catalog_command.specs.Unread.{held, size, KeepsUnread}
+use Rattle.survey_link.specs.Inbox.{held, size}
+use Rattle.catalog_command.specs.Unread.{KeepsUnread}
 use Rattle.catalog_command.proofs.lines.find.Given as goal
 
 abbrev pub invariant-reading : goal.invariant-reading
 invariant-reading g l = record {
-  unread : KeepsUnread (held l.initial.buffer) (held l.buffer) (g.S.Source.left l.initial.source) (g.S.Source.left l.source);
+  unread : KeepsUnread (held l.initial.inbox) (held l.inbox) (g.S.Source.left l.initial.source) (g.S.Source.left l.source);
   faults : g.S.Source.faults l.initial.source ≤ g.S.Source.faults l.source;
-  size : size l.buffer ≡ size l.initial.buffer;
+  size : size l.inbox ≡ size l.initial.inbox;
 }
 
 -- how many bytes a line may still have
 abbrev pub decreases-reading : goal.decreases-reading
-decreases-reading g l = most_bytes - length (held l.buffer)
+decreases-reading g l = most_bytes - length (held l.inbox)

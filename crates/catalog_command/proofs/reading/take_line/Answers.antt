@@ -2,7 +2,8 @@ use Rattle.std.proofs.Common.{◌≡◌, ◌+◌, ◌++◌, take, drop, Ok, sym,
 use Rattle.std.proofs.lemmas.Result.{err_from_is_err_and, IfErr-at_err, IfOk-at_ok}
 use Rattle.hips_catalog.specs.Catalogue.{Catalogue}
 use Rattle.catalog_command.specs.Lines.{after_line, after_input, then_lines}
-use Rattle.catalog_command.specs.Unread.{held, unread}
+use Rattle.survey_link.specs.Inbox.{held}
+use Rattle.catalog_command.specs.Unread.{unread}
 use Rattle.catalog_command.specs.Stops.{TellsLine}
 use Rattle.catalog_command.proofs.Judged.{stops, is_next, used_stop, used_ok}
 use Rattle.catalog_command.proofs.reading.take_line.Goals as goal
@@ -10,14 +11,14 @@ use Rattle.catalog_command.proofs.reading.take_line.Goals as goal
 pub returns-in_err-judged-clause-stopped : goal.returns-in_err-judged-clause-stopped
 returns-in_err-judged-clause-stopped g c = λ rest here.
     let p = err_from_is_err_and c.from_residual-in_err-judged.result c.from_residual-in_err-judged.ensures.1 in
-    let tells = stops c.args.catalog.now c.args.number c.in_ok-found.found (held c.find.new.buffer) (g.S.Source.left c.find.new.source) rest c.in_err-judged.field-0.0
+    let tells = stops c.args.catalog.now c.args.number c.in_ok-found.found (held c.find.new.inbox) (g.S.Source.left c.find.new.source) rest c.in_err-judged.field-0.0
     (sym c.in_err-judged.ensures.judged) c.in_ok-found.ensures.found (c.in_ok-found.ensures.unread rest here) in
     rw (p.1, p.2) tells
 
 pub returns-in_err-used-in-Some-clause-stopped : goal.returns-in_err-used-in-Some-clause-stopped
 returns-in_err-used-in-Some-clause-stopped g c = λ rest here.
     let p = err_from_is_err_and c.from_residual-in_err-used-in-Some.result c.from_residual-in_err-used-in-Some.ensures.1 in
-    let bytes = held c.find.new.buffer in
+    let bytes = held c.find.new.inbox in
     let count = c.in-Some.count in
     let next = is_next c.args.catalog.now c.args.number c.in_ok-found.found bytes (g.S.Source.left c.find.new.source) rest count
     (sym c.in_ok-judged.ensures.judged ∙ ap Ok c.in-Some.is) c.in_ok-found.ensures.found (c.in_ok-found.ensures.unread rest here) in
@@ -30,7 +31,7 @@ returns-in_err-used-in-Some-clause-stopped g c = λ rest here.
 
 pub returns-in_ok-used-in-Some-clause-taken : goal.returns-in_ok-used-in-Some-clause-taken
 returns-in_ok-used-in-Some-clause-taken g c = λ rest here.
-    let bytes = held c.find.new.buffer in
+    let bytes = held c.find.new.inbox in
     let count = c.in-Some.count in
     let next = is_next c.args.catalog.now c.args.number c.in_ok-found.found bytes (g.S.Source.left c.find.new.source) rest count
     (sym c.in_ok-judged.ensures.judged ∙ ap Ok c.in-Some.is) c.in_ok-found.ensures.found (c.in_ok-found.ensures.unread rest here) in

@@ -1,5 +1,9 @@
 use Rattle.std.proofs.Common.{◌≡◌, sym, ◌∙◌, refl, arith}
 use Rattle.hips_http.specs.declared.served.SessionEnd.TheVariants.{WriteFault}
+use Rattle.std.specs.Prelude.{option_copied}
+use Rattle.survey_core.specs.State.{survey_state}
+use Rattle.hips_http.specs.Replies.{file_answer}
+use Rattle.hips_http.proofs.FileLemmas.{file_found, shown_serves}
 use Rattle.hips_http.proofs.Points.{wants_found}
 use Rattle.hips_http.proofs.Steps.{body_reads}
 use Rattle.hips_http.proofs.step.serve_file.Goals as goal
@@ -22,31 +26,41 @@ returns-in-Err-clause-serves g c =
       never_falls = record { source = e.never_falls; sink = omega arith; steps = omega arith; wants = omega arith; room = e.room };
     }
 
-pub returns-in-Ok-give_file-clause-serves : goal.returns-in-Ok-give_file-clause-serves
-returns-in-Ok-give_file-clause-serves g c =
+pub returns-in-Ok-send_path-clause-serves : goal.returns-in-Ok-send_path-clause-serves
+returns-in-Ok-send_path-clause-serves g c =
     let connection = c.args.connection.now in
     let t = c.in-Ok.ensures.read in
-    let e = c.in-Ok-give_file.ensures in
-    let path = sym (c.path.ensures ∙ c.in-Ok.ensures.path) in
-    let f = e.gives (record { asked = c.args.request.now; path = connection.frame.now.path; body = t.0 }) connection.steps.now path refl in
+    let e = c.in-Ok-send_path.ensures in
+    let path = sym (c.path-path.ensures ∙ c.in-Ok.ensures.path) in
+    let state = c.shown-state.result.now in
+    let told = option_copied c.path-path.result in
+    let answer = file_answer state.conf state.opening (survey_state state) told in
+    let serves = shown_serves (record { asked = c.args.due.now.request; path = connection.frame.now.path; body = t.0 }) c.args.file.now told path connection.steps.now
+    (g.B.Board.content connection.board.now) (g.B.Board.content c.look.new.board) state c.last-legal.ensures.legal c.last-legal.ensures.owned c.look.ensures c.shown-state.ensures in
+    let wants = sym (wants_found connection.wants answer (file_found state.conf state.opening (survey_state state) told)) in
     record {
-      ok = (f.answer, record { body = t.0; takes = t.1; serves = f.serves; wants_is = sym (wants_found connection.wants f.answer f.finds) }, f.sends.whole);
+      ok = (answer, record { body = t.0; takes = t.1; serves = serves; wants_is = wants }, e.sends.whole);
       broken = λ is. absurd (cc);
       halted = tt;
       hands = record { flushed = e.hands.flushed; stays = tt; unwritten = tt; write_fault = λ is. absurd (cc); memory = tt };
       never_falls = record { source = c.in-Ok.ensures.never_falls; sink = e.hands.never_falls; steps = omega arith; wants = omega arith; room = c.in-Ok.ensures.room };
     }
 
-pub returns-in-Err-give_file-clause-serves : goal.returns-in-Err-give_file-clause-serves
-returns-in-Err-give_file-clause-serves g c =
+pub returns-in-Err-send_path-clause-serves : goal.returns-in-Err-send_path-clause-serves
+returns-in-Err-send_path-clause-serves g c =
     let connection = c.args.connection.now in
     let t = c.in-Ok.ensures.read in
-    let e = c.in-Err-give_file.ensures in
-    let path = sym (c.path.ensures ∙ c.in-Ok.ensures.path) in
-    let f = e.gives (record { asked = c.args.request.now; path = connection.frame.now.path; body = t.0 }) connection.steps.now path refl in
+    let e = c.in-Err-send_path.ensures in
+    let path = sym (c.path-path.ensures ∙ c.in-Ok.ensures.path) in
+    let state = c.shown-state.result.now in
+    let told = option_copied c.path-path.result in
+    let answer = file_answer state.conf state.opening (survey_state state) told in
+    let serves = shown_serves (record { asked = c.args.due.now.request; path = connection.frame.now.path; body = t.0 }) c.args.file.now told path connection.steps.now
+    (g.B.Board.content connection.board.now) (g.B.Board.content c.look.new.board) state c.last-legal.ensures.legal c.last-legal.ensures.owned c.look.ensures c.shown-state.ensures in
+    let wants = sym (wants_found connection.wants answer (file_found state.conf state.opening (survey_state state) told)) in
     record {
       ok = tt;
-      broken = λ _. (f.answer, record { body = t.0; takes = t.1; serves = f.serves; wants_is = sym (wants_found connection.wants f.answer f.finds) }, f.sends.part);
+      broken = λ _. (answer, record { body = t.0; takes = t.1; serves = serves; wants_is = wants }, e.sends.part);
       halted = λ other. absurd (other refl);
       hands = record { flushed = tt; stays = e.hands.stays; unwritten = λ other. absurd (other refl); write_fault = λ _. e.hands.failed; memory = λ is. cc };
       never_falls = record { source = c.in-Ok.ensures.never_falls; sink = e.hands.never_falls; steps = omega arith; wants = omega arith; room = c.in-Ok.ensures.room };

@@ -1,30 +1,33 @@
-use Rattle.mirror_frame.specs.Reading.{unread}
-use Rattle.hips_mirror.proofs.CopyLemmas.{no_start, start_copied, start_refused, start_steps, start_sent, start_fits, start_few}
+use Rattle.std.proofs.Common.{rules, [], ◌≡◌, ap, ◌∙◌, Err}
+use Rattle.std.proofs.lemmas.Result.{err_from_is_err_and}
+use Rattle.survey_link.specs.Inbox.{held}
+use Rattle.hips_mirror.proofs.OrderLemmas.{nothing_sent, order_of, sent_of, flushed_of, steps_from}
 use Rattle.hips_mirror.proofs.copying.copy.Goals as goal
 
-pub returns-in-Ok-clause-copied : goal.returns-in-Ok-clause-copied
-returns-in-Ok-clause-copied g c =
-    start_copied c.in-Ok.survey.pinned c.in-Ok.survey.conf c.in-Ok.survey.counted c.new-inbox.result.held.items (g.S.Source.left c.args.src.now) (unread c.read_description.new.inbox.held.items (g.S.Source.left c.read_description.new.src))
-    c.new-inbox.ensures c.in-Ok.ensures.read c.copy_survey.result c.copy_survey.ensures.conf c.copy_survey.ensures.copied
+pub returns-in_err-received-clause-order : goal.returns-in_err-received-clause-order
+returns-in_err-received-clause-order g c =
+    let none = err_from_is_err_and c.from_residual.result c.from_residual.ensures.1 in
+    ([], nothing_sent g.S.Source g.K.Sink _ c.from_residual.result (none.1 ∙ ap Err none.2))
 
-pub returns-in-Ok-clause-fits : goal.returns-in-Ok-clause-fits
-returns-in-Ok-clause-fits g c = start_fits c.in-Ok.survey.conf c.copy_survey.result c.copy_survey.ensures.conf c.copy_survey.ensures.fits
+pub returns-clause-order : goal.returns-clause-order
+returns-clause-order g c =
+    let begins = ap (λ h. record { src = c.args.src.now; sink = c.args.sink.now; held = h }) c.in_ok-received.ensures in
+    let src : c.src-1.given.0 ≡ c.copy_from.new.peer.src.now = search rules in
+    let sink : c.sink-1.given.0 ≡ c.copy_from.new.peer.sink.now = search rules in
+    rw (src, sink)
+    (held c.copy_from.new.peer.received.now.inbox, order_of g.S.Source g.K.Sink _ _ _ begins c.copy_from.result c.copy_from.ensures.copied c.copy_from.ensures.refused)
 
-pub returns-in-Ok-clause-sent : goal.returns-in-Ok-clause-sent
-returns-in-Ok-clause-sent g c = start_sent c.in-Ok.survey.conf _ _ _ c.copy_survey.result c.copy_survey.ensures.conf c.in-Ok.ensures.sent c.copy_survey.ensures.sent
+pub returns-clause-sent : goal.returns-clause-sent
+returns-clause-sent g c =
+    let begins = ap (λ h. record { src = c.args.src.now; sink = c.args.sink.now; held = h }) c.in_ok-received.ensures in
+    let sink : c.sink-1.given.0 ≡ c.copy_from.new.peer.sink.now = search rules in
+    rw sink (sent_of g.S.Source g.K.Sink _ _ _ begins c.copy_from.result c.copy_from.ensures.copied)
 
-pub returns-in-Ok-clause-few : goal.returns-in-Ok-clause-few
-returns-in-Ok-clause-few g c = start_few c.in-Ok.survey.conf c.copy_survey.result _ _ c.copy_survey.ensures.conf c.copy_survey.ensures.few
+pub returns-clause-flushed : goal.returns-clause-flushed
+returns-clause-flushed g c =
+    let begins = ap (λ h. record { src = c.args.src.now; sink = c.args.sink.now; held = h }) c.in_ok-received.ensures in
+    let sink : c.sink-1.given.0 ≡ c.copy_from.new.peer.sink.now = search rules in
+    rw sink (flushed_of g.S.Source g.K.Sink _ _ _ begins c.copy_from.result c.copy_from.ensures.copied)
 
-pub returns-in-Ok-clause-refused : goal.returns-in-Ok-clause-refused
-returns-in-Ok-clause-refused g c =
-    start_refused c.in-Ok.survey.pinned c.in-Ok.survey.conf c.in-Ok.survey.counted c.new-inbox.result.held.items (g.S.Source.left c.args.src.now) (unread c.read_description.new.inbox.held.items (g.S.Source.left c.read_description.new.src))
-    c.new-inbox.ensures c.in-Ok.ensures.read c.copy_survey.result c.copy_survey.ensures.refused
-
-pub returns-in-Ok-clause-steps : goal.returns-in-Ok-clause-steps
-returns-in-Ok-clause-steps g c =
-    start_steps c.in-Ok.survey.pinned c.in-Ok.survey.conf c.in-Ok.survey.counted c.new-inbox.result.held.items (g.S.Source.left c.args.src.now) (unread c.read_description.new.inbox.held.items (g.S.Source.left c.read_description.new.src))
-    c.new-inbox.ensures c.in-Ok.ensures.read c.copy_survey.result _ _ c.copy_survey.ensures.steps
-
-pub returns-clause-refused : goal.returns-clause-refused
-returns-clause-refused g c = no_start c.new-inbox.result.held.items (g.S.Source.left c.args.src.now) c.in-Err.refusal c.new-inbox.ensures c.in-Err.ensures.refused
+pub returns-clause-steps : goal.returns-clause-steps
+returns-clause-steps g c = steps_from c.copy_from.result _ (g.S.Source.left c.args.src.now) _ _ c.in_ok-received.ensures c.copy_from.ensures.steps

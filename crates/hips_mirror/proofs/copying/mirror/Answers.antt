@@ -1,4 +1,5 @@
 use Rattle.hips_mirror.proofs.MirrorLemmas.{mirror_copied, mirror_steps, mirror_last, shelf_refused, shelf_touched}
+use Rattle.hips_mirror.proofs.OrderLemmas.{whole_anyhow}
 use Rattle.hips_mirror.proofs.copying.mirror.Goals as goal
 
 pub returns-in-Ok-clause-copied : goal.returns-in-Ok-clause-copied
@@ -21,3 +22,6 @@ pub returns-in-Ok-clause-steps : goal.returns-in-Ok-clause-steps
 returns-in-Ok-clause-steps g c =
     mirror_steps c.in-Ok.generation (g.S.Source.left c.args.src.now) (g.K.Sink.held c.args.sink.now) (g.K.Sink.held c.copy.new.sink) c.in-Ok.ensures.copied c.in-Ok.ensures.fits c.in-Ok.ensures.sent
     c.put_files.result _ _ c.in-Ok.ensures.few
+
+pub returns-in-Ok-clause-order : goal.returns-in-Ok-clause-order
+returns-in-Ok-clause-order g c = (c.in-Ok.ensures.order.0, whole_anyhow g.S.Source g.K.Sink _ _ c.put_files.result c.in-Ok.ensures.order.1)

@@ -1,6 +1,6 @@
 use Rattle.std.proofs.Common.{arith}
 use Rattle.reader_pin.specs.Board.{Stays}
-use Rattle.hips_place.proofs.DoorsLemmas.{meets_first, meets_next, meets_all}
+use Rattle.hips_place.proofs.DoorsLemmas.{meets_first, meets_next}
 use Rattle.hips_place.proofs.doors.meet_others.Goals as goal
 
 pub loop-other-init : goal.loop-other-init

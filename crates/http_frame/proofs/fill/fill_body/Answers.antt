@@ -1,6 +1,6 @@
 use Rattle.std.proofs.Common.{arith, [], length, inr, sym, ap, ◌∙◌, length-append}
 use Rattle.std.proofs.lemmas.List.{append-nil}
-use Rattle.http_frame.specs.Held.{held}
+use Rattle.survey_link.specs.Inbox.{held}
 use Rattle.http_frame.specs.Frame.{IsShort}
 use Rattle.http_frame.proofs.Fills.{consumes_none, takes_both}
 use Rattle.http_frame.proofs.ReadingSteps.{filling_more, filling_last, filling_done}

@@ -1,5 +1,5 @@
 use Rattle.std.proofs.Common.{◌≡◌, ◌-◌, ◌≤◌, ◌⊎◌, length}
-use Rattle.http_frame.specs.Held.{held, size}
+use Rattle.survey_link.specs.Inbox.{held, size}
 use Rattle.http_frame.specs.Fill.{Takes}
 use Rattle.http_frame.specs.Frame.{IsShort}
 use Rattle.http_frame.proofs.ReadingSteps.{Filling}

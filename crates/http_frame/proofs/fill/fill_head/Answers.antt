@@ -1,5 +1,5 @@
 use Rattle.std.proofs.Common.{rules, refl, sym, ◌∙◌, inr}
-use Rattle.http_frame.specs.Held.{held}
+use Rattle.survey_link.specs.Inbox.{held}
 use Rattle.http_frame.specs.Next.{NeedsMore}
 use Rattle.http_frame.proofs.Fills.{takes_both, needs_before, searched_before}
 use Rattle.http_frame.proofs.ReadingSteps.{gave_some, filling_more, filling_last, filling_done}

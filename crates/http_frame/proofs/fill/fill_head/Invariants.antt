@@ -1,6 +1,6 @@
 use Rattle.std.proofs.Common.{◌≡◌, ◌-◌, ◌≤◌, ◌⊎◌, length}
 use Rattle.memchr.specs.Find.{OccursAt, Nowhere}
-use Rattle.http_frame.specs.Held.{held, size}
+use Rattle.survey_link.specs.Inbox.{held, size}
 use Rattle.http_frame.specs.Next.{NeedsMore, head_end, most_head}
 use Rattle.http_frame.specs.Fill.{Takes}
 use Rattle.http_frame.proofs.ReadingSteps.{Filling}

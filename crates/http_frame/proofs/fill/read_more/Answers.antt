@@ -1,7 +1,7 @@
 use Rattle.std.proofs.Common.{arith, ◌≡◌, ◌++◌, ◌<◌, [], length, ap, ◌∙◌, refl}
 use Rattle.std.proofs.lemmas.Grind.{common_steps}
 use Rattle.std.proofs.lemmas.List.{append-nil, nil_from_length}
-use Rattle.http_frame.specs.Held.{held}
+use Rattle.survey_link.specs.Inbox.{held}
 use Rattle.http_frame.proofs.fill.read_more.Goals as goal
 
 pub returns-else-is_empty-clause-stop : goal.returns-else-is_empty-clause-stop

@@ -1,16 +1,22 @@
-use Rattle.http_frame.proofs.Nexts.{keeps_unread}
-use Rattle.mirror_frame.specs.Reading.{StopsReply}
-use Rattle.mirror_frame.proofs.Replies.{lift_ok, lift_err, stops_begun}
+use Rattle.std.proofs.Common.{◌≡◌, ◌++◌, ◌∙◌, inl, refl, sym, ap, subst, append_assoc, Err}
+use Rattle.http_frame.proofs.ReadLemmas.{reads_for, reads_gave, reads_then}
+use Rattle.http_frame.specs.Next.{NeedsMore}
+use Rattle.survey_link.specs.Inbox.{held}
+use Rattle.mirror_frame.specs.Reply.{IsCutReply}
+use Rattle.mirror_frame.specs.Reading.{ReadsReply}
+use Rattle.mirror_frame.proofs.Replies.{stops_begun, head_is_enough, read_both}
 use Rattle.mirror_frame.proofs.reading.read_reply.Goals as goal
 
 pub returns-in-Ok-clause-read : goal.returns-in-Ok-clause-read
 returns-in-Ok-clause-read g c =
-    lift_ok _ _ _ c.finish_reply.result (keeps_unread c.args.inbox.now.held.items c.begin_reply.new.held.items _ _ c.in-Ok.ensures.taken) c.finish_reply.ensures.read
+    read_both _ _ c.args.due (held c.args.inbox.now) (held c.begin_reply.new.inbox) _ _ _ c.in-Ok.begun.end c.in-Ok.ensures.begun.ends c.begin_reply.ensures.read
+    (λ bytes. ReadsReply c.args.due bytes c.finish_reply.new.body.items (held c.finish_reply.new.inbox) (g.S.Source.left c.finish_reply.new.src) c.finish_reply.result) c.finish_reply.ensures.read
 
-pub returns-in-Ok-clause-stop : goal.returns-in-Ok-clause-stop
-returns-in-Ok-clause-stop g c =
-    lift_err (λ stop bytes. StopsReply c.args.due bytes stop) _ _ c.finish_reply.result (keeps_unread c.args.inbox.now.held.items c.begin_reply.new.held.items _ _ c.in-Ok.ensures.taken) c.finish_reply.ensures.stop
-
-pub returns-in-Err-clause-stop : goal.returns-in-Err-clause-stop
-returns-in-Err-clause-stop g c =
-    stops_begun c.args.due c.args.inbox.now.held.items c.begin_reply.new.held.items _ _ c.in-Err.stop c.in-Err.ensures.taken c.in-Err.ensures.stop
+pub returns-in-Err-clause-read : goal.returns-in-Err-clause-read
+returns-in-Err-clause-read g c =
+    let read = c.begin_reply.ensures.read in (
+      read.0,
+      reads_for _ _ NeedsMore (IsCutReply c.args.due) _ _ read.0 (λ more needs. inl (needs.short, needs.none)) _ _ read.1,
+      subst (λ bytes. ReadsReply c.args.due bytes c.args.body.now.items (held c.begin_reply.new.inbox) (g.S.Source.left c.begin_reply.new.src) (Err c.in-Err.stop)) read.2
+          (stops_begun c.args.due _ c.args.body.now.items (held c.begin_reply.new.inbox) _ c.in-Err.stop c.in-Err.ensures.stop),
+    )

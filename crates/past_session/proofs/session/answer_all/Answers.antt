@@ -1,53 +1,35 @@
-use Rattle.std.proofs.Common.{◌∙◌, sym, ap, refl, arith}
-use Rattle.past_session.specs.Records.{room_of}
-use Rattle.past_session.specs.Run.{SinkBytes}
-use Rattle.past_session.proofs.Going.{loop_begins, loop_goes_on}
-use Rattle.past_session.proofs.Ends.{ends_at, ends_behind}
-use Rattle.past_session.proofs.Read.{over_read, over_all}
+use Rattle.std.proofs.Common.{inl, inr, arith, sym, subst, ◌∙◌}
+use Rattle.past_session.specs.Order.{moment, EndsAt}
+use Rattle.past_session.proofs.Going.{loop_goes_on}
 use Rattle.past_session.proofs.session.answer_all.Goals as goal
-
-pub loop-at-init : goal.loop-at-init
-loop-at-init g c =
-    loop_begins c.args.session.now (g.S.Source.left c.args.src.now) c.new-inbox.result.held.items (record { held = g.K.Sink.held c.args.sink.now; flushed = g.K.Sink.flushed c.args.sink.now })
-    c.args.steps.now (g.S.Source.faults c.args.src.now) (g.K.Sink.faults c.args.sink.now) c.new-inbox.ensures c.requires.first
-
-pub answer_next-requires-clause-room : goal.answer_next-requires-clause-room
-answer_next-requires-clause-room g c κs within = c.requires.room ∙ ap room_of (sym c.loop-at.invariant.conf)
 
 pub loop-at-preserved : goal.loop-at-preserved
 loop-at-preserved g c =
     let e = c.in-Ok.ensures in
-    loop_goes_on c.records_stand.ensures c.args.session.now.conf c.args.session.now.opening (g.S.Source.left c.args.src.now) (g.S.Source.left c.loop-at.src) (g.S.Source.left c.answer_next.new.src)
-    c.loop-at.inbox.held.items c.answer_next.new.inbox.held.items c.loop-at.at c.loop-at.session c.answer_next.new.session
-    (record { held = g.K.Sink.held c.args.sink.now; flushed = g.K.Sink.flushed c.args.sink.now }) (record { held = g.K.Sink.held c.loop-at.sink; flushed = g.K.Sink.flushed c.loop-at.sink })
-    (record { held = g.K.Sink.held c.answer_next.new.sink; flushed = g.K.Sink.flushed c.answer_next.new.sink }) c.args.steps.now c.loop-at.steps c.answer_next.new.steps
-    (g.S.Source.faults c.args.src.now) (g.S.Source.faults c.loop-at.src) (g.S.Source.faults c.answer_next.new.src) (g.K.Sink.faults c.args.sink.now) (g.K.Sink.faults c.loop-at.sink) (g.K.Sink.faults c.answer_next.new.sink)
-    c.loop-at.invariant e.answers e.held e.source_never_falls e.sink_never_falls e.steps_never_fall
+    record {
+      loop = loop_goes_on g.S.Source g.K.Sink _ _ _ c.loop-at.at c.loop-at.invariant.loop e.answers e.never_falls;
+      same_ends = record { src = e.same_ends.src ∙ c.loop-at.invariant.same_ends.src; sink = e.same_ends.sink ∙ c.loop-at.invariant.same_ends.sink };
+      same_steps = e.same_steps ∙ c.loop-at.invariant.same_steps;
+    }
 
-pub returns-in-Err-clause-run : goal.returns-in-Err-clause-run
-returns-in-Err-clause-run g c = λ input is.
-    ends_at c.records_stand.ensures c.args.session.now.conf c.args.session.now.opening (g.S.Source.left c.args.src.now) (g.S.Source.left c.loop-at.src) (g.S.Source.left c.answer_next.new.src)
-    c.loop-at.inbox.held.items c.loop-at.at c.loop-at.session (record { held = g.K.Sink.held c.args.sink.now; flushed = g.K.Sink.flushed c.args.sink.now })
-    (record { held = g.K.Sink.held c.loop-at.sink; flushed = g.K.Sink.flushed c.loop-at.sink }) (record { held = g.K.Sink.held c.answer_next.new.sink; flushed = g.K.Sink.flushed c.answer_next.new.sink })
-    c.args.steps.now c.loop-at.steps c.answer_next.new.steps c.loop-at.invariant.going input is c.loop-at-test.true c.in-Err.end c.in-Err.ensures.ends
+pub returns-in-Err-clause-order : goal.returns-in-Err-clause-order
+returns-in-Err-clause-order g c =
+    let loop = c.loop-at.invariant.loop in
+    let behind = moment c.loop-at.session c.loop-at.ends c.loop-at.input c.loop-at.work.steps.now in
+    let last = moment c.answer_next.new.session c.answer_next.new.ends c.answer_next.new.input c.answer_next.new.work.steps.now in
+    record {
+      records = loop.records;
+      behind = behind;
+      converses = loop.converses;
+      ends = inl (omega (arith, loop.count_is, c.loop-at-test.true), subst (λ n. EndsAt g.S.Source g.K.Sink n behind last c.in-Err.end) (sym loop.count_is) c.in-Err.ensures.ends);
+    }
 
-pub returns-clause-run : goal.returns-clause-run
-returns-clause-run g c = λ input is.
-    ends_behind c.records_stand.ensures c.args.session.now.conf c.args.session.now.opening (g.S.Source.left c.args.src.now) (g.S.Source.left c.loop-at.src) (g.S.Source.left c.end_behind_all.new.src)
-    c.loop-at.inbox.held.items c.loop-at.at c.loop-at.session (record { held = g.K.Sink.held c.args.sink.now; flushed = g.K.Sink.flushed c.args.sink.now })
-    (record { held = g.K.Sink.held c.loop-at.sink; flushed = g.K.Sink.flushed c.loop-at.sink }) (record { held = g.K.Sink.held c.loop-at.sink; flushed = g.K.Sink.flushed c.loop-at.sink })
-    c.args.steps.now c.loop-at.steps c.loop-at.steps c.loop-at.invariant.going input is (omega (arith, c.loop-at-test.false)) c.end_behind_all.result c.end_behind_all.ensures.ends refl refl
-
-pub returns-in-Err-clause-over : goal.returns-in-Err-clause-over
-returns-in-Err-clause-over g c =
-    over_read c.records_stand.ensures c.args.session.now.conf c.args.session.now.opening (g.S.Source.left c.args.src.now) (g.S.Source.left c.loop-at.src) (g.S.Source.left c.answer_next.new.src)
-    c.loop-at.inbox.held.items c.loop-at.at c.loop-at.session (record { held = g.K.Sink.held c.args.sink.now; flushed = g.K.Sink.flushed c.args.sink.now })
-    (record { held = g.K.Sink.held c.loop-at.sink; flushed = g.K.Sink.flushed c.loop-at.sink }) (record { held = g.K.Sink.held c.answer_next.new.sink; flushed = g.K.Sink.flushed c.answer_next.new.sink })
-    c.args.steps.now c.loop-at.steps c.answer_next.new.steps c.loop-at.invariant.going c.in-Err.end c.loop-at-test.true c.in-Err.ensures.ends
-
-pub returns-clause-over : goal.returns-clause-over
-returns-clause-over g c =
-    over_all c.records_stand.ensures c.args.session.now.conf c.args.session.now.opening (g.S.Source.left c.args.src.now) (g.S.Source.left c.loop-at.src) (g.S.Source.left c.end_behind_all.new.src)
-    c.loop-at.inbox.held.items c.loop-at.at c.loop-at.session (record { held = g.K.Sink.held c.args.sink.now; flushed = g.K.Sink.flushed c.args.sink.now })
-    (record { held = g.K.Sink.held c.loop-at.sink; flushed = g.K.Sink.flushed c.loop-at.sink }) (record { held = g.K.Sink.held c.loop-at.sink; flushed = g.K.Sink.flushed c.loop-at.sink })
-    c.args.steps.now c.loop-at.steps c.loop-at.steps c.loop-at.invariant.going c.end_behind_all.result (omega (arith, c.loop-at-test.false)) c.end_behind_all.ensures.ends refl refl
+pub returns-clause-order : goal.returns-clause-order
+returns-clause-order g c =
+    let loop = c.loop-at.invariant.loop in
+    record {
+      records = loop.records;
+      behind = moment c.loop-at.session c.loop-at.ends c.loop-at.input c.loop-at.work.steps.now;
+      converses = loop.converses;
+      ends = inr (omega (arith, loop.count_is, c.loop-at-test.false, c.loop-at.auto.at-end), c.end_behind_all.ensures.ends c.loop-at.session c.loop-at.work.steps.now);
+    }

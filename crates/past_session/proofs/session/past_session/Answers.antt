@@ -1,25 +1,36 @@
-use Rattle.std.proofs.Common.{subst}
+use Rattle.std.proofs.Common.{[], rules}
 use Rattle.std.specs.Arc.{arc_value}
-use Rattle.past_session.specs.Run.{PastRun}
-use Rattle.past_session.specs.Session.{SessionContent}
-use Rattle.past_session.proofs.Ends.{never_begun}
-use Rattle.past_session.proofs.Read.{over_none, over_hands}
+use Rattle.past_session.specs.Answers.{first_state}
+use Rattle.past_session.specs.Order.{first_moment}
+use Rattle.past_session.proofs.Runs.{run, over, over_flushes, never_begun}
 use Rattle.past_session.proofs.session.past_session.Goals as goal
 
+pub returns-in-Ok-clause-order : goal.returns-in-Ok-clause-order
+returns-in-Ok-clause-order g c = search rules
+
 pub returns-in-Ok-clause-run : goal.returns-in-Ok-clause-run
-returns-in-Ok-clause-run g c = λ input is.
-    subst (λ (s : SessionContent). PastRun s.conf s.opening input (g.S.Source.left c.answer_all.new.src) (record { held = g.K.Sink.held c.args.sink.now; flushed = g.K.Sink.flushed c.args.sink.now })
-    (record { held = g.K.Sink.held c.answer_all.new.sink; flushed = g.K.Sink.flushed c.answer_all.new.sink }) c.args.steps.now c.answer_all.new.steps c.answer_all.result) c.in-Ok.ensures (c.answer_all.ensures.run input is)
+returns-in-Ok-clause-run g c =
+    let order = returns-in-Ok-clause-order g c in
+    run g.S.Source g.K.Sink c.records_stand.ensures (arc_value c.args.opening).conf (arc_value c.args.opening).leaves c.args.src.now c.args.sink.now c.args.steps.now _ c.answer_all.result order.2
+
+pub returns-in-Ok-clause-over : goal.returns-in-Ok-clause-over
+returns-in-Ok-clause-over g c =
+    let order = returns-in-Ok-clause-order g c in
+    over g.S.Source g.K.Sink c.records_stand.ensures (arc_value c.args.opening).conf (arc_value c.args.opening).leaves c.args.src.now c.args.sink.now c.args.steps.now _ c.answer_all.result order.2
 
 pub returns-in-Ok-clause-flushed : goal.returns-in-Ok-clause-flushed
-returns-in-Ok-clause-flushed g c = λ other.
-    over_hands c.in-Ok.session.conf c.in-Ok.session.opening (g.S.Source.left c.args.src.now) (g.S.Source.left c.answer_all.new.src) (record { held = g.K.Sink.held c.args.sink.now; flushed = g.K.Sink.flushed c.args.sink.now })
-    (record { held = g.K.Sink.held c.answer_all.new.sink; flushed = g.K.Sink.flushed c.answer_all.new.sink }) c.args.steps.now c.answer_all.new.steps c.answer_all.result c.answer_all.ensures.over other
+returns-in-Ok-clause-flushed g c = λ other. over_flushes _ _ _ _ _ _ _ _ c.answer_all.result (returns-in-Ok-clause-over g c) other
+
+pub returns-in-Err-clause-order : goal.returns-in-Err-clause-order
+returns-in-Err-clause-order g c =
+    let d = (arc_value c.args.opening).conf in
+    let opening = (arc_value c.args.opening).leaves in
+    (record { conf = d; opening = opening; state = first_state }, [], never_begun g.S.Source g.K.Sink (first_moment d opening c.args.src.now c.args.sink.now c.args.steps.now))
 
 pub returns-in-Err-clause-run : goal.returns-in-Err-clause-run
-returns-in-Err-clause-run g c = λ input is.
-    never_begun (arc_value c.args.opening).conf (arc_value c.args.opening).leaves input (g.S.Source.left c.args.src.now) (record { held = g.K.Sink.held c.args.sink.now; flushed = g.K.Sink.flushed c.args.sink.now }) c.args.steps.now
+returns-in-Err-clause-run g c =
+    run g.S.Source g.K.Sink c.records_stand.ensures (arc_value c.args.opening).conf (arc_value c.args.opening).leaves c.args.src.now c.args.sink.now c.args.steps.now _ _ (returns-in-Err-clause-order g c).2
 
 pub returns-in-Err-clause-over : goal.returns-in-Err-clause-over
 returns-in-Err-clause-over g c =
-    over_none (arc_value c.args.opening).conf (arc_value c.args.opening).leaves (g.S.Source.left c.args.src.now) (record { held = g.K.Sink.held c.args.sink.now; flushed = g.K.Sink.flushed c.args.sink.now }) c.args.steps.now
+    over g.S.Source g.K.Sink c.records_stand.ensures (arc_value c.args.opening).conf (arc_value c.args.opening).leaves c.args.src.now c.args.sink.now c.args.steps.now _ _ (returns-in-Err-clause-order g c).2

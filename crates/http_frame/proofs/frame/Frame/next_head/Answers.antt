@@ -1,5 +1,5 @@
 use Rattle.std.proofs.Common.{refl}
-use Rattle.http_frame.specs.Held.{held}
+use Rattle.survey_link.specs.Inbox.{held}
 use Rattle.http_frame.specs.FrameFields.{shown}
 use Rattle.http_frame.proofs.Nexts.{found_with, reads_head, refuses_head, keeps_unread, stops_head}
 use Rattle.http_frame.proofs.frame.Frame.next_head.Goals as goal

@@ -1,6 +1,6 @@
 use Rattle.std.proofs.Common.{refl, ◌++◌, ◌≡◌}
 use Rattle.std.proofs.lemmas.List.{take-append-drop}
-use Rattle.http_frame.specs.Held.{held, given}
+use Rattle.survey_link.specs.Inbox.{held, given}
 use Rattle.http_frame.proofs.Nexts.{reads_body, nothing_left}
 use Rattle.http_frame.proofs.frame.Frame.read_body.Goals as goal
 

@@ -1,13 +1,9 @@
-use Rattle.std.proofs.Common.{◌≡◌, ◌++◌, ◌∷◌, [], map, None, refl, sym, ap, ◌∙◌, subst, rules}
-use Rattle.std.specs.Prelude.{codes, decimal}
+use Rattle.std.proofs.Common.{◌≡◌, map, None, refl, ap, ◌∙◌, subst}
 use Rattle.survey_conf.specs.Description.{Description}
 use Rattle.edit_journal.specs.Edit.{edit_of}
 use Rattle.survey_core.specs.BatchBody.{batch_entries}
-use Rattle.survey_core.specs.Faults.{entry_fault_text}
 use Rattle.survey_core.specs.Refusal.{TellsBatchRead}
 use Rattle.survey_core.specs.declared.fault.BatchRead.TheVariants.{Entry}
-use Rattle.past_frame.specs.Line.{line_feed}
-use Rattle.past_session.specs.Answers.{faulty, batch_verdict}
 use Rattle.past_session.specs.Session.{SessionContent, state_edits}
 use Rattle.past_session.proofs.Content.{read_verdict, faulty_verdict, on_ok}
 use Rattle.past_session.proofs.kept.Session.accept.Goals as goal

@@ -1,0 +1,20 @@
+use Rattle.std.proofs.Common.{refl, sym}
+use Rattle.std.specs.Prelude.{IfSome}
+use Rattle.mirror_frame.specs.Peer.{unread_at, body_of}
+use Rattle.mirror_frame.specs.Reply.{IsReply, pinned_line}
+use Rattle.mirror_frame.specs.declared.ask.Ask.TheVariants.{Pin}
+use Rattle.mirror_frame.specs.declared.due.Due.TheVariants.{Pinned}
+use Rattle.hips_mirror.proofs.StageLemmas.{one_reached, one_refused}
+use Rattle.hips_mirror.proofs.ToldLemmas.{pinned_told}
+use Rattle.hips_mirror.proofs.description.pin.Goals as goal
+
+pub returns-in-Ok-clause-reached : goal.returns-in-Ok-clause-reached
+returns-in-Ok-clause-reached g c =
+    one_reached g.S.Source g.K.Sink c.unwrap.result Pin c.pin.result.ask Pinned c.args.peer.now c.ask.new.peer c.pin.ensures.ask refl _ c.in-Ok.ensures.asked
+    (pinned_told c.unwrap.result (body_of c.ask.new.peer) c.in-Ok.prefix (unread_at g.S.Source c.args.peer.now) (unread_at g.S.Source c.ask.new.peer) (sym c.unwrap.ensures) (c.in-Ok.ensures.pinned refl) c.in-Ok.ensures.read)
+    c.ask.ensures.goes
+
+pub returns-in-Err-clause-refused : goal.returns-in-Err-clause-refused
+returns-in-Err-clause-refused g c =
+    one_refused g.S.Source g.K.Sink 0 Pin c.pin.result.ask Pinned c.args.peer.now c.ask.new.peer c.pin.ensures.ask refl c.pin.result.number 0 c.in-Err.refusal c.pin.ensures.number
+    c.in-Err.ensures.asked c.in-Err.ensures.refused c.in-Err.ensures.faults c.ask.ensures.goes

@@ -1,0 +1,19 @@
+-- How a session ends, by why a record wasn't read, or wasn't answered whole.
+use Rattle.std.specs.Prelude.{ℕ}
+use Rattle.past_frame.specs.declared.record.Stop.{Stop}
+use Rattle.past_frame.specs.declared.record.Stop.TheVariants as stop
+use Rattle.past_session.specs.declared.ending.Halt.{Halt}
+use Rattle.past_session.specs.declared.ending.Halt.TheVariants as halt
+use Rattle.past_session.specs.declared.ending.PastEnd.{PastEnd}
+use Rattle.past_session.specs.declared.ending.PastEnd.TheVariants.{Done, Cut, BadLine, ReadFault, WriteFault, OutOfMemory}
+
+abbrev pub end_of_stop : Stop → ℕ → PastEnd
+end_of_stop stop.End at = Done
+end_of_stop stop.Cut at = Cut
+end_of_stop stop.BadLine at = BadLine at
+end_of_stop stop.ReadFault at = ReadFault
+end_of_stop stop.OutOfMemory at = OutOfMemory
+
+abbrev pub end_of_halt : Halt → PastEnd
+end_of_halt halt.WriteFault = WriteFault
+end_of_halt halt.OutOfMemory = OutOfMemory

@@ -1,0 +1,211 @@
+#!/bin/bash
+# Tries the units of examples/ and scripts/install.sh by systemd itself, by the steps for operators: a systemd of its own is booted twice,
+# in namespaces and over a layer above this machine's files that goes with the check.
+#
+# - hipsd@8080 serves, nginx is before it, hipsd.nft closes its ports. A copy is made by hipsd-backup.service.
+# - rollover.sh stops where hipsd.nft doesn't name the new port. Then it renews the server as hipsd@8081; the next copy is of that.
+#   hipsd-renew.service sees that it has room. A restart drains it first, and says what is lost.
+# - After the second boot the renewed server runs, with the edits that it began with, and nginx goes to it.
+#
+#     scripts/check-units.sh [PROGRAM]
+#
+# PROGRAM is crates/hipsd/out/hipsd if none is named. Where a tool is missing this fails if CI=true, and else says what it left out. Where
+# no such namespaces can be made it says that it left all out.
+cd "$(dirname "$0")/.." || exit 1
+# shellcheck source-path=SCRIPTDIR source=check-common.sh
+. scripts/check-common.sh
+hierarchy=$(findmnt -n -t cgroup2 -o TARGET | head -n 1)
+group=$hierarchy/$check.$$
+# shellcheck disable=SC2317 # it is called by the trap
+end() {
+    [ ! -d "$group" ] || find "$group" -depth -type d -exec rmdir {} + 2>/dev/null
+    rm -rf "$folder"
+}
+trap end EXIT
+for tool in nginx nft openssl setpriv; do command -v "$tool" >/dev/null 2>&1 || leaves_out "$tool"; done
+[ -x /lib/systemd/systemd ] || leaves_out systemd
+[ "$wrong" = 0 ] || exit 1
+mkdir "$folder/out" "$folder/layer"
+"$python" - "$scripts" "$folder/out" <<'PYTHON' || exit 1
+import sys
+from pathlib import Path
+
+sys.path.insert(0, sys.argv[1])
+from survey_files import Survey, image
+
+out = Path(sys.argv[2])
+(out / "survey.conf").write_bytes(Survey("units", "Survey units", top=5, low=3, width=8).description())
+for leaf in 8, 9, 10:
+    (out / f"{leaf}.fits").write_bytes(image(8, 8, range(leaf, 64 + leaf), ("ORDER", 5), ("NPIX", leaf)))
+PYTHON
+
+# layer.sh PROGRAM REPOSITORY FOLDER: makes the layer, and boots once for each of the two parts. It runs in namespaces of its own.
+cat >"$folder/layer.sh" <<'SHELL'
+set -e
+mount --make-rprivate /
+mount -t tmpfs none "$3/layer"
+cd "$3/layer"
+mkdir upper work root groups
+mount -t cgroup2 none groups
+mkdir groups/booted
+mount -t overlay none -o "lowerdir=/,upperdir=$PWD/upper,workdir=$PWD/work" root
+# What is mounted on its own isn't in the layer.
+ls root/lib/systemd/systemd root/usr/sbin/nginx root/etc/nginx/nginx.conf root/var/lib/dpkg/status >/dev/null
+: >"$3/out/layered"
+cp "$1" root/mnt/hipsd
+mkdir root/mnt/repository root/mnt/out root/mnt/before
+mount --bind "$2" root/mnt/repository
+mount --bind "$3/out" root/mnt/out
+rm -rf root/etc/systemd/system/*.wants
+: >root/etc/machine-id
+printf '[Unit]\nWants=multi-user.target\n[Service]\nType=oneshot\nExecStart=/bin/bash /mnt/out/part.sh\nStandardOutput=append:/mnt/out/log\nStandardError=inherit\n' \
+    >root/etc/systemd/system/part.service
+printf '[Unit]\nWants=part.service\n' >root/etc/systemd/system/part.target
+for part in 1 2; do
+    cp "$3/out/part$part.sh" "$3/out/part.sh"
+    (echo "$BASHPID" >groups/booted/cgroup.procs && exec unshare -m -p -f -C --kill-child bash "$3/boot.sh") &
+    booted=$!
+    for _ in $(seq 120); do
+        [ ! -e "$3/out/done$part" ] || break
+        sleep 0.5
+    done
+    kill -9 "$booted"
+    wait "$booted" || true
+    sleep 0.5
+done
+SHELL
+# boot.sh: systemd over the layer, with folders of its own where programs of this machine meet.
+cat >"$folder/boot.sh" <<'SHELL'
+set -e
+cd root
+mount -t proc none proc
+mount --bind proc/sys proc/sys
+mount -o remount,ro,bind proc/sys
+mount -t tmpfs none run
+mount -t tmpfs none tmp
+mount -t sysfs -o ro none sys
+mount -t cgroup2 none sys/fs/cgroup
+mount -t tmpfs -o mode=755 none dev
+for node in null zero full random urandom tty; do
+    : >"dev/$node"
+    mount --bind "/dev/$node" "dev/$node"
+done
+mkdir dev/pts dev/shm
+mount -t devpts -o newinstance,ptmxmode=0666 none dev/pts
+ln -s pts/ptmx dev/ptmx
+pivot_root . mnt/before
+cd /
+exec env -i container=other PATH=/usr/sbin:/usr/bin:/sbin:/bin sh -c 'umount -l /mnt/before
+    exec /lib/systemd/systemd --system --unit=part.target --log-target=journal --show-status=0' </dev/null >/dev/null 2>&1
+SHELL
+# What both parts begin with.
+cat >"$folder/out/begin.sh" <<'SHELL'
+trap 'touch "/mnt/out/done$part"' EXIT
+wrong() {
+    echo "$*" >>/mnt/out/wrong
+}
+# is WANTED TEXT WORD ..: what a command writes.
+is() {
+    wanted=$1
+    shift
+    got=$("$@" 2>&1 | tr '\n' ' ')
+    [ "$got" = "$wanted" ] || wrong "$*: '$got' in place of '$wanted'"
+}
+# says UNIT TEXT: what stands in the log of a unit.
+says() {
+    journalctl --sync
+    journalctl -u "$1" -o cat --no-pager | grep -qF "$2" || wrong "$1 doesn't say '$2': $(journalctl -u "$1" -o cat --no-pager | tail -n 20)"
+}
+code() {
+    curl -s -o /dev/null -w '%{http_code}' --retry 20 --retry-delay 1 --retry-connrefused "$@"
+}
+leaf() {
+    echo "Norder5/Dir0/Npix$1.fits"
+}
+ip link set lo up
+cd /mnt/repository || exit
+SHELL
+cat >"$folder/out/part1.sh" <<'SHELL'
+part=1
+. /mnt/out/begin.sh
+PROGRAM=/mnt/hipsd scripts/install.sh >/dev/null || wrong "install.sh"
+examples=/usr/local/share/doc/hipsd/examples
+systemd-sysusers && systemctl daemon-reload
+mkdir -p /srv/survey && cp /mnt/out/survey.conf /srv/survey
+install -d /var/lib/hipsd && ln -sn /srv/survey /var/lib/hipsd/8080
+systemctl enable --quiet --now hipsd@8080
+is 'active ' systemctl is-active hipsd@8080
+is 200 code http://127.0.0.1:8080/properties
+
+sed 's/hips[.]example[.]org/survey.your.org/' "$examples/nginx.conf" >/etc/nginx/conf.d/hipsd.conf
+cp "$examples/hipsd.port.conf" /etc/nginx/hipsd.port.conf
+rm -f /etc/nginx/sites-enabled/default
+install -m 640 -o root -g www-data /dev/null /etc/nginx/hipsd.users
+printf 'editor:%s\n' "$(openssl passwd -6 secret)" >>/etc/nginx/hipsd.users
+systemctl enable --quiet --now nginx
+# rule PORTS: hipsd.nft with these.
+rule() {
+    sed -e "s/^define hipsd_ports = .*/define hipsd_ports = { $1 }/" -e 's/www-data }/www-data, hipsd }/' "$examples/hipsd.nft" | nft -f -
+}
+rule 8080
+is 200 code http://localhost/survey/properties
+is 000 setpriv --reuid=nobody --clear-groups curl -s -o /dev/null -w '%{http_code}' http://127.0.0.1:8080/properties
+is 201 code -u editor:secret -T /mnt/out/8.fits "http://localhost/edit/$(leaf 8)"
+is 'published 1 ' curl -s -u editor:secret -X POST http://localhost/edit/publish
+is 201 code -u editor:secret -T /mnt/out/9.fits "http://localhost/edit/$(leaf 9)"
+systemctl start hipsd-backup || wrong "hipsd-backup.service"
+says hipsd-backup 'verified 6'
+
+"$examples/rollover.sh" >/mnt/out/said 2>&1 && wrong "rollover.sh takes a port that is open to all"
+grep -qF 'hipsd.nft has to name both ports' /mnt/out/said || wrong "rollover.sh, with a port that is open to all: $(cat /mnt/out/said)"
+is 'active inactive ' systemctl is-active hipsd@8080 hipsd@8081
+is 'enabled disabled ' systemctl is-enabled hipsd@8080 hipsd@8081
+rule '8080, 8081'
+"$examples/rollover.sh" >/mnt/out/said 2>&1 || wrong "rollover.sh: $(cat /mnt/out/said)"
+grep -qF 'may edit' /mnt/out/said && wrong "rollover.sh finds a port open: $(cat /mnt/out/said)"
+is 'inactive active ' systemctl is-active hipsd@8080 hipsd@8081
+is 'disabled enabled ' systemctl is-enabled hipsd@8080 hipsd@8081
+is 200 code "http://localhost/survey/$(leaf 9)"
+says hipsd@8080 'drain.sh: 127.0.0.1:8080 ends, and with it the 2 edits since its start, 0 of them never published'
+systemctl start hipsd-backup || wrong "hipsd-backup.service after a renewal"
+says hipsd-backup 'verified 7'
+systemctl start hipsd-renew || wrong "hipsd-renew.service"
+says hipsd-renew '127.0.0.1:8081 has taken 0 edits since its start, of 65536'
+
+is 201 code -u editor:secret -T /mnt/out/10.fits "http://localhost/edit/$(leaf 10)"
+systemctl restart hipsd@8081
+is 200 code http://127.0.0.1:8081/properties
+is 200 code http://localhost/survey/properties
+says hipsd@8081 'drain.sh: 127.0.0.1:8081 ends, and with it the 1 edits since its start, 1 of them never published'
+# SocketBindAllow, where this systemd can do it.
+if systemctl --version | grep -qF +BPF_FRAMEWORK; then
+    ln -sn /srv/survey /var/lib/hipsd/8090
+    systemctl start hipsd@8090
+    sleep 1
+    says hipsd@8090 "can't listen at 127.0.0.1:8090"
+fi
+systemctl enable --quiet hipsd-backup.timer hipsd-renew.timer
+SHELL
+cat >"$folder/out/part2.sh" <<'SHELL'
+part=2
+. /mnt/out/begin.sh
+is 200 code http://127.0.0.1:8081/properties
+is 'inactive active active active active ' systemctl is-active hipsd@8080 hipsd@8081 nginx hipsd-backup.timer hipsd-renew.timer
+is 200 code "http://localhost/survey/$(leaf 9)"
+is 404 code "http://localhost/survey/$(leaf 10)"
+SHELL
+
+left_out() {
+    echo "$check: left out, since $1 can't be made here: all"
+    exit 0
+}
+[ -n "$hierarchy" ] || left_out "a control group of its own"
+mkdir "$group" 2>/dev/null || left_out "a control group of its own"
+unshare -m -p -f -n -u -i -C --kill-child true 2>/dev/null || left_out "a namespace of its own"
+(echo "$BASHPID" >"$group/cgroup.procs" && exec timeout -s KILL 150 unshare -m -p -f -n -u -i -C --kill-child --mount-proc \
+    bash "$folder/layer.sh" "$program" "$top" "$folder") >"$folder/output" 2>&1 </dev/null
+[ -e "$folder/out/layered" ] || left_out "a layer above this machine's files"
+for part in 1 2; do [ -e "$folder/out/done$part" ] || blame "boot $part doesn't come to its end: $(cat "$folder/output" "$folder/out/log" 2>/dev/null)"; done
+[ ! -s "$folder/out/wrong" ] || blame "$(cat "$folder/out/wrong")"
+[ "$wrong" = 0 ] && echo "$check: all did as it must"
+exit "$wrong"

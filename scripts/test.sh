@@ -1,0 +1,56 @@
+#!/bin/bash
+# The quick check: every test, and the programs with their stored input and output, compiled by `rt try` without a proof; and the
+# checks that need no built program. Prints a line for each and a total. The status is 1 if one failed. size_run and one test are left
+# out: unproved code isn't optimized, and they would take many minutes.
+#
+#     scripts/test.sh [JOBS]
+#
+# JOBS run at once, each in up to 2.5 GB. If none is named: one a processor, as far as memory allows.
+cd "$(dirname "$0")/.." || exit 1
+command -v rt >/dev/null || { echo "test: there is no rt on the path" >&2; exit 1; }
+room=$(awk '/^MemAvailable/ { print int($2 / 2500000) }' /proc/meminfo)
+jobs=${1:-$(nproc)}
+[ $# -gt 0 ] || [ "$jobs" -le "$room" ] || jobs=$((room > 0 ? room : 1))
+work=$(mktemp -d) || exit 1
+trap 'rm -rf "$work"' EXIT
+
+# tests CRATE: its tests. One of connection_tests makes thousands of connections, and isn't waited for.
+tests() {
+    seconds=300 slow=' '
+    [ "$1" != connection_tests ] || seconds=60 slow='broken::a_cut_input_is_answered_up_to_its_last_whole_request'
+    (cd "crates/$1" && rt try --test --seconds $seconds) && return
+    failed=$(sed -n 's/^test \(.*\) \.\.\. FAILED$/\1/p' "$log")
+    [ "$failed" = "$slow" ] && grep -A1 "$slow" "$log" | grep -q 'checked: no-answer' && note=", left out: $slow"
+}
+# program CRATE: the program, with the arguments and the input beside its sources, and what it has to print.
+program() {
+    args=()
+    [ ! -f "crates/$1/args" ] || mapfile -t args <"crates/$1/args"
+    (cd "crates/$1" && { [ ! -f stdin ] || exec <stdin; } && rt try --seconds 300 -- "${args[@]}" >"$work/$1.stdout") &&
+        cmp "$work/$1.stdout" "crates/$1/stdout"
+}
+# check SCRIPT WORD ..: a script that needs no built program.
+check() {
+    "scripts/$1" "${@:2}"
+}
+# one KIND NAME WORD ..: does one of these, and says in a line how it went; if it failed, what it said stands below.
+one() {
+    log=$work/$1.$2 begun=$SECONDS note=
+    if "$@" >"$log" 2>&1 </dev/null; then verdict=ok; else verdict=FAILED; fi
+    passed=$(sed -n 's/^test result: .*\. \([0-9]* passed\);.*/, \1/p' "$log")
+    echo "$verdict $1 $2$passed$note, $((SECONDS - begun)) s" | tee -a "$work/verdicts"
+    [ $verdict = ok ] || grep -vE '\.\.\. ok$|^ *\[' "$log" | tail -n 20
+}
+export work
+export -f tests program check one
+
+{
+    for crate in hipsd board_tests survey_bench; do echo "program $crate"; done
+    grep -l '#\[test\]' crates/*/src/*.rt | cut -d / -f 2 | sort -u | sed 's/^/tests /'
+    printf 'check %s\n' 'made-survey.py --check' 'made-summary.py --check' 'size-values.py --check' check-docs.py 'quote-headline.py --check'
+    ! /usr/bin/python3 -c 'import healpy' 2>/dev/null || printf 'check %s\n' 'healpix-values.py --check' 'pyramid-values.py --check'
+} | xargs -P "$jobs" -I{} bash -c 'one {}' || echo "FAILED xargs: a check was stopped" | tee -a "$work/verdicts"
+
+failed=$(grep -c '^FAILED' "$work/verdicts")
+echo "test: $(grep -c '^ok' "$work/verdicts") passed, $failed failed, $SECONDS s. Nothing is proved by this: see rt ci"
+[ "$failed" = 0 ]
