@@ -495,8 +495,6 @@ def shows_sources(trial, catalogue):
 
 def begins_anew(trial):
     """A restart without a publication is no change."""
-    trial.stop()
-    trial.start()
     trial.open(trial.hash(VIEW))
     trial.stop()
     trial.wait("away")
