@@ -3,6 +3,7 @@
 # python3-healpy, stilts, curl, nginx-light, openssl, mandoc, systemd, nftables, iproute2, shellcheck, slowhttptest, gcc,
 # chromium with chromium-driver, python3-selenium and python3-pil), where they are missing and this runs as root.
 # Elsewhere it says what is missing; the checks decide what follows from that.
+[ $# = 0 ] || { sed -n '2,/^[^#]/s/^# \{0,1\}//p' "$0" >&2; exit 2; }
 missing=
 command -v fitsverify >/dev/null 2>&1 || missing="$missing fitsverify"
 command -v curl >/dev/null 2>&1 || missing="$missing curl"

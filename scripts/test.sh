@@ -7,6 +7,7 @@
 #
 # JOBS run at once, each in up to 2.5 GB. If none is named: one a processor, as far as memory allows.
 cd "$(dirname "$0")/.." || exit 1
+case ${1:-1} in *[!0-9]*) sed -n '2,/^[^#]/s/^# \{0,1\}//p' "$0" >&2 && exit 2 ;; esac
 command -v rt >/dev/null || { echo "test: there is no rt on the path" >&2; exit 1; }
 room=$(awk '/^MemAvailable/ { print int($2 / 2500000) }' /proc/meminfo)
 jobs=${1:-$(nproc)}

@@ -123,7 +123,7 @@ def started(folder):
 
 
 def main():
-    if len(sys.argv) not in (2, 3, 4):
+    if len(sys.argv) not in (2, 3, 4) or sys.argv[1].startswith("-"):
         sys.exit(__doc__)
     signal.signal(signal.SIGTERM, signal.default_int_handler)
     named, port = sys.argv[1], int(sys.argv[2]) if len(sys.argv) > 2 else 8000
