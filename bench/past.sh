@@ -2,17 +2,17 @@
 # Times reads of earlier states by `hipsd past 8`, and prints each figure beside its goal.
 #
 # Over a full sky of order 3, 768 leaves of 512 by 512 pixels of 16 bits with the orders down to 0, and 200 batches of one edit
-# each: reads of `properties` one edit further each time, beside the next generation in `survey_bench generation full`; reads
-# back, below all states that are held, beside the first generation there; and reads of a leaf tile of a state that is held,
-# beside C (session.c). C copies the bytes of the file from one warm buffer to another, and writes them into a pipe. Then over
-# 65,536 leaves of order 11, of 32 by 32, with 10,000 edits in batches of 80: reads of states all over.
+# each: reads of `properties` one edit further each time, beside publications of one leaf by `hipsd session`, by its log; reads
+# back, below all states that are held; and reads of a leaf tile of a state that is held, beside C (session.c). C copies the bytes
+# of the file from one warm buffer to another, and writes them into a pipe. Then over 65,536 leaves of order 11, of 32 by 32, with
+# 10,000 edits in batches of 80: reads of states all over.
 #
 # Reads one edit further are timed by five rounds over the 200 edits, from a file and into /dev/null, so that no client is in it:
 # the whole process on the wall, less one that reads once. Reads back and those of the deep field are timed by a client at the
 # other end of two pipes, on the wall, from the record to the end of the answer. Reads of a held state are timed by 20,000 of
 # them, as processor time of the whole process, less that of one read. The wall means something only where nothing else runs.
-# The program is the proved build: one of `rt try` has checks in it, and its times say nothing. To try the script there are
-# HIPSD=PROGRAM and BENCH=PROGRAM, which run those.
+# The program is the proved build: one of `rt try` has checks in it, and its times say nothing. To try the script there is
+# HIPSD=PROGRAM, which runs that.
 #
 #   bench/past.sh [RUNS]
 set -u
@@ -22,18 +22,7 @@ export HIPSD_LOG=error
 for tool in gcc python3; do
     command -v $tool >/dev/null 2>&1 || { echo "past.sh: there is no $tool here"; exit 0; }
 done
-# built CRATE: the proved program of a crate.
-built() {
-    (cd "$here/../crates/$1" && rt run "${@:2}" >/dev/null 2>&1) || { echo "past.sh: $1 isn't built" >&2; exit 1; }
-    echo "$here/../crates/$1/out/$1"
-}
-if [ -n "${HIPSD:-}" ]; then
-    hipsd=$(realpath -e "$HIPSD") || exit 1
-    echo "a trial of $hipsd, which needn't be the proved build:"
-else
-    hipsd=$(built hipsd -- probe 4 1 3 0 <"$here/../crates/hipsd/stdin") || exit 1
-fi
-bench=$(realpath -e "${BENCH:-$(built survey_bench)}") || exit 1
+hipsd=$(realpath -e "${HIPSD:-$here/../crates/hipsd/out/hipsd}") || { echo "past.sh: hipsd isn't built"; exit 1; }
 work=$(mktemp -d) || exit 1
 trap 'rm -rf "$work"' EXIT
 gcc -O3 -march=x86-64-v2 -o "$work/session" "$here/session.c" || exit 1
@@ -132,13 +121,16 @@ rounds=5
     cat "$work/once"
     for _ in $(seq $rounds); do seq -f 'read %.0f properties' 200; done
 } >"$work/further"
+# 20 leaves are put, and each is published by itself.
+"$work/session" puts 20 1 >"$work/requests" || exit 1
 run=0
 while [ "$run" -lt "$runs" ]; do
     timed once 0 null "$hipsd" past 8 <"$work/once"
     timed further 0 null "$hipsd" past 8 <"$work/further"
     # shellcheck disable=SC2046 # numbers
     python3 "$work/client.py" "$hipsd" "$work/batches" 200 200 $(seq 199 -10 0) 0 >"$work/back.$run" || exit 1
-    "$bench" generation full >>"$work/full" || exit 1
+    HIPSD_LOG=debug "$hipsd" session <"$work/requests" 2>"$work/log" >/dev/null || exit 1
+    sed -n 's/^\[DEBUG request\].* POST \/publish 200 [0-9]* \([0-9]*\) .*/\1/p' "$work/log" >>"$work/published"
     run=$((run + 1))
 done
 
@@ -186,17 +178,14 @@ def least(name):
     return [(int(row[0][0]), min(float(cell[1]) for cell in row)) for row in zip(*rows)]
 
 
-full = [[float(word) for word in line.split()] for line in (work / "full").read_text().splitlines()]
-start, following = min(row[0] for row in full) / 1e6, min(row[1] for row in full) / 1e6
+published = min(int(line) for line in (work / "published").read_text().splitlines()) / 1000
 walls = [line.split() for line in (work / "timed").read_text().splitlines()]
 once, further = (min(float(row[2]) for row in walls if row[0] == name) / 1000 for name in ("once", "further"))
 ahead = (further - once) / steps
 back = least("back")[1:]
 worst = max(back, key=lambda pair: pair[1])
-print(f"  survey_bench: the first generation {start:.1f} ms, the next of one edit {following:.2f}")
-print(f"  one edit forward {ahead:.2f} ms, for each next generation {ahead / following:.2f} (goal: at most 1.2)")
-print(f"  back, below all that are held: {statistics.median(took for _, took in back):.1f} ms (median), at most {worst[1]:.1f} (to {worst[0]}); "
-      f"for each first generation {worst[1] / start:.2f} (goal: at most 1)")
+print(f"  one edit forward {ahead:.2f} ms, for each publication of one leaf, of {published:.2f} ms, {ahead / published:.2f} (goal: at most 1.2)")
+print(f"  back, below all that are held: {statistics.median(took for _, took in back):.1f} ms (median), at most {worst[1]:.1f} (to {worst[0]})")
 PYTHON
 
 # ---- a deep field

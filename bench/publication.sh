@@ -1,162 +1,159 @@
 #!/bin/bash
-# Times what a publication is made of, and prints the best of several runs.
+# Times publications by `hipsd serve`, and prints the least and the middle of several runs.
 #
-# A level of 192 merges of tiles of 512 by 512 pixels at 16 bits, by `level_serial` and `level_parallel`, beside level.c: plain
-# C with branches, and C without branches, which the compiler turns into lanes; C makes its level with one thread. Then the
-# covers of leaves of order 11. The programs are proved builds, for x86-64-v2 like the C: a build of `rt try` has checks in
-# it, and its times say nothing. Processor time is user and system time of the process; times on the wall mean something only
-# where nothing else runs. How many processors there are is what this script may use (`taskset -c`).
+# A client replaces leaves by PUT over one connection that stays open, and publishes: 1, 64 and 256 leaves of a full sky of order 3,
+# 768 leaves of 512 by 512 numbers of 16 bits (a survey takes no more than 2^29 bytes of tiles with all its edits); and one leaf of
+# 65,536 of order 11, of 32 by 32. Each time is the server's, by the line of the request in its log, from the head until the reply
+# was flushed; beside it stands the client's. Before that the server starts over the leaves alone: it reads them and makes the first
+# generation, with all processors and with one, by the line `loaded` of its log.
 #
-# Then the mosaic of 768 tiles of 512 by 512 pixels at 16 bits, by `whole` with one thread and with all, and by `patch` where
-# one tile was replaced, beside mosaic.c; and 65,536 edits of one leaf, of which each journal is kept.
+# The program is a proved build: one of `rt try` has checks in it, and its times say nothing. They mean something only where nothing
+# else runs.
 #
-# Then whole generations: of a full sky of order 3 made at once, with all processors and with one, and after 1, 64 and 256
-# leaves were replaced (a journal's charge lets no more of them be replaced); its files as they are handed out; the same of a
-# field of 65,536 leaves of order 11, and an edit of it that is accepted. The goals are printed beside the times.
-#
-#   bench/publication.sh [RUNS]    (BENCH=PROGRAM: a proved survey_bench that is there)
+#   bench/publication.sh [RUNS]    (HIPSD=PROGRAM: another program than crates/hipsd/out/hipsd)
 set -u
 here=$(cd "$(dirname "$0")" && pwd)
 runs=${1:-5}
+hipsd=$(realpath -e "${HIPSD:-$here/../crates/hipsd/out/hipsd}") || { echo "publication.sh: hipsd isn't built"; exit 1; }
 work=$(mktemp -d) || exit 1
 trap 'rm -rf "$work"' EXIT
-if [ -n "${BENCH:-}" ]; then
-    bench=$(realpath -e "$BENCH") || exit 1
-else
-    # Builds the proved program at crates/survey_bench/out/survey_bench.
-    (cd "$here/../crates/survey_bench" && rt run >/dev/null 2>&1) || { echo "publication.sh: survey_bench isn't built"; exit 1; }
-    bench="$here/../crates/survey_bench/out/survey_bench"
-fi
-programs=hipsd
-if command -v gcc >/dev/null 2>&1; then
-    gcc -O3 -march=x86-64-v2 -o "$work/level" "$here/level.c" || exit 1
-    gcc -O3 -march=x86-64-v2 -o "$work/mosaic" "$here/mosaic.c" || exit 1
-    programs="hipsd plain lanes"
-else
-    echo "publication.sh: there is no gcc here, so there is no C beside"
-fi
+cd "$work" || exit 1
+python3 - "$here/../scripts" "$hipsd" "$runs" <<'PYTHON'
+import http.client
+import os
+import re
+import socket
+import statistics
+import subprocess
+import sys
+import time
+from contextlib import contextmanager
+from pathlib import Path
 
-# ---- one level
+sys.path.insert(0, sys.argv[1])
+from survey_files import Survey, image, tile_path
 
-run=0
-while [ "$run" -lt "$runs" ]; do
-    for blanks in none some; do
-        for program in $programs; do
-            case $program in
-            hipsd) got=$("$bench" level 16 mean "$blanks") || exit 1 ;;
-            *) got=$("$work/level" 16 "$program" "$blanks") || exit 1 ;;
-            esac
-            echo "$blanks $program $got" >>"$work/level-times"
-        done
-    done
-    run=$((run + 1))
-done
-echo "a level of 192 merges, 16 bits, $(nproc) processors (nanoseconds for each pixel that is made):"
-awk '
-    # PROCESSOR SERIAL PARALLEL SUM of the program, PROCESSOR WALL SUM of C
-    { sum = $NF; if (!($1 in sums)) { sums[$1] = sum; order[++keys] = $1 } else if (sums[$1] != sum) different = $1 }
-    { for (i = 3; i < NF; i++) if (!(($1, $2, i) in least) || $i < least[$1, $2, i]) least[$1, $2, i] = $i }
-    END {
-        if (different) { print "publication.sh: the programs made different tiles, blanks " different; exit 1 }
-        for (k = 1; k <= keys; k++) {
-            b = order[k]
-            printf "  blanks %-5s serial %.2f, parallel %.2f on the wall, ratio %.2f\n", b, least[b, "hipsd", 4], least[b, "hipsd", 5], least[b, "hipsd", 4] / least[b, "hipsd", 5]
-            if ((b, "plain", 3) in least)
-                printf "               processor time: serial %.2f, plain C %.2f, C lanes %.2f; ratios %.2f and %.2f\n", least[b, "hipsd", 3], least[b, "plain", 3], least[b, "lanes", 3], least[b, "hipsd", 3] / least[b, "plain", 3], least[b, "hipsd", 3] / least[b, "lanes", 3]
-        }
-    }' "$work/level-times" || exit 1
+HIPSD, RUNS = sys.argv[2], int(sys.argv[3])
+# What the log says of a request: the method and the microseconds.
+REQUEST = re.compile(r"^\[DEBUG request\] .*: (PUT|POST) \S+ \d+ \d+ (\d+) ", re.M)
 
-# ---- mosaics
 
-run=0
-while [ "$run" -lt "$runs" ]; do
-    for blanks in none some; do
-        for program in $programs; do
-            case $program in
-            hipsd)
-                got=$("$bench" mosaic 16 mean "$blanks") || exit 1
-                echo "$blanks all $got" >>"$work/mosaic-times"
-                # With one processor no thread is started.
-                got=$(taskset -c 0 "$bench" mosaic 16 mean "$blanks") || exit 1
-                ;;
-            *) got=$("$work/mosaic" 16 "$program" "$blanks") || exit 1 ;;
-            esac
-            echo "$blanks $program $got" >>"$work/mosaic-times"
-        done
-    done
-    run=$((run + 1))
-done
-echo "a mosaic of 768 tiles, 16 bits (milliseconds):"
-awk '
-    # PROCESSOR WALL PATCH SUM, in nanoseconds for each of the 1,728 by 1,856 numbers
-    { sum = $NF; if (!($1 in sums)) { sums[$1] = sum; order[++keys] = $1 } else if (sums[$1] != sum) different = $1 }
-    { for (i = 3; i < NF; i++) { took = $i * 3207168 / 1000000; if (!(($1, $2, i) in least) || took < least[$1, $2, i]) least[$1, $2, i] = took } }
-    END {
-        if (different) { print "publication.sh: the programs made different mosaics, blanks " different; exit 1 }
-        for (k = 1; k <= keys; k++) {
-            b = order[k]
-            printf "  blanks %-5s on the wall: one thread %.0f, all %.0f, ratio %.2f; patch of one tile %.2f, whole by one thread / patch %.0f\n", b, least[b, "hipsd", 4], least[b, "all", 4], least[b, "hipsd", 4] / least[b, "all", 4], least[b, "hipsd", 5], least[b, "hipsd", 3] / least[b, "hipsd", 5]
-            if ((b, "plain", 3) in least)
-                printf "               processor time: one thread %.0f, plain C %.0f, C lanes %.0f; ratios %.2f and %.2f; patch in C %.2f\n", least[b, "hipsd", 3], least[b, "plain", 3], least[b, "lanes", 3], least[b, "hipsd", 3] / least[b, "plain", 3], least[b, "hipsd", 3] / least[b, "lanes", 3], least[b, "plain", 5]
-        }
-    }' "$work/mosaic-times" || exit 1
+class Field:
+    """A folder with all leaves of a survey, from 0 on."""
 
-# ---- journals
+    def __init__(self, name, order, width, leaves):
+        self.folder, self.order, self.width, self.leaves = Path(name), order, width, leaves
+        self.folder.mkdir()
+        (self.folder / "survey.conf").write_bytes(Survey(name, f"Survey {name}", order, 3, width).description())
+        file = self.tile(7)
+        for leaf in range(leaves):
+            path = self.folder / tile_path(order, leaf)
+            path.parent.mkdir(parents=True, exist_ok=True)
+            path.write_bytes(file)
 
-run=0
-while [ "$run" -lt "$runs" ]; do
-    "$bench" journal 65536 >>"$work/journal-times" || exit 1
-    run=$((run + 1))
-done
-# NANOSECONDS-FOR-EACH KILOBYTES
-awk 'NR == 1 || $1 < least { least = $1 } $2 > held { held = $2 }
-    END { printf "65,536 edits of one leaf, each journal kept: %.3f s of processor time, at most %.0f MB held\n", least * 65536 / 1e9, held / 1000 }' "$work/journal-times"
+    def tile(self, number):
+        return image(self.width, self.width, [number % 4096] * (self.width * self.width))
 
-# ---- generations
 
-run=0
-while [ "$run" -lt "$runs" ]; do
-    got=$("$bench" generation full) || exit 1
-    echo "all $got" >>"$work/full-times"
-    # With one processor no thread is started.
-    got=$(taskset -c 0 "$bench" generation full) || exit 1
-    echo "one $got" >>"$work/full-times"
-    "$bench" generation deep >>"$work/deep-times" || exit 1
-    run=$((run + 1))
-done
-echo "a full sky of order 3, 768 leaves of 512 by 512, 16 bits:"
-awk -v processors="$(nproc)" '
-    # START NEXT-1 NEXT-64 NEXT-256 on the wall, TILE MOSAIC PROPERTIES of processor time for each call, BYTES
-    { for (i = 2; i < NF; i++) if (!(($1, i) in least) || $i < least[$1, i]) least[$1, i] = $i }
-    END {
-        printf "  start on the wall: %d processors %.1f ms, one %.1f, ratio %.2f (goal with 4: at least 2.5)\n", processors, least["all", 2] / 1e6, least["one", 2] / 1e6, least["one", 2] / least["all", 2]
-        printf "  next on the wall: one leaf %.2f ms (goal: under 10), 64 leaves %.1f, 256 leaves %.1f\n", least["all", 3] / 1e6, least["all", 4] / 1e6, least["all", 5] / 1e6
-        printf "  file_parts: a tile %.0f ns (goal: under 2,000), the mosaic %.0f, the properties %.0f\n", least["all", 6], least["all", 7], least["all", 8]
-    }' "$work/full-times"
-awk 'NR == 1 || $1 < start { start = $1 } NR == 1 || $2 < one { one = $2 } NR == 1 || $3 < edit { edit = $3 }
-    END {
-        printf "65,536 leaves of order 11, of 32 by 32: start %.1f ms (goal of loading with 4: under 10,000), next of one leaf %.2f ms (goal: under 2) on the wall\n", start / 1e6, one / 1e6
-        printf "  an edit %.2f us of processor time (goal: under 20)\n", edit / 1e3
-    }' "$work/deep-times"
+class Server:
+    """A server over a field, a connection to it, and the milliseconds from requests to replies."""
 
-# ---- covers
+    def __init__(self, field, port, log):
+        self.field, self.log, self.puts, self.publications = field, log, [], []
+        self.client = http.client.HTTPConnection("127.0.0.1", port, timeout=60)
 
-echo "the cover of leaves of order 11 (processor time):"
-for leaves in "768 1" "768 60000" "1000000 1" "1000000 50"; do
-    run=0
-    while [ "$run" -lt "$runs" ]; do
-        # shellcheck disable=SC2086
-        got=$("$bench" cover $leaves) || exit 1
-        echo "$leaves $got" >>"$work/cover-times"
-        run=$((run + 1))
-    done
-done
-awk '
-    { key = $1 " leaves, each " $2 " from the next"; if (!(key in of)) order[++keys] = key }
-    !(key in of) || $3 < of[key] { of[key] = $3 }
-    !(key in add) || $4 < add[key] { add[key] = $4 }
-    { rows[key] = $5 }
-    END {
-        for (k = 1; k <= keys; k++)
-            printf "  %s: of %.2f ns for each leaf, add of one %.1f us, then %d rows\n", order[k], of[order[k]], add[order[k]] / 1000, rows[order[k]]
-    }' "$work/cover-times"
+    def ask(self, method, path, body):
+        begun = time.perf_counter()
+        self.client.request(method, path, body)
+        reply = self.client.getresponse()
+        reply.read()
+        if reply.status not in (200, 201, 204):
+            sys.exit(f"publication.sh: {method} {path} is answered {reply.status}")
+        return (time.perf_counter() - begun) * 1000
+
+    def publish(self, count, number):
+        """Replaces so many leaves, as far apart as they can lie, by tiles of a number, and publishes."""
+        tile = self.field.tile(number)
+        for i in range(count):
+            leaf = (i * (self.field.leaves // count) + number) % self.field.leaves
+            self.puts.append(self.ask("PUT", "/" + tile_path(self.field.order, leaf), tile))
+        self.publications.append(self.ask("POST", "/publish", b""))
+
+    def loaded(self):
+        return int(re.search(r"loaded \d+ leaves in (\d+) ms", self.log.read_text())[1])
+
+    def logged(self):
+        """The milliseconds of PUTs and of publications, by the log. The last line may come after the reply."""
+        for _ in range(100):
+            took = {"PUT": [], "POST": []}
+            for method, micros in REQUEST.findall(self.log.read_text()):
+                took[method].append(int(micros) / 1000)
+            if (len(took["PUT"]), len(took["POST"])) == (len(self.puts), len(self.publications)):
+                return took["PUT"], took["POST"]
+            time.sleep(0.1)
+        sys.exit("publication.sh: the log hasn't a line for each request")
+
+
+@contextmanager
+def server(field, *prefix):
+    """Runs a server, after a command that is put before it, until it answers and as long as it is wanted."""
+    with socket.socket() as free:
+        free.bind(("127.0.0.1", 0))
+        port = free.getsockname()[1]
+    log = Path("log")
+    with log.open("wb") as out:
+        words = [*prefix, HIPSD, "serve", f"127.0.0.1:{port}", "65536", "1"]
+        process = subprocess.Popen(words, cwd=field.folder, stderr=out, env={**os.environ, "HIPSD_LOG": "debug"})
+    try:
+        until = time.monotonic() + 300
+        while "loaded" not in log.read_text():
+            if process.poll() is not None or time.monotonic() > until:
+                sys.exit(f"publication.sh: the server doesn't answer: {log.read_text()}")
+            time.sleep(0.01)
+        yield Server(field, port, log)
+    finally:
+        process.kill()
+        process.wait()
+
+
+def told(times):
+    return f"{min(times):.2f}, {statistics.median(times):.2f}"
+
+
+def time_publications(field, plans):
+    """Prints what publications take; each plan is how many leaves each replaces, and how many there are in a run."""
+    for count, publications in plans:
+        puts, publications_took, to_client, puts_to_client = [], [], [], []
+        for _ in range(RUNS):
+            with server(field) as running:
+                for number in range(publications):
+                    running.publish(count, number)
+                by_log = running.logged()
+            puts += by_log[0]
+            publications_took += by_log[1]
+            puts_to_client += running.puts
+            to_client += running.publications
+        print(f"  a publication of {count}: {told(publications_took)} ms, to the client {told(to_client)}; "
+              f"a PUT {told(puts)}, to the client {told(puts_to_client)}")
+
+
+def time_starts(field):
+    """Prints what the server takes to read the leaves and to make the first generation."""
+    for name, prefix in ("all processors", ()), ("one", ("taskset", "-c", "0")):
+        times = []
+        for _ in range(RUNS):
+            with server(field, *prefix) as running:
+                times.append(running.loaded())
+        print(f"  loaded by {name} in {told(times)} ms")
+
+
+print(f"{len(os.sched_getaffinity(0))} processors, least and middle of {RUNS} runs")
+for title, field, plans in (
+    ("a full sky of order 3, 768 leaves of 512 by 512, 16 bits", ("full", 3, 512, 768), ((1, 20), (64, 4), (256, 1))),
+    ("65,536 leaves of order 11, of 32 by 32", ("deep", 11, 32, 65536), ((1, 100),)),
+):
+    field = Field(*field)
+    print(f"{title}:")
+    time_starts(field)
+    time_publications(field, plans)
+PYTHON

@@ -12,18 +12,49 @@
  *                               here, as standard output; prints its exit status, the bytes that came through the pipe, and
  *                               microseconds of its processor time (user and system) and on the wall */
 #define _GNU_SOURCE
-#include "tiles.h"
 #include <fcntl.h>
+#include <stdint.h>
+#include <stdio.h>
+#include <stdlib.h>
+#include <string.h>
 #include <sys/resource.h>
 #include <sys/wait.h>
+#include <time.h>
 #include <unistd.h>
 
+enum { SIDE = 512, PIXELS = SIDE * SIDE };
 enum { BLOCK = 2880, FILE_BYTES = BLOCK + (2 * PIXELS + BLOCK - 1) / BLOCK * BLOCK, ROUNDS = 8, COPIES = 10000, LEAVES = 768 };
 enum { PIPE_BYTES = 1 << 20 };
 
 static void stop(const char *what) {
     perror(what);
     exit(2);
+}
+
+static void *checked(void *memory) {
+    if (memory == NULL) stop("malloc");
+    return memory;
+}
+
+/* Nanoseconds of a clock. */
+static double now(clockid_t clock) {
+    struct timespec t;
+    clock_gettime(clock, &t);
+    return t.tv_sec * 1e9 + t.tv_nsec;
+}
+
+/* Numbers that a linear congruence gives, a sixteenth of them blank. */
+static void fill(uint8_t *numbers) {
+    uint32_t state = 1;
+    for (int i = 0; i < PIXELS; i++, numbers += 2) {
+        state = state * 1664525u + 1013904223u;
+        int is_blank = state >> 28 == 0;
+        for (int place = 0; place < 2; place++) {
+            state = state * 1664525u + 1013904223u;
+            uint8_t byte = (uint8_t)(state >> 24);
+            numbers[place] = is_blank ? (place == 0 ? 128 : 0) : byte - (place == 0 && byte == 128);
+        }
+    }
 }
 
 static uint8_t *tile_file(void) {
@@ -37,9 +68,7 @@ static uint8_t *tile_file(void) {
         memcpy(at, text, (size_t)snprintf(text, sizeof text, "%-8s= %20s", cards[i][0], cards[i][1]));
     }
     memcpy(at, "END", 3);
-    uint8_t *numbers = child(2, 1, 1);
-    memcpy(file + BLOCK, numbers, 2 * PIXELS);
-    free(numbers);
+    fill(file + BLOCK);
     return file;
 }
 

@@ -3,9 +3,10 @@
 #
 #     examples/backup.sh [--release-date] ADDRESS FOLDER
 #
-# ADDRESS is the server's own, such as 127.0.0.1:8080: a proxy keeps no pin. With @FILE it is read from the lines `server ADDRESS;` of
-# the file, by which nginx goes to the server; if there are several, a server that doesn't answer is followed by the next. FOLDER is a
-# symbolic link to the last copy, or nothing yet. The copies stand beside it: FOLDER.20261129T094500Z.
+# ADDRESS is the server's own, such as 127.0.0.1:8080 or the path of its Unix socket: a proxy keeps no pin. With @FILE it is read from the
+# lines `server ADDRESS;` or `server unix:ADDRESS;` of the file, by which nginx goes to the server; if there are several, a server that
+# doesn't answer is followed by the next. FOLDER is a symbolic link to the last copy, or nothing yet. The copies stand beside it:
+# FOLDER.20261129T094500Z.
 #
 # One published state is copied into a new folder, whatever is edited and published meanwhile. Its survey.conf is made from its
 # properties, and `hipsd verify` reads all files again. Only then does the link point to it; if a step fails, the link stays as it was.
@@ -51,7 +52,7 @@ fi
 # addresses WORD: the server's addresses, one a line.
 addresses() {
     case $1 in @*) ;; *) echo "$1" && return ;; esac
-    named=$(sed -n 's/^ *server \([0-9A-Za-z.:-]*\)[ ;].*/\1/p' "${1#@}" | sort -u)
+    named=$(sed -n -e 's/^ *server unix:\(\/[^ ;]*\)[ ;].*/\1/p' -e 's/^ *server \([0-9A-Za-z.:-]*\)[ ;].*/\1/p' "${1#@}" | sort -u)
     [ -n "$named" ] || refuse "${1#@} names no server"
     echo "$named"
 }

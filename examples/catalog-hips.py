@@ -26,11 +26,13 @@ import shutil
 import sys
 import tempfile
 import time
+import warnings
 from datetime import datetime, timezone
 from pathlib import Path
 
 import numpy
 from astropy.io import fits
+from astropy.io.votable.exceptions import VOWarning
 from astropy.table import Column, Table
 
 HEAD = "rank\tnpix\tid\trest"
@@ -150,7 +152,7 @@ def is_number(text, kind):
 def columns_of(sources, words):
     """The columns of the sources as a table without rows, `ra` and `dec` first, and the key in the rests of each."""
     if words.columns:
-        told = Table.read(words.columns, format="votable")
+        told = Table.read(words.columns, format="votable", use_names_over_ids=True)
         # The first of them is that of the ids.
         columns = {ID: told.columns[0], **{name: told[name] for name in told.colnames[1:]}}
         words.ra, words.dec = (by_ucd(told, f"pos.eq.{axis};meta.main") or axis for axis in ("ra", "dec"))
@@ -191,12 +193,14 @@ def positions(sources, keys):
 def say_units(table, units):
     """Gives columns the units that were said; a proper motion has to have one."""
     for text in units:
-        name, _, unit = text.partition("=")
+        name, _, unit = text.rpartition("=")
+        # As the rows have it.
+        name = re.sub(r"[\s=]", "_", name.strip())
         if name not in table.colnames:
             raise Refused(f"there is no column {name} that could have the unit {unit}; there are {', '.join(table.colnames)}")
         table[name].unit = unit
     for name in table.colnames:
-        if re.search("pmra|pmde", name, re.IGNORECASE) and not table[name].unit:
+        if re.search("pm_?(ra|de)", name, re.IGNORECASE) and not table[name].unit:
             raise Refused(f"the proper motion {name} has no unit; say it by --unit {name}=mas/yr")
 
 
@@ -342,6 +346,8 @@ def main():
     parser.add_argument("--release-date", metavar="DATE", help="now, if it isn't said")
     parser.add_argument("--replace", action="store_true")
     words = parser.parse_args()
+    # A name such as pm_RA* becomes an identifier in a VOTable; that astropy says so helps nobody.
+    warnings.simplefilter("ignore", VOWarning)
     begun = time.monotonic()
     try:
         refused = refusal(Path(words.hips), words.replace)

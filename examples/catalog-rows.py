@@ -22,9 +22,13 @@ import gzip
 import lzma
 import re
 import sys
+import warnings
 from collections import Counter
 
 import numpy
+from astropy.io.registry import IORegistryError
+from astropy.io.votable import from_table, is_votable
+from astropy.io.votable.exceptions import VOWarning
 from astropy.table import Column, Table
 
 LAST_RANK = 2**64 - 1
@@ -50,6 +54,9 @@ def table_of(path, form):
                 left -= len(part)
         if left < 0:
             sys.exit(f"catalog-rows.py: {path} unpacks to more than {most >> 30} GB")
+    if form == "votable" or (form is None and is_votable(path)):
+        # Its columns by their names, and not by the identifiers that stand beside these.
+        return Table.read(path, format="votable", use_names_over_ids=True)
     return Table.read(path, format=form)
 
 
@@ -66,9 +73,20 @@ def cells(order, ra, dec):
         return HEALPix(nside=2**order, order="nested").lonlat_to_healpix(ra * units.deg, dec * units.deg)
 
 
-def numbers(column):
+def numbers(table, name):
     """A column as floating-point numbers, NaN where there is none."""
-    return numpy.ma.filled(numpy.ma.asarray(column, dtype=float), numpy.nan)
+    try:
+        return numpy.ma.filled(numpy.ma.asarray(table[name], dtype=float), numpy.nan)
+    except (TypeError, ValueError):
+        sys.exit(f"catalog-rows.py: the column {name} has texts in place of numbers")
+
+
+def degrees(table, name):
+    """The same of a column of angles, which has to be in degrees."""
+    unit = table[name].info.unit
+    if unit is not None and str(unit).lower() not in ("deg", "degree", "degrees"):
+        sys.exit(f"catalog-rows.py: the column {name} is in {unit}, and positions are in degrees")
+    return numbers(table, name)
 
 
 def ranks(mag):
@@ -97,6 +115,23 @@ def words(values):
     return found
 
 
+def vector(values):
+    """The values of a cell that has several, each as itself, with a comma between each two; one that is masked is empty."""
+    cells = numpy.ma.asarray(values).ravel()
+    return ",".join(["" if is_masked else word(value) for value, is_masked in zip(cells.data, numpy.ma.getmaskarray(cells))])
+
+
+def fields_of(names):
+    """The names of columns as those of fields: without blanks and `=`, and no two alike."""
+    found = {}
+    for name in dict.fromkeys(names):
+        key = word(name).replace("=", "_") or "_"
+        while key in found.values():
+            key += "_"
+        found[name] = key
+    return found
+
+
 def texts(column):
     """The values of a column as texts; those that are masked are None."""
     kind = column.dtype.kind if isinstance(column, Column) and column.ndim == 1 else "O"
@@ -106,6 +141,8 @@ def texts(column):
         found = list(map(str, numpy.asarray(column)))
     elif kind in "US":
         found = words(numpy.asarray(column).tolist())
+    elif getattr(column, "ndim", 1) > 1:
+        return list(map(vector, column))
     else:
         return [None if numpy.ma.is_masked(value) else word(value) for value in column]
     for place in numpy.flatnonzero(numpy.ma.getmaskarray(column)) if hasattr(column, "mask") else ():
@@ -125,8 +162,8 @@ def ids(column, first):
 
 
 def rests(table, names, unfit):
-    """What stands behind the ids: of each row as many columns as fit whole. What doesn't fit is counted."""
-    marked = [marks(word(name), texts(table[name])) for name in names]
+    """What stands behind the ids: of each row as many columns, by the names of their fields, as fit whole. What doesn't fit is counted."""
+    marked = [marks(key, texts(table[name])) for name, key in names.items()]
     if all(None not in column for column in marked):
         found = list(map(" ".join, zip(*marked)))
     else:
@@ -134,7 +171,7 @@ def rests(table, names, unfit):
     if max(map(len, found)) > MOST_REST or not "".join(found).isascii():
         for place, rest in enumerate(found):
             if len(rest.encode()) > MOST_REST:
-                found[place] = fitting(names, [column[place] for column in marked], unfit)
+                found[place] = fitting(list(names), [column[place] for column in marked], unfit)
     return found
 
 
@@ -159,15 +196,15 @@ def fitting(names, fields, unfit):
 
 
 def columns_of(table, told, names):
-    """A table without rows whose columns have the types, units, UCDs and descriptions of this one's."""
+    """A table without rows whose columns have the types, units, UCDs and descriptions of this one's, and the names of its fields."""
     usual = {told.ra: ("pos.eq.ra;meta.main", "deg"), told.dec: ("pos.eq.dec;meta.main", "deg"), told.mag: ("phot.mag", "mag"),
              told.id: ("meta.id;meta.main", None)}
     described = Table()
-    for name in [told.id, *names]:
+    for name, key in names.items():
         column = table[name]
         is_number = isinstance(column, Column) and column.ndim == 1 and column.dtype.kind in "iuf"
-        described[word(name)] = Column(dtype=column.dtype if is_number else "U1", length=0, description=column.info.description)
-        made = described[word(name)]
+        described[key] = Column(dtype=column.dtype if is_number else "U1", length=0, description=column.info.description)
+        made = described[key]
         ucd, unit = usual.get(name, (None, None))
         made.unit = column.info.unit or unit
         said = (column.info.meta or {}).get("ucd") or table.meta.get(f"TUCD{table.colnames.index(name) + 1}")
@@ -180,8 +217,6 @@ def columns_of(table, told, names):
 
 def write_columns(path, described):
     """Writes them as a VOTable; a column of texts has any length."""
-    from astropy.io.votable import from_table
-
     made = from_table(described)
     for field in made.get_first_table().fields:
         if field.datatype in ("char", "unicodeChar"):
@@ -200,24 +235,29 @@ def main():
     parser.add_argument("--format", default=None, help="as astropy names it, where the name of the file doesn't tell it")
     parser.add_argument("--columns", default=None, metavar="FILE", help="becomes a VOTable of the columns, for catalog-hips.py")
     told = parser.parse_args()
+    # What astropy says of small faults of a VOTable helps nobody here, and may be thousands of lines.
+    warnings.simplefilter("ignore", VOWarning)
     try:
         table = table_of(told.table, told.format)
-    except (OSError, EOFError, lzma.LZMAError) as fault:
-        sys.exit(f"catalog-rows.py: {told.table} can't be read: {fault}")
+    except (OSError, EOFError, ValueError, lzma.LZMAError, IORegistryError) as fault:
+        why = "--format names its format, as astropy does" if isinstance(fault, IORegistryError) else fault
+        sys.exit(f"catalog-rows.py: {told.table} can't be read: {why}")
     for name in (told.ra, told.dec, told.mag, told.id):
         if name not in table.colnames:
             sys.exit(f"catalog-rows.py: there is no column {name}; there are {', '.join(table.colnames)}")
     if len(table) > MOST_ROWS:
         sys.exit(f"catalog-rows.py: {len(table):,} sources, and a catalogue has at most {MOST_ROWS:,}: make several, each of a part of the table")
-    ra, dec, mag = (numbers(table[name]) for name in (told.ra, told.dec, told.mag))
+    ra, dec, mag = degrees(table, told.ra), degrees(table, told.dec), numbers(table, told.mag)
     if not (numpy.isfinite(ra).all() and numpy.isfinite(dec).all() and (abs(dec) <= 90).all()):
         sys.exit("catalog-rows.py: a source has no position in degrees")
     npix = cells(told.order, ra % 360, dec).tolist()
     rank = ranks(mag)
     names = [told.ra, told.dec, told.mag]
     names += [name for name in table.colnames if name not in names and name != told.id]
+    known = fields_of([told.id, *names])
     if told.columns:
-        write_columns(told.columns, columns_of(table, told, names))
+        write_columns(told.columns, columns_of(table, told, known))
+    names = {name: known[name] for name in names}
     unfit = Counter()
     for first in range(0, len(table), PART):
         part = slice(first, first + PART)

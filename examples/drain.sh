@@ -4,24 +4,37 @@
 #
 #     examples/drain.sh ADDRESS
 #
-# If nginx goes to ADDRESS (the line `server ADDRESS;` of HIPSD_SITE), it makes the file HIPSD_AWAY; while that exists, nginx answers 503.
-# Then it waits until no connection to the server is open, at most HIPSD_WAIT seconds; hipsd closes idle ones after 10. The unit removes
-# the file once the server has ended. If nginx goes elsewhere, as after rollover.sh, readers notice nothing.
+# ADDRESS is that of the server: an address with a port, or the path of a Unix socket. If nginx goes there (the line `server ADDRESS;` or
+# `server unix:ADDRESS;` of HIPSD_SITE), it makes the file HIPSD_AWAY; while that exists, nginx answers 503. Then it waits until no
+# connection to the server is open, at most HIPSD_WAIT seconds; hipsd closes idle ones after 30. The unit removes the file once the server
+# has ended. If nginx goes elsewhere, as after rollover.sh, readers notice nothing.
 #
 # The status is 0, since the server ends anyway.
 site=${HIPSD_SITE:-/etc/nginx/hipsd.port.conf}
 away=${HIPSD_AWAY:-/run/hipsd.away}
 wait=${HIPSD_WAIT:-45}
 address=$1
-port=${address##*:}
+case $address in */*) named=unix:$address ;; *) named=$address ;; esac
 
-if sed -n 's/^ *server \([^ ;]*\)[ ;].*/\1/p' "$site" 2>/dev/null | grep -qxF "$address"; then
+if sed -n 's/^ *server \([^ ;]*\)[ ;].*/\1/p' "$site" 2>/dev/null | grep -qxF "$named"; then
     : >"$away" || echo "drain.sh: $away can't be written, so the proxy goes on"
 fi
 
-# open: how many connections to the server's port are established.
+# open: how many connections to the server are established.
 open() {
-    awk -v port="$(printf ':%04X' "$port")" 'substr($2, length($2) - 4) == port && $4 == "01"' /proc/self/net/tcp /proc/self/net/tcp6 2>/dev/null | wc -l
+    case $address in
+        */*) awk -v path="$address" '$NF == path && $6 == "03"' /proc/self/net/unix 2>/dev/null ;;
+        *) awk -v port="$(printf ':%04X' "${address##*:}")" 'substr($2, length($2) - 4) == port && $4 == "01"' /proc/self/net/tcp /proc/self/net/tcp6 2>/dev/null ;;
+    esac | wc -l
+}
+# ask PATH WORD ..: curl's WORDs at the server.
+ask() {
+    path=$1
+    shift
+    case $address in
+        */*) curl -s --max-time 5 --unix-socket "$address" "$@" "http://hipsd/$path" ;;
+        *) curl -s --max-time 5 "$@" "http://$address/$path" ;;
+    esac
 }
 seconds=0
 while [ "$(open)" -gt 0 ] && [ "$seconds" -lt "$wait" ]; do
@@ -32,9 +45,9 @@ left=$(open)
 [ "$left" = 0 ] || echo "drain.sh: $left connections to $address are open after $seconds seconds, and end with the server"
 
 # A batch that removes a leaf twice is refused in any state, and says how many edits there are.
-edits=$(printf 'remove 0\nremove 0\n' | curl -s -D - -o /dev/null --max-time 5 -H 'Content-Type:' --data-binary @- "http://$address/batch" |
+edits=$(printf 'remove 0\nremove 0\n' | ask batch -D - -o /dev/null -H 'Content-Type:' --data-binary @- |
     tr -d '\r' | sed -n 's/^survey-edits: \([0-9]*\)$/\1/Ip')
-published=$(curl -s -I --max-time 5 "http://$address/properties" | tr -d '\r' | sed -n 's/^survey-prefix: \([0-9]*\)$/\1/Ip')
+published=$(ask properties -I | tr -d '\r' | sed -n 's/^survey-prefix: \([0-9]*\)$/\1/Ip')
 if [ -n "$edits" ] && [ -n "$published" ]; then
     echo "drain.sh: $address ends, and with it the $edits edits since its start, $((edits - published)) of them never published"
 else

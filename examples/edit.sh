@@ -12,7 +12,8 @@
 #     examples/edit.sh replay FOLDER ADDRESS [EDITS]   the edits and publications of a journal, in order, to a fresh server, or to
 #                                           one that has accepted EDITS edits of others
 #
-# HIPSD is the server's address, http://127.0.0.1:8080 if it isn't set; curl takes a password from ~/.netrc.
+# HIPSD is the server's address, http://127.0.0.1:8080 if it isn't set; curl takes a password from ~/.netrc. If hipsd listens at a Unix
+# socket, HIPSD_SOCKET is its path, and HIPSD isn't needed.
 # With a folder in HIPSD_JOURNAL each edit, batch and publication is written there and is on the disk before it is sent, and is marked
 # once it is answered. So a server that ended can have its edits again, by `replay`, over the folder that it was started with. If the
 # server has started again since the journal's last edit, its number of edits shows it: then nothing is sent.
@@ -24,6 +25,7 @@ set -eu
 export LC_ALL=C
 base=${HIPSD:-http://127.0.0.1:8080}
 base=${base%/}
+socket=${HIPSD_SOCKET:-}
 journal=${HIPSD_JOURNAL:-}
 tries=${HIPSD_TRIES:-6}
 case $journal in '' | /*) ;; *) journal=./$journal ;; esac
@@ -64,7 +66,7 @@ wants() {
 
 # quietly WORD ..: curl, in words that a person can read where it fails.
 quietly() {
-    curl -sS --globoff --proto '=http,https' --netrc-optional "$@"
+    curl -sS --globoff --proto '=http,https' --netrc-optional ${socket:+--unix-socket "$socket"} "$@"
 }
 
 # address ADDRESS: refuses what is no address, before it gets into curl's configuration.
@@ -418,6 +420,7 @@ said() {
 group() {
     printf 'silent\nshow-error\nfail\ngloboff\nnetrc-optional\ncreate-dirs\nmax-time = 60\n'
     said proto '=http,https'
+    [ -z "$socket" ] || said unix-socket "$socket"
     said dump-header "$work/heads/$1"
     printf 'write-out = "%%{http_code} %%{url_effective}\\n"\n'
 }

@@ -4,8 +4,9 @@
 #
 #     examples/rollover.sh [--when PERCENT] [--release-date] [OLD NEW]
 #
-# OLD is the address of the running server, NEW an address of this machine where nobody listens, as nginx spells them (127.0.0.1:8080,
-# 127.0.0.1:8081). Without them OLD is where nginx goes, and NEW the same with port 8081, or with 8080 if OLD has 8081.
+# OLD is the address of the running server, NEW an address of this machine where nobody listens, as nginx spells them (127.0.0.1:8080 and
+# 127.0.0.1:8081, or unix:/run/hipsd/8080 and unix:/run/hipsd/8081). Without them OLD is where nginx goes, and NEW the same with 8081 in
+# place of 8080, or the other way round.
 #
 # --when renews the server only if it has taken that percentage of the edits that it can take. It can take 65,536, and its leaves at the
 # start and the tiles of its edits may be 536,870,912 bytes; an edit that removes a leaf is counted as a tile too.
@@ -21,8 +22,8 @@
 # If a step fails, the first server and edits go on, and the status is 1. The new server has no edits: its Survey-Prefix is 0, and a
 # journal of edits (edit.sh) begins anew. After a reboot the new one starts.
 #
-# Variables, with their defaults. The last four are commands, which find ADDRESS, PORT and FOLDER set; HIPSD_STRANGER succeeds if an
-# ordinary user reaches the address.
+# Variables, with their defaults. The last four are commands, which find ADDRESS, PORT and FOLDER set, PORT to the last part of a path;
+# HIPSD_STRANGER succeeds if an ordinary user reaches the address.
 site=${HIPSD_SITE:-/etc/nginx/hipsd.port.conf}
 servers=${HIPSD_SERVERS:-/var/lib/hipsd}
 paused=${HIPSD_PAUSED:-/run/hipsd.paused}
@@ -33,7 +34,11 @@ begin=${HIPSD_BEGIN:-'systemctl enable --quiet --now "hipsd@$PORT"'}
 finish=${HIPSD_FINISH:-'systemctl disable --quiet --now "hipsd@$PORT"'}
 reload=${HIPSD_RELOAD:-'nginx -t -q && nginx -s reload'}
 # shellcheck disable=SC2016
-stranger=${HIPSD_STRANGER:-'setpriv --reuid=nobody --regid=nogroup --clear-groups bash -c "exec 3<>/dev/tcp/\$0/\$1" "${ADDRESS%:*}" "$PORT" 2>/dev/null'}
+stranger=${HIPSD_STRANGER:-'nobody="setpriv --reuid=nobody --regid=nogroup --clear-groups"
+    case $ADDRESS in
+        unix:*) $nobody curl -s -o /dev/null --unix-socket "${ADDRESS#unix:}" http://hipsd/properties ;;
+        *) $nobody bash -c "exec 3<>/dev/tcp/\$0/\$1" "${ADDRESS%:*}" "$PORT" 2>/dev/null ;;
+    esac'}
 set -u
 # The server's user reads the copy.
 umask 022
@@ -61,8 +66,8 @@ case $# in
     0)
         old=$(sed -n 's/^ *server \([^ ;]*\)[ ;].*/\1/p' "$site" | sort -u)
         case $old in '' | *[[:space:]]*) refuse "$site doesn't name one server: '$old'" ;; esac
-        new=${old%:*}:8081
-        [ "$new" != "$old" ] || new=${old%:*}:8080
+        new=${old%"${old##*[:/]}"}8081
+        [ "$new" != "$old" ] || new=${old%8081}8080
         ;;
     2) old=$1 new=$2 ;;
     *) refuse "usage: rollover.sh [--when PERCENT] [--release-date] [OLD NEW]" ;;
@@ -71,9 +76,25 @@ grep -qE "server ${old//./\\.}[ ;]" "$site" || refuse "$site has no line 'server
 work=$(mktemp -d) || exit 1
 started=
 
+# ask ADDRESS PATH WORD ..: curl's WORDs at a server.
+ask() {
+    local server=$1 path=$2
+    shift 2
+    case $server in
+        unix:*) curl -s --unix-socket "${server#unix:}" "$@" "http://hipsd/$path" ;;
+        *) curl -s "$@" "http://$server/$path" ;;
+    esac
+}
+# listens ADDRESS: whether somebody does.
+listens() {
+    case $1 in
+        unix:*) ask "$1" properties -o /dev/null --max-time 60 ;;
+        *) (exec 3<>"/dev/tcp/${1%:*}/${1##*:}") 2>/dev/null ;;
+    esac
+}
 # edits ADDRESS: how many edits the server has accepted. A batch that removes a leaf twice is refused in any state, and says so.
 edits() {
-    printf 'remove 0\nremove 0\n' | curl -s -D - -o "$work/body" --max-time 60 -H 'Content-Type:' --data-binary @- "http://$1/batch" |
+    printf 'remove 0\nremove 0\n' | ask "$1" batch -D - -o "$work/body" --max-time 60 -H 'Content-Type:' --data-binary @- |
         tr -d '\r' | sed -n 's/^survey-edits: \([0-9]*\)$/\1/Ip'
 }
 # property KEY: a number in the properties of the server at OLD.
@@ -82,11 +103,11 @@ property() {
 }
 # full: whether the server has taken $when percent of the edits that it can take.
 full() {
-    curl -s -f -o "$work/old" --max-time 60 "http://$old/properties" || refuse "$old doesn't answer"
+    ask "$old" properties -f -o "$work/old" --max-time 60 || refuse "$old doesn't answer"
     count=$(edits "$old")
     [ -n "$count" ] || refuse "$old doesn't say how many edits it has taken"
-    leaves=$(find -L "$servers/${old##*:}/Norder$(property hips_order)" -name 'Npix*.fits' 2>/dev/null | wc -l)
-    [ -d "$servers/${old##*:}" ] || leaves=$(property survey_leaves)
+    leaves=$(find -L "$servers/${old##*[:/]}/Norder$(property hips_order)" -name 'Npix*.fits' 2>/dev/null | wc -l)
+    [ -d "$servers/${old##*[:/]}" ] || leaves=$(property survey_leaves)
     width=$(property hips_tile_width)
     tile=$((width * width * $(property survey_bitpix) / 8))
     room=$((536870912 / (tile < 1024 ? 1024 : tile) - leaves))
@@ -96,7 +117,7 @@ full() {
 }
 # at ADDRESS COMMAND: one of the commands above.
 at() {
-    ADDRESS=$1 PORT=${1##*:} FOLDER=$servers/${1##*:} bash -c "$2"
+    ADDRESS=$1 PORT=${1##*[:/]} FOLDER=$servers/${1##*[:/]} bash -c "$2"
 }
 # shellcheck disable=SC2317 # it is called by the trap
 undo() {
@@ -108,7 +129,7 @@ trap 'rm -rf "$work"' EXIT
 trap 'exit 1' INT TERM
 [ -z "$when" ] || full || exit 0
 [ ! -e "$paused" ] || refuse "$paused is there: edits are paused already"
-(exec 3<>"/dev/tcp/${new%:*}/${new##*:}") 2>/dev/null && refuse "somebody listens at $new already"
+listens "$new" && refuse "somebody listens at $new already"
 trap undo EXIT
 fail() {
     say "$*. The server at $old goes on."
@@ -129,7 +150,7 @@ turned() {
 }
 # published ADDRESS: publishes the accepted edits, and says how many they are.
 published() {
-    curl -s -D - -o "$work/body" --max-time 600 -X POST "http://$1/publish" | tr -d '\r' | sed -n 's/^survey-prefix: \([0-9]*\)$/\1/Ip'
+    ask "$1" publish -D - -o "$work/body" --max-time 600 -X POST | tr -d '\r' | sed -n 's/^survey-prefix: \([0-9]*\)$/\1/Ip'
 }
 
 # 1.
@@ -143,7 +164,7 @@ copied=
 for _ in 1 2 3; do
     count=$(published "$old")
     [ -n "$count" ] || fail "nothing is published at $old: $(head -c 200 "$work/body" 2>/dev/null)"
-    HIPSD_KEEP=1 "$here/backup.sh" ${release:+"$release"} "$old" "$servers/${new##*:}" || fail "there is no copy"
+    HIPSD_KEEP=1 "$here/backup.sh" ${release:+"$release"} "${old#unix:}" "$servers/${new##*[:/]}" || fail "there is no copy"
     if [ "$(edits "$old")" = "$count" ]; then
         copied=yes
         break
@@ -157,7 +178,7 @@ started=yes
 at "$new" "$begin" || fail "no server can be started at $new"
 ready=
 for _ in $(seq 1200); do
-    curl -s -f -o "$work/new" --max-time 60 "http://$new/properties" && ready=yes && break
+    ask "$new" properties -f -o "$work/new" --max-time 60 && ready=yes && break
     sleep 0.25
 done
 [ -n "$ready" ] || fail "the server at $new doesn't answer"
@@ -166,8 +187,8 @@ if at "$new" "$stranger"; then
     say "any user of this machine may edit at $new, as at $old: load hipsd.nft"
 fi
 for path in properties Moc.fits; do
-    curl -s -f -o "$work/old" --max-time 60 "http://$old/$path" || fail "$path can't be read at $old"
-    curl -s -f -o "$work/new" --max-time 60 "http://$new/$path" || fail "$path can't be read at $new"
+    ask "$old" "$path" -f -o "$work/old" --max-time 60 || fail "$path can't be read at $old"
+    ask "$new" "$path" -f -o "$work/new" --max-time 60 || fail "$path can't be read at $new"
     [ -z "$release" ] || sed -i '/^hips_release_date = /d' "$work/old" "$work/new"
     cmp -s "$work/old" "$work/new" || fail "the server at $new has another $path"
 done
@@ -180,10 +201,10 @@ back() {
     cp -p "$work/site" "$site" && turned
     fail "$1"
 }
-sed -i "s/server ${old//./\\.}\([ ;]\)/server $new\1/" "$site" || fail "$site can't be written"
+sed -i "s#server ${old//./\\.}\([ ;]\)#server $new\1#" "$site" || fail "$site can't be written"
 turned || back "nginx doesn't take the address $new"
 [ "$(edits "$old")" = "$count" ] || back "an edit came past the proxy, and isn't in the copy"
 started=
 rm -f "$paused"
 at "$old" "$finish" || say "the server at $old can't be ended; nobody is sent to it any more"
-say "the server at $new has taken over, with $(realpath "$servers/${new##*:}")"
+say "the server at $new has taken over, with $(realpath "$servers/${new##*[:/]}")"

@@ -2,8 +2,8 @@
 `once`, and says what `trial` is.
 
 - Positions that are written, and those that the page doesn't take; what stands under a pointer, after arrow keys, under a finger.
-- How many milliseconds of the browser's main thread a frame takes while the view moves; the first picture, also on a slow line; how
-  many bytes come for it, and for a publication; a change that coarser tiles don't show.
+- Frames a second while the view moves, and how many milliseconds of the browser's main thread each takes; the first picture, also on
+  a slow line; how many bytes come for a view, and for a publication; a change that coarser tiles don't show.
 - A tile that examples/edit-tile.py edits.
 - The scale bar, the colour bar, cuts that are typed, galactic coordinates, Back and Forward, files that are saved, dark and light.
 - A server that begins anew; a catalogue over the sky; the picture that WebGL draws.
@@ -33,9 +33,10 @@ EXAMPLES = Path(__file__).resolve().parent.parent / "examples"
 SIZES = {"1280 by 800": (1280, 800, False), "1920 by 1080": (1920, 1080, False), "390 by 844": (390, 844, True)}
 VIEW = (80, 20, 30)
 # What a busy machine of two processors meets; a page that fetches or draws too much is far beyond.
-MOST_MILLISECONDS_A_FRAME = 50
+MOST_MILLISECONDS_A_FRAME, LEAST_FRAMES_A_SECOND = 50, 5
 MOST_FIRST, MOST_FIRST_ON_A_SLOW_LINE = 8, 12
-MOST_BYTES_OF_A_PUBLICATION = 200_000
+# Far below the mosaic's 6,400,000.
+MOST_BYTES_OF_A_VIEW, MOST_BYTES_OF_A_PUBLICATION = 3_000_000, 200_000
 LEAST_FINGER = 40
 FRAMES = """
 const done = arguments[arguments.length - 1], canvas = document.getElementById("lines"), begun = performance.now();
@@ -122,8 +123,8 @@ def first_picture(trial, name, sent):
     size = sum(size for _, size in sent)
     if not first or first > MOST_FIRST:
         trial.blame(f"{name}: the first picture comes after {first} s")
-    if "/Norder3/Allsky.fits" in paths:
-        trial.blame(f"{name}: the mosaic is fetched for a view of {VIEW[2]} degrees")
+    if size > MOST_BYTES_OF_A_VIEW or "/Norder3/Allsky.fits" in paths:
+        trial.blame(f"{name}: {size} bytes are fetched for a view of {VIEW[2]} degrees")
     orders = [int(path.split("/")[1].removeprefix("Norder")) for path in paths if path.startswith("/Norder")]
     if orders != sorted(orders) or orders[:1] != [0]:
         trial.blame(f"{name}: tiles don't come by the coarsest order first: {orders}")
@@ -270,13 +271,19 @@ def frames(trial, name):
     for what, view in (("30 degrees", VIEW), ("whole sky", (40, 0, 360))):
         turn(trial, view, "grid=1&coverage=1&cells=0&changes=1&colours=dusk&bend=0")
         trial.browser.execute_cdp_cmd("Performance.enable", {"timeDomain": "threadTicks"})
-        before = thread_seconds(trial)
-        count, milliseconds = trial.browser.execute_async_script(FRAMES)
-        spent = 1000 * (thread_seconds(trial) - before) / count
-        told.append(f"{what} {1000 * count / milliseconds:.0f} frames a second, {spent:.0f} ms of the main thread each")
-        if spent > MOST_MILLISECONDS_A_FRAME:
-            trial.blame(f"{name}: a frame of {what} takes {spent:.0f} ms of the main thread")
+        # Something else may hold the machine up for a second, hardly for three.
+        rate, spent = max((a_second_of_frames(trial) for _ in range(3)), key=lambda found: found[0])
+        told.append(f"{what} {rate:.0f} frames a second, {spent:.0f} ms of the main thread each")
+        if spent > MOST_MILLISECONDS_A_FRAME or rate < LEAST_FRAMES_A_SECOND:
+            trial.blame(f"{name}: {told[-1]}")
     print(f"check-atlas: {name}: {'; '.join(told)}")
+
+
+def a_second_of_frames(trial):
+    """How many come a second, and milliseconds of the main thread for each."""
+    before = thread_seconds(trial)
+    count, milliseconds = trial.browser.execute_async_script(FRAMES)
+    return 1000 * count / milliseconds, 1000 * (thread_seconds(trial) - before) / count
 
 
 def thread_seconds(trial):

@@ -1,7 +1,8 @@
 #!/usr/bin/python3
 """Makes catalogues of tables by examples/catalog.sh, and reads what viewers read of them: catalog-client.py PROGRAM.
 
-- Every source of the table is in one tile, with the table's columns, types, units and UCDs; by healpy it lies in the tile's cell.
+- Every source of the table is in one tile, with the table's columns, types, units and UCDs, blanks in their names and vectors among
+  them; by healpy it lies in the tile's cell.
 - The first line of a tile, the two files of whole orders, properties and the coverage agree with the tiles.
 - stilts reads a tile and judges metadata.xml.
 - Rows that were made for another order are refused, and so are more than a million sources, an order that is too deep, and a
@@ -19,12 +20,14 @@ import sys
 import tempfile
 import threading
 import time
+import warnings
 from http.server import SimpleHTTPRequestHandler, ThreadingHTTPServer
 from pathlib import Path
 
 import healpy
 import numpy
 from astropy.io import ascii, fits
+from astropy.io.votable.exceptions import VOWarning
 from astropy.table import MaskedColumn, Table
 from PIL import Image
 
@@ -57,6 +60,8 @@ def table_of(count):
     made["pmRA"] = MaskedColumn(numpy.round(chance.normal(0, 9, len(ra)), 3), mask=chance.random(len(ra)) < 0.2)
     made["flag"] = chance.integers(-9, 9, len(ra)).astype("i2")
     made["kind"] = chance.choice(["star", "galaxy", "quasar"], len(ra))
+    made["e_V mag*"] = MaskedColumn(chance.uniform(0, 1, len(ra)).astype("f4"), mask=chance.random(len(ra)) < 0.1, unit="mag")
+    made["flux [u, g]"] = chance.uniform(0, 1e4, (len(ra), 2)).astype("f4")
     made["pmRA"].unit, made["Vmag"].unit = "mas/yr", "mag"
     made["flag"].meta["ucd"], made["flag"].description = "meta.code.qual", "how sure it is"
     return made
@@ -93,7 +98,10 @@ def files_agree(table, place):
         blame(len(where), "sources in the tiles, and", len(table), "in the table")
     for row in table:
         [(order, cell, found)] = where.get(row["name"].replace(" ", "_"), [(0, 0, None)])
-        for name, shown in (("RAJ2000", "ra"), ("DEJ2000", "dec"), *((name, name) for name in table.colnames[3:])):
+        fluxes = [numpy.float32(text) for text in found["flux_[u,_g]"].split(",")]
+        if fluxes != list(row["flux [u, g]"]):
+            blame(row["name"], "has fluxes", fluxes, "in place of", row["flux [u, g]"])
+        for name, shown in (("RAJ2000", "ra"), ("DEJ2000", "dec"), *((name, name.replace(" ", "_")) for name in table.colnames[3:-1])):
             expected = row[name] % 360 if shown == "ra" else row[name]
             is_same = numpy.ma.is_masked(expected) == numpy.ma.is_masked(found[shown])
             if not (is_same and (numpy.ma.is_masked(expected) or row.table[name].dtype.type(found[shown]) == expected)):
@@ -139,10 +147,10 @@ def whole_orders(tiles, place, count):
 
 def columns_agree(place):
     """metadata.xml by astropy and stilts, and a tile by stilts."""
-    made = Table.read(place / "metadata.xml", format="votable")
+    made = Table.read(place / "metadata.xml", format="votable", use_names_over_ids=True)
     expected = {"ra": ("f8", "deg", "pos.eq.ra;meta.main"), "dec": ("f8", "deg", "pos.eq.dec;meta.main"),
                 "name": ("O", None, "meta.id;meta.main"), "Vmag": ("f4", "mag", "phot.mag"), "pmRA": ("f8", "mas / yr", None),
-                "flag": ("i2", None, "meta.code.qual"), "kind": ("O", None, None)}
+                "flag": ("i2", None, "meta.code.qual"), "kind": ("O", None, None), "e_V_mag*": ("f4", "mag", None), "flux_[u,_g]": ("O", None, None)}
     for name, column in expected.items():
         found = made[name].dtype.str.lstrip("<>|"), made[name].unit and str(made[name].unit), made[name].meta.get("ucd")
         if found != column:
@@ -174,7 +182,7 @@ def coverage_agrees(table, place):
         blame("Moc.fits has other cells than the sources")
 
 
-def refuses(folder, program):
+def refuses(table, folder, program):
     """What is refused, in which words; the catalogue that is there stays."""
     place = folder / "hips"
     before = {path: path.read_bytes() for path in place.rglob("*") if path.is_file()}
@@ -188,6 +196,12 @@ def refuses(folder, program):
     catalog(2, "invalid choice: 12", program, "--order", 12, "--replace", *names, folder / "table.vot", place)
     (folder / "motion.csv").write_text("id,ra,dec,mag,pmra\nA,1,2,3,4\n")
     catalog(1, "the proper motion pmra has no unit; say it by --unit pmra=mas/yr", program, "--replace", folder / "motion.csv", place)
+    (folder / "texts.csv").write_text("id,ra,dec,mag\nA,05 34 32,22 01,3\n")
+    catalog(1, "the column ra has texts in place of numbers", program, "--replace", folder / "texts.csv", place)
+    radians = table[:3]["RAJ2000", "DEJ2000", "Vmag", "name"]
+    radians["RAJ2000"].unit = "rad"
+    radians.write(folder / "radians.vot", format="votable")
+    catalog(1, "the column RAJ2000 is in rad, and positions are in degrees", program, "--replace", *names, folder / "radians.vot", place)
     many = numpy.zeros(1_000_001)
     fits.BinTableHDU.from_columns([fits.Column(name=name, format="D", array=many) for name in ("id", "ra", "dec", "mag")]).writeto(folder / "many.fits")
     catalog(1, "1,000,001 sources, and a catalogue has at most 1,000,000", program, "--replace", folder / "many.fits", place)
@@ -209,6 +223,8 @@ def aladin_sees(table, place, folder):
         blame("LINT:", said.stdout, said.stderr)
     handler = functools.partial(type("Quiet", (SimpleHTTPRequestHandler,), {"log_message": lambda *words: None}), directory=place)
     with ThreadingHTTPServer(("127.0.0.1", 0), handler) as server:
+        # Aladin breaks off what it doesn't need.
+        server.handle_error = lambda *words: None
         threading.Thread(target=server.serve_forever, daemon=True).start()
         read, write = os.pipe()
         screen = subprocess.Popen(["Xvfb", "-displayfd", str(write), "-screen", "0", "1024x768x24", "-nolisten", "tcp"], pass_fds=[write],
@@ -245,6 +261,8 @@ def marks(is_marked):
 
 def main():
     program, begun = os.path.realpath(sys.argv[1]), time.monotonic()
+    # That blanks in names become others in identifiers.
+    warnings.simplefilter("ignore", VOWarning)
     with tempfile.TemporaryDirectory() as name:
         folder = Path(name)
         table, place = table_of(3000), folder / "hips"
@@ -254,7 +272,7 @@ def main():
         files_agree(table, place)
         columns_agree(place)
         coverage_agrees(table, place)
-        refuses(folder, program)
+        refuses(table, folder, program)
         aladin_sees(table, place, folder)
     if wrong:
         sys.exit(1)

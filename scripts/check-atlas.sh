@@ -24,4 +24,4 @@ if [ -n "$missing" ]; then
     exit 0
 fi
 program=$(realpath -e "${1:-crates/hipsd/out/hipsd}") || { echo "check-atlas: there is no built hipsd" >&2; exit 1; }
-exec timeout 600 "$python" scripts/atlas-client.py "$program"
+exec timeout 900 "$python" scripts/atlas-client.py "$program"

@@ -20,4 +20,4 @@ if [ -n "$missing" ]; then
 fi
 program=$(realpath -e "${1:-crates/hipsd/out/hipsd}") || { echo "check-catalog: there is no built hipsd" >&2; exit 1; }
 shellcheck examples/catalog.sh scripts/check-catalog.sh || exit 1
-exec timeout 300 /usr/bin/python3 scripts/catalog-client.py "$program"
+exec timeout 600 /usr/bin/python3 scripts/catalog-client.py "$program"

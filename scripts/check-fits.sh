@@ -46,7 +46,7 @@ print("check-fits: fitsverify and astropy accept the tile files of each depth")
 PYTHON
 [ $? -eq 0 ] || exit 1
 
-(cd crates/edit_tests && rt try --test) >"$folder/printed" 2>&1
+(cd crates/edit_tests && rt try --test --seconds 300) >"$folder/printed" 2>&1
 "$python" - "$folder" <<'PYTHON'
 import re
 import subprocess

@@ -24,11 +24,13 @@ from contextlib import suppress
 from itertools import zip_longest
 from pathlib import Path
 
-from survey_files import Survey, image, tile_path
+from survey_files import Survey, block, header, image, tile_path
 
 TOP = Path(__file__).resolve().parent.parent
 SURVEY = Survey("log", "Survey log", top=4, low=3, width=2)
 CONF = {"survey.conf": SURVEY.description()}
+# A description of tiles of 512 by 512 pixels of 64 bits.
+WIDE = Survey("log", "Survey log", top=4, low=3, width=512).description().replace(b"survey_bitpix = 16", b"survey_bitpix = 64")
 TILE = image(2, 2, [1, 2, 3, 4], ("ORDER", 4), ("NPIX", 0))
 VERSION, TOOLCHAIN = (
     re.search(rf'pub const {name}: &str = "(.*)";', (TOP / "crates/hipsd_run/src/version.rt").read_text())[1]
@@ -41,8 +43,8 @@ SECOND = 1000
 # What the program never says, or only where it has no memory.
 UNSAID = {
     # It keeps the generation of the opening leaves.
-    "made {k} from the opening leaves: {tiles} tiles built in {millis} ms",
-    "there was no memory to serve the survey",
+    "state {k} was made from the opening leaves: {tiles} tiles built in {millis} ms",
+    "out of memory: {refusal}",
 }
 
 
@@ -130,14 +132,14 @@ COMMANDS = {
     "probe": "K N k p",
 }
 BOUNDS = {
-    "serve": "an IP address or a host's name with a port, 1 to 65536 connections at each place, 1 to 64 places",
+    "serve": "an IP address or a host's name with a port, or the path of a Unix socket, with a /; 1 to 65536 connections at each place, 1 to 64 places",
     "session": "no other word",
     "export": "no other word",
     "verify": "no other word",
     "make": "a number below 2^64, 1 to 4096 edits",
     "past": "1 to 8 generations are held",
     "catalog": "K 0 to 11, 1 to 4096 rows a tile above order K",
-    "mirror": "an IP address or a host's name with a port",
+    "mirror": "an IP address or a host's name with a port, or the path of a Unix socket, with a /",
     "probe": "K 3 to 11, N 1 to 9, k 0 to K, p below 2^64",
 }
 # Words, and what is wrong with them.
@@ -190,7 +192,7 @@ def wrong_words(check):
 
 def levels(check):
     known = "off, error, warn, info, debug or trace; it is info now"
-    exported = info("shelf_io::words", "2 of 2 files written, the others were right; 0 removed")
+    exported = info("shelf_io::words", "2 of 2 files written, 0 were the same; 0 removed")
     check.run(["export"], exported)
     check.run(["export"], warn("hipsd", f'HIPSD_LOG = "loud": {known}') + exported, level="loud")
     check.run(["export"], warn("hipsd", f"HIPSD_LOG is not UTF-8: {known}") + exported, level=b"\xff")
@@ -208,7 +210,9 @@ def levels(check):
 
 # A line of the description that is replaced, by the beginning of its text, or added; and what is wrong then. L is its number.
 DESCRIPTIONS = r"""
-creator_did = ivo://example/P/log|||creator_did is missing
+creator_did = ivo://example/P/log|||missing: creator_did
+hips_order = 4|hips_ordr = 4||missing: hips_order (did you mean it by hips_ordr?)
+survey_bitpix = 16|survey_bitpix = -32||line L, survey_bitpix = -32: it is 8, 16, 32 or 64; FLOATING
 hips_order = 4|hips_order = 12||line L, hips_order = 12: an order is 3 to 11
 hips_order_min = 3|hips_order_min = 4||line L, hips_order_min = 4: the lowest order is 0 to 3
 hips_tile_width = 2|hips_tile_width = 3||line L, hips_tile_width = 3: a width is 2, 4, 8, 16, 32, 64, 128, 256 or 512
@@ -230,15 +234,41 @@ survey_blank = -32768|survey_blank = 32768||line L, survey_blank = 32768: it is 
 ||Hips = 1|line L, Hips = 1: a key is at most 64 of a to z, 0 to 9 and _, a letter first
 ||key =|line L, key =: a value is 1 to 1024 bytes, none of them a control character
 """
+FLOATING = "floating-point tiles have to be made again, by HipsGen with hips_pixel_bitpix=16 or 32"
+
+
+def card(number, text, tile=TILE):
+    """A tile's file with another card at this place, from 1."""
+    return tile[: 80 * (number - 1)] + text.ljust(80).encode() + tile[80 * number :]
+
+
 # The bytes of a leaf's file, its fault, and what it looks like.
+SHORT = "1 header 1: it ends within its header"
 LEAVES = [
-    (b"", "1 header 1", "an empty file"),
-    (b"\x1f\x8b\x08", "1 header 1", "gzip"),
-    (b"\x89PNG\r\n", "1 header 1", "a PNG image"),
-    (b"\xff\xd8\xff\xe0", "1 header 1", "a JPEG image"),
-    (bytes(8), "1 header 1", "zeros"),
-    (b"<html>", "1 header 1", "none of FITS, gzip, PNG and JPEG"),
-    (image(3, 2, [0] * 6), "5 width 1 3", "FITS"),
+    (b"", SHORT, "an empty file"),
+    (b"\x1f\x8b\x08", SHORT, "gzip"),
+    (b"\x89PNG\r\n", SHORT, "a PNG image"),
+    (b"\xff\xd8\xff\xe0", SHORT, "a JPEG image"),
+    (bytes(8), SHORT, "zeros"),
+    (b"<html>", SHORT, "none of FITS, gzip, PNG and JPEG"),
+    (card(3, "NAXIS   = \0"), "1 header 2 170: byte 170 of the header isn't printable ASCII", "FITS"),
+    (b"SIMPLE  " + b" " * 103_680, "1 header 3: the header has no card END", "FITS"),
+    (card(8, "BLANK   =             -32768.0"), "1 header 4 8: card 8, BLANK = -32768.0: not a whole number", "FITS"),
+    (card(1, "SIMPLE  = true"), "1 header 4 1: card 1, SIMPLE = true: neither T nor F", "FITS"),
+    (card(7, "BZERO   = one / \\"), r"1 header 4 7: card 7, BZERO = one / \\: not a real number of at most 18 digits", "FITS"),
+    (card(9, "NAXIS   = 2"), "1 header 5 9: card 9, NAXIS = 2: an earlier card has this keyword", "FITS"),
+    (card(1, "COMMENT"), "2 simple: card 1 isn't SIMPLE = T", "none of FITS, gzip, PNG and JPEG"),
+    (card(2, "BITPIX  = 32"), "3 bitpix 32: BITPIX = 32 isn't survey_bitpix", "FITS"),
+    (card(2, "BITPIX  = -32"), "3 bitpix -32: BITPIX = -32, floating-point pixels: have HipsGen make it again with hips_pixel_bitpix=16 or 32", "FITS"),
+    (card(2, "COMMENT"), "3 bitpix none: there is no card BITPIX", "FITS"),
+    (card(3, "NAXIS   = 3"), "4 naxis 3: NAXIS = 3 isn't 2", "FITS"),
+    (image(3, 2, [0] * 6), "5 width 1 3: NAXIS1 = 3 isn't hips_tile_width", "FITS"),
+    (image(2, 3, [0] * 6), "5 width 2 3: NAXIS2 = 3 isn't hips_tile_width", "FITS"),
+    (card(6, "BSCALE  = 2"), "6 scale: BSCALE isn't survey_bscale", "FITS"),
+    (card(7, "BZERO   = 2"), "7 zero: BZERO isn't survey_bzero", "FITS"),
+    (card(8, "BLANK   = 2"), "8 blank 2: BLANK = 2 isn't survey_blank", "FITS"),
+    (TILE[:2880], "9 truncated 8: 8 bytes of pixels are missing", "FITS"),
+    (TILE + bytes(2880), "10 trailing 2880: 2880 bytes too many follow the pixels", "FITS"),
 ]
 
 
@@ -249,12 +279,14 @@ def descriptions(check):
         text = SURVEY.description().decode()
         number = text.splitlines().index(old) + 1 if old else len(text.splitlines()) + 1
         text = text.replace(old, new, 1) if old else f"{text}{more}\n"
-        said = error("shelf_io::words", "survey.conf: " + told.replace("L,", f"{number},", 1))
-        check.run(["verify"], said, files={"survey.conf": text.encode()})
+        told = told.replace("L,", f"{number},", 1).replace("FLOATING", FLOATING)
+        check.run(["verify"], error("shelf_io::words", f"survey.conf: {told}"), files={"survey.conf": text.encode()})
+    keys = "creator_did, obs_title, hips_release_date, hips_status, hips_order, survey_bitpix, survey_blank"
+    check.run(["verify"], error("shelf_io::words", f"survey.conf: missing: {keys}"), files={"survey.conf": b"# none"})
     extra = {"survey.conf": SURVEY.description() + b"hips_frames = equatorial\nobs_tilte = x\nhips_orrder_min = 0\nhips_tile_fromat = fits\nob_title = x\n"}
     likely = ("hips_frames", "hips_frame"), ("hips_orrder_min", "hips_order_min"), ("ob_title", "obs_title")
     known = warn("shelf_io::words", *(f"survey.conf: the key {key} has no meaning here; {it} is a known one" for key, it in likely))
-    check.run(["export"], known + info("shelf_io::words", "2 of 2 files written, the others were right; 0 removed"), files=extra)
+    check.run(["export"], known + info("shelf_io::words", "2 of 2 files written, 0 were the same; 0 removed"), files=extra)
 
 
 def folders(check):
@@ -266,8 +298,17 @@ def folders(check):
     near += "Dir is the greatest multiple of 10000 up to the number"
     above = "tiles of an order above 4, that of the leaves: {}, as {}; they aren't read, and export removes them"
     one, deep = "Norder4/Dir0/Npix07.fits", tile_path(5, 7)
-    written = info("shelf_io::words", "2 of 2 files written, the others were right; 1 removed")
-    check.run(["export"], warn("shelf_io::near_leaf", near.format(1, one), above.format(1, deep)) + written, files=CONF | {one: b"", deep: b""})
+    other = "no tile is of order 4, that of the leaves: with hips_order = {} in survey.conf the {} tiles of order {} would be the leaves"
+    strays = "{} files aren't of this survey, and export removes them: {}"
+    removed = warn("shelf_io::differences", strays.format(1, "1 tiles of order 5"))
+    written = info("shelf_io::words", "2 of 2 files written, 0 were the same; 1 removed")
+    said = warn("shelf_io::near_leaf", near.format(1, one), other.format(5, 1, 5))
+    check.run(["export"], said + removed + written, files=CONF | {one: b"", deep: b""})
+    lower = {tile_path(3, npix): b"" for npix in range(3)} | {tile_path(2, 0): b"", "Norder3/Allsky.fits": b""}
+    told = warn("shelf_io::near_leaf", other.format(3, 3, 3))
+    told += warn("shelf_io::differences", strays.format(5, "3 tiles of order 3, 1 tiles of order 2, Norder3/Allsky.fits"))
+    told += warn("shelf_io::differences", "1 files are missing, 1 differ, 5 aren't of this survey")
+    check.run(["verify"], told, files=CONF | lower | {"Moc.fits": b""})
     odd = {one: b"", "Norder4/Dir10000/Npix7.fits": b"", deep: b"", tile_path(6, 9): b""}
     said = warn("shelf_io::near_leaf", near.format(2, "~"), above.format(2, "~"))
     right = SURVEY.files({0: [1, 2, 3, 4]})
@@ -276,18 +317,61 @@ def folders(check):
     # A link that leads nowhere is no file.
     (folder / "Norder3").mkdir()
     (folder / "Norder3/Allsky.link").symlink_to("nowhere")
-    check.run(["export"], said + info("shelf_io::words", "2 of 5 files written, the others were right; 2 removed"), folder=folder)
+    removed = warn("shelf_io::differences", strays.format(2, "1 tiles of order 6, 1 tiles of order 5"))
+    check.run(["export"], said + removed + info("shelf_io::words", "2 of 5 files written, 3 were the same; 2 removed"), folder=folder)
     check.run(["verify"], said[:1], folder=folder)
 
 
 # A command, a file in its way, and which call fails.
 IN_THE_WAY = """
-export|Moc.fits/file|can't read Moc.fits: Is a directory (os error 21)
+export|Moc.fits/file|can't read Moc.fits: it is no regular file
 export|Moc.fits.unfinished/file|can't remove Moc.fits.unfinished: Is a directory (os error 21)
 export|Norder3/Dir0|can't make the folder Norder3/Dir0: File exists (os error 17)
-export|Norder3|can't put Norder3/Dir0/Npix0.fits: entity not found
+export|Norder3|can't make the folder Norder3/Dir0: Not a directory (os error 20)
 catalog 1 1|Norder0/Dir0/Npix0.tsv/file|can't move the whole file to Norder0/Dir0/Npix0.tsv: Is a directory (os error 21)
 """
+
+
+ODD = "{} entries are named as FITS files and are none, as {}: a folder, a pipe or a link that leads nowhere counts as absent"
+
+
+def special_files(check):
+    """Pipes, devices, links and files that are too large: none of them is waited for, read to its end, or written or removed behind."""
+
+    def refused(words, at, make, fault, files=CONF):
+        folder = check.survey(files)
+        make(folder / at)
+        check.run(words.split(), error("hipsd::faults", fault), folder=folder, given=b"5\t0\ta\t\n")
+
+    def large(path):
+        path.touch()
+        os.truncate(path, 5 << 30)
+
+    none = "it is no regular file"
+    refused("export", "properties", os.mkfifo, f"can't read properties: {none}")
+    refused("verify", "survey.conf", lambda path: path.symlink_to("/dev/zero"), f"can't read survey.conf: {none}", files={})
+    refused("verify", "survey.conf", large, "can't read survey.conf: it has more than 536870912 bytes, as no file of a survey has", files={})
+    victim = check.survey({"Dir0/Npix0.fits": b"", "Dir0/Npix0.tsv": b""})
+    for words, at in (("export", "Norder3"), ("verify", "Norder3"), ("catalog 1 1", "Norder0"), ("verify", "other")):
+        fault = f"can't enter {at}: it is a link, and no folder of a survey lies behind one"
+        refused(words, at, lambda path: path.symlink_to(victim), fault)
+    if sorted(path.name for path in victim.glob("Dir0/*")) != ["Npix0.fits", "Npix0.tsv"]:
+        check.wrong += 1
+        print("check-log: a link to a folder is written behind", file=sys.stderr)
+    # A link to a file is that file.
+    folder = check.survey(CONF | {"Norder4/Dir0/Npix1.fits/file": b"", "leaf": TILE})
+    (folder / tile_path(4, 0)).symlink_to("../../leaf")
+    (folder / tile_path(4, 2)).symlink_to("nowhere")
+    os.mkfifo(folder / tile_path(4, 3))
+    said = warn("survey_link::listing", ODD.format(3, "~"))
+    check.run(["export"], said + info("shelf_io::words", "# of 5 files written, # were the same; 0 removed"), folder=folder)
+
+
+def too_many(check):
+    """257 leaves of 512 by 512 pixels of 64 bits, of which none is read."""
+    many = {tile_path(4, npix): b"" for npix in range(257)}
+    said = f"the 257 leaves need {257 << 21} bytes, and {1 << 29} are allowed"
+    check.run(["verify"], error("shelf_io::words", said), files={"survey.conf": WIDE} | many)
 
 
 def folder_faults(check):
@@ -298,10 +382,13 @@ def folder_faults(check):
     for row in IN_THE_WAY.strip().splitlines():
         words, path, fault = row.split("|")
         files = CONF | {tile_path(4, 0): TILE, path: b""}
-        check.run(words.split(), error("hipsd::faults", fault), files=files, given=b"5\t0\ta\t\n")
+        odd = warn("survey_link::listing", ODD.format(1, "Moc.fits")) if path == "Moc.fits/file" else []
+        check.run(words.split(), odd + error("hipsd::faults", fault), files=files, given=b"5\t0\ta\t\n")
     peer = Peer(replies({}))
     peer.start()
-    check.run(["mirror", peer.address], error("hipsd::faults", "can't read Moc.fits: Is a directory (os error 21)"), files={"Moc.fits/file": b""})
+    said = info("hips_mirror::saying", BUILDING % 0, COPIED) + warn("survey_link::listing", ODD.format(1, "Moc.fits"))
+    said += error("hipsd::faults", "can't read Moc.fits: it is no regular file")
+    check.run(["mirror", peer.address], said, files={"Moc.fits/file": b""})
     peer.join()
     # What isn't allowed is allowed to root.
     user = {} if os.geteuid() else {"user": 65534, "group": 65534, "extra_groups": []}
@@ -318,7 +405,7 @@ def progress(check):
     # Three leaves, one tile above them, the mosaic, the coverage file and the properties.
     read = info("shelf_io::progress", *(f"leaves read: {at} of 3" for at in range(1, 4)))
     written = info("shelf_io::progress", *(f"files compared and written: {at} of 7" for at in range(1, 8)))
-    said = read + written + info("shelf_io::words", "4 of 7 files written, the others were right; 0 removed")
+    said = read + written + info("shelf_io::words", "4 of 7 files written, 3 were the same; 0 removed")
     folder = check.run(["export"], said, files=CONF | leaves, pace=SECOND)
     check.run(["verify"], read + info("shelf_io::progress", *(f"files compared: {at} of 7" for at in range(1, 8))), folder=folder, pace=SECOND)
     rows = b"1\t0\ta\t\n2\t1\tb\t\n"
@@ -366,15 +453,16 @@ def records(check):
     tile = b"put 0 %d\n" % len(TILE) + TILE
     batch = b"batch %d\n" % len(tile) + tile
     reads = b"read 1 properties\nread 2 properties\nread 0 properties\nread 2 x\n"
-    made = [f"made {made}: {tiles} tiles built in # ms" for made, tiles in (("1 from 0", 1), ("2 from 1", 1), ("0 from 0", 0))]
-    check.run(["past", "2"], info("past_reads::saying", *made), given=batch + batch + reads)
+    made = [f"state {k} was made from state {base}: {tiles} tiles built in # ms" for k, base, tiles in ((1, 0, 1), (2, 1, 1), (0, 0, 0))]
+    check.run(["past", "2"], [], given=batch + batch + reads)
+    check.run(["past", "2"], debug("past_reads::saying", *made), given=batch + batch + reads, level="debug")
     made = [line.replace("#", "1000") for line in made]
-    check.run(["past", "2"], info("past_reads::saying", *made), given=batch + batch + reads, pace=SECOND)
-    form = 'record 1, counted from 0, has no line of a record: "batch LENGTH" or "read K PATH", up to 128 bytes with its line feed, '
+    check.run(["past", "2"], debug("past_reads::saying", *made), given=batch + batch + reads, level="debug", pace=SECOND)
+    form = 'record 1, counted from 0, is malformed: its line must be "batch LENGTH" or "read K PATH", up to 128 bytes with its line feed, '
     form += "numbers in plain decimals, K below 2^32, LENGTH up to that of the longest batch of this survey"
     check.run(["past", "1"], error("survey_commands::past", form), given=b"read 1 x\nlook\n")
     check.run(["past", "1"], error("survey_commands::past", "the input ends within a record"), given=b"read 1 x\nread")
-    spent = "the input goes on after 65536 records, of which one run takes no more"
+    spent = "the input goes on after 65536 records; one run takes no more"
     check.run(["past", "1"], error("survey_commands::past", spent), given=b"read 1 x\n" * 65_537)
 
 
@@ -412,6 +500,13 @@ REQUESTS = [
     (ask(b"PATCH", b"/pin"), "OTHER /pin 405 19 @ method_not_allowed"),
     (ask(b"POST", LEAF), "POST /Norder4/Dir0/Npix0.fits 405 19 @ method_not_allowed"),
 ]
+
+
+def accepted(line):
+    """Whether the request of this line is an edit that was accepted."""
+    return line.split()[0] in ("PUT", "DELETE") and line.split()[2] in ("201", "204")
+
+
 PUBLISHED = info("hips_http::saying", "published 4 edits, 4 of 4 in all: 1 tiles built in # ms")
 # Heads that are refused by their framing, with the code and its reason.
 REFUSED = [
@@ -425,17 +520,19 @@ REFUSED = [
 
 
 def sessions(check):
-    said = []
+    # The edits of these requests, in their order.
+    edits = info("hips_http::room", *(f"edit {k} {did} {LEAF_ASKED[1:]}" for k, did in enumerate(("puts", "puts", "removes", "puts"), 1)))
+    said, done = [], iter(edits)
     for _, line in REQUESTS:
-        said += PUBLISHED if "publish 200 12" in line else []
+        said += PUBLISHED if "publish 200 12" in line else [next(done)] if accepted(line) else []
         said += debug("request", line.replace("@", "#"))
     whole = b"".join(request for request, _ in REQUESTS)
     check.run(["session"], said, given=whole, level="debug")
-    check.run(["session"], PUBLISHED, given=whole)
+    check.run(["session"], edits + PUBLISHED, given=whole)
     # By a clock of a second a publication takes one, and a request one more than what was timed within it.
-    said = []
+    said, done = [], iter(edits)
     for _, line in REQUESTS:
-        said += [it.replace("#", "1000") for it in PUBLISHED] if "publish 200 12" in line else []
+        said += [it.replace("#", "1000") for it in PUBLISHED] if "publish 200 12" in line else [next(done)] if accepted(line) else []
         seconds = 3 if "publish 200 12" in line else 2 if "publish 200 10" in line else 1
         said += debug("request", line.replace("@", f"{seconds}000000"))
     check.run(["session"], said, given=whole, level="debug", pace=SECOND)
@@ -449,6 +546,27 @@ def sessions(check):
     unread = error("hipsd::faults", "can't read the standard input: Is a directory (os error 21)")
     check.run(["session"], unread, level="debug", stdin=folder)
     os.close(folder)
+
+
+def edits(check):
+    """A batch, and edits that make a limit reach 80, 95 and 100 percent."""
+    put = b"put 0 %d\n" % len(TILE) + TILE
+    said = info("hips_http::room", "edits 1 to 3 are a batch")
+    each = debug("hips_http::room", *(f"edit {k} {did} {LEAF_ASKED[1:]}" for k, did in enumerate(("puts", "removes", "puts"), 1)))
+    given = ask(b"POST", b"/batch", body=put + REMOVED + put)
+    check.run(["session"], said, given=given)
+    check.run(["session"], said + each + debug("request", "POST /batch 200 11 # -"), given=given, level="debug")
+    full = "{} of {} ({} percent) are used. Once all are, edits are answered 507; renew it: rollover.sh"
+    said = warn("hips_http::room", *(full.format(128 * batches, "65536 edits", mark) for batches, mark in ((410, 80), (487, 95), (512, 100))))
+    check.run(["session"], said, given=ask(b"POST", b"/batch", body=(put + REMOVED) * 64) * 513, level="warn")
+    # Tiles of 512 by 512 pixels of 64 bits, of which 256 fit: 200 leaves, and then edits. All leaves are one file.
+    cards = ("SIMPLE", "T"), ("BITPIX", 64), ("NAXIS", 2), ("NAXIS1", 512), ("NAXIS2", 512), ("BSCALE", "1.0E0"), ("BZERO", "0.0E0"), ("BLANK", -32768)
+    wide = header(*cards) + block(bytes(8 << 18))
+    folder = check.survey({"survey.conf": WIDE, tile_path(4, 0): wide})
+    for npix in range(1, 200):
+        (folder / tile_path(4, npix)).hardlink_to(folder / tile_path(4, 0))
+    said = warn("hips_http::room", *(full.format(tiles << 21, "536870912 bytes of tiles", mark) for tiles, mark in ((205, 80), (244, 95), (256, 100))))
+    check.run(["session"], said, given=ask(b"PUT", LEAF, body=wide) * 57, folder=folder, level="warn")
 
 
 # ---- a server
@@ -493,8 +611,13 @@ def read_until(process, text):
 
 # How a connection is closed with a reset in place of an end.
 RESETS = struct.pack("ii", 1, 0)
-LOADED = info("survey_commands::serve", "loaded 0 leaves in # ms: 2 files are served")
+ROOM = "room: {} of 536870912 bytes of tiles ({} percent) and 0 of 65536 edits (0 percent) are used; {} more tiles of 1024 bytes fit"
+LOADED = info("survey_commands::serve", "loaded 0 leaves in # ms: 2 files are served") + info("hips_http::room", ROOM.format(0, 0, 524_288))
 GONE = "Edits that weren't copied from here are gone now"
+FEW_LEFT = (
+    "place 1 has taken 6 of 7 connections: after 1 more it ends. "
+    "Once all places have ended the server has too, and its edits are gone: renew it before"
+)
 # The connections of a server: what each sends, what is said of its requests, and how it ends.
 CONNECTIONS = [
     (ask(b"GET", b"/x") + ask(b"PUT", LEAF, body=TILE), ["GET /x 404 10 # not_found", "PUT /Norder4/Dir0/Npix0.fits 201 0 # -"], "Closed"),
@@ -525,7 +648,12 @@ def servers(check):
         wanted += debug("client", f"{name} 127.0.0.1:#")
         published = f"{name} published 1 edits, 1 of 1 in all: 1 tiles built in # ms"
         wanted += info("hips_http::saying", published) if b"publish" in requests else []
-        wanted += debug("request", *(f"{name} {answer}" for answer in answers)) + debug("ended", f"{name} {end}")
+        for answer in answers:
+            wanted += info("hips_http::room", f"{name} edit 1 puts {LEAF_ASKED[1:]}") if accepted(answer) else []
+            wanted += debug("request", f"{name} {answer}")
+        wanted += debug("ended", f"{name} {end}")
+        # 6 of 7 are the first that are 80 percent or more; 95 percent are all.
+        wanted += warn("hips_place::place", FEW_LEFT) if number == 6 else []
     reader.join(60)
     wanted += info("hips_place::place", f"a place ended after {count} connections: it took its connections, or none is left")
     wanted += info("survey_commands::serve", f"all places have ended: Done. {GONE}")
@@ -610,46 +738,68 @@ def publications(check):
     said += process.stderr.read()
     wanted = THIS + LOADED + info("survey_commands::serve", "3 places, up to 1 connections at each")
     wanted += info("tcp_link::listening", "listening at 127.0.0.1:#")
-    told = "published 1 edits, %d of %d in all: 1 tiles built in # ms"
-    wanted += info("hips_http::saying", told % (1, 1), told % (2, 2))
+    for number in (1, 2):
+        name = "connection{place=~ number=1}:"
+        wanted += info("hips_http::room", f"{name} edit {number} puts {LEAF_ASKED[1:]}")
+        wanted += info("hips_http::saying", f"{name} published 1 edits, {number} of {number} in all: 1 tiles built in # ms")
     wanted += info("hips_place::place", *["a place ended after 1 connections: it took its connections, or none is left"] * 3)
     wanted += info("survey_commands::serve", f"all places have ended: Done. {GONE}")
     check.compare(["serve"], said, wanted)
 
 
+def unix_socket(check):
+    folder = check.survey(CONF)
+    process = check.start(["serve", "./socket", "1", "1"], folder, level="debug")
+    said = read_until(process, b"listening at ")
+    with socket.socket(socket.AF_UNIX) as client:
+        client.connect(str(folder / "socket"))
+        client.sendall(ask(b"GET", b"/x"))
+        client.recv(4096)
+    said += process.stderr.read()
+    name = "connection{place=1 number=1}:"
+    wanted = THIS + LOADED + info("survey_commands::serve", "1 places, up to 1 connections at each")
+    wanted += info("tcp_link::listening", "listening at ./socket") + debug("client", f"{name} unix")
+    wanted += debug("request", f"{name} GET /x 404 10 # not_found") + debug("ended", f"{name} Closed")
+    wanted += info("hips_place::place", "a place ended after 1 connections: it took its connections, or none is left")
+    wanted += info("survey_commands::serve", f"all places have ended: Done. {GONE}")
+    check.compare(["serve"], said, wanted)
+
+
+REFUSAL = "Address already in use (os error 98)"
+
+
 def addresses(check):
-    ended = info("hips_place::place", "a place ended after 0 connections: its door failed")
-    ended += info("survey_commands::serve", f"all places have ended: Failed. {GONE}")
-    begun = LOADED + info("survey_commands::serve", "1 places, up to 1 connections at each")
-    form = "ADDRESS is an IP address or a host's name, with a port, as 127.0.0.1:8080"
-    nowhere = error("hipsd", f"""can't listen at "8080": invalid socket address. {form}""")
-    wrong = error("tcp_link::listening", "can't listen at 8080: invalid socket address")
-    check.run(["serve", "8080", "1", "1"], THIS + nowhere + begun + wrong + ended)
-    nowhere = error("hipsd", f"""can't listen at "nowhere.invalid:1": ~. {form}""")
-    unknown = "can't listen at nowhere.invalid:1: it is no IP address with a port, and no name is looked up now"
-    check.run(["serve", "nowhere.invalid:1", "1", "1"], THIS + nowhere + begun + error("tcp_link::listening", unknown) + ended)
+    """What can't be listened at ends `serve` before the survey is loaded."""
+    form = "ADDRESS is an IP address or a host's name, with a port, as 127.0.0.1:8080, or the path of a Unix socket, with a /"
+    for address in ("8080", "127.0.0.1:65536", "nowhere.invalid:1"):
+        check.run(["serve", address, "1", "1"], THIS + error("hipsd", f"""can't listen at "{address}": ~. {form}"""))
     with socket.create_server(("127.0.0.1", 0)) as taken:
         place = "127.0.0.1:%d" % taken.getsockname()[1]
-        refusal = "Address already in use (os error 98)"
-        yet = warn("hipsd", f"can't listen at {place} yet: {refusal}. It is tried again once the survey is loaded")
-        still = error("tcp_link::listening", f"can't listen at {place}: {refusal}")
-        check.run(["serve", place, "1", "1"], THIS + yet + begun + still + ended)
-        # Over three leaves, at two places: that an address can't be had is said once.
-        leaves = {tile_path(4, npix): image(2, 2, [npix] * 4, ("ORDER", 4), ("NPIX", npix)) for npix in range(3)}
-        loading = info("shelf_io::progress", *(f"leaves read: {at} of 3" for at in range(1, 4)))
-        loaded = info("survey_commands::serve", "loaded 3 leaves in 5000 ms: 7 files are served", "2 places, up to 1 connections at each")
-        said = THIS + yet + loading + loaded + still + ended[:1] + ended
-        check.run(["serve", place, "1", "2"], said, files=CONF | leaves, pace=SECOND)
-    # A name is looked up once, when the address is tried.
+        check.run(["serve", place, "1", "1"], THIS + error("hipsd", f"can't listen at {place}: {REFUSAL}"))
     port = free_port()
     named = sorted({place[:2] for *_, place in socket.getaddrinfo("localhost", port, type=socket.SOCK_STREAM)})
     taken = [socket.create_server(place, family=socket.AF_INET6 if ":" in place[0] else socket.AF_INET) for place in named]
-    yet = warn("hipsd", f"can't listen at ~:{port} yet: {refusal}. It is tried again once the survey is loaded")
-    check.run(["serve", f"localhost:{port}", "1", "1"], THIS + yet + begun + error("tcp_link::listening", f"can't listen at ~:{port}: {refusal}") + ended)
+    check.run(["serve", f"localhost:{port}", "1", "1"], THIS + error("hipsd", f"can't listen at localhost:{port}: {REFUSAL}"))
     for server in taken:
         server.close()
     absent = error("shelf_io::words", "there is no file survey.conf, which describes the survey")
     check.run(["serve", "127.0.0.1:0", "1", "1"], THIS + absent, files={})
+
+
+def lost_address(check):
+    """Another program takes the address while the survey is loaded: the pipe is full of progress until it has. That is said once."""
+    count, port = 2000, free_port()
+    leaves = {tile_path(4, npix): image(2, 2, [npix] * 4, ("ORDER", 4), ("NPIX", npix)) for npix in range(count)}
+    process = check.start(["serve", f"127.0.0.1:{port}", "1", "2"], check.survey(CONF | leaves), pace=SECOND)
+    said = read_until(process, b"leaves read")
+    with socket.create_server(("127.0.0.1", port)):
+        said += process.stderr.read()
+    wanted = THIS + info("survey_commands::serve", f"loaded {count} leaves in # ms: # files are served")
+    wanted += info("hips_http::room", ROOM.format(1024 * count, 0, 524_288 - count)) + info("survey_commands::serve", "2 places, up to 1 connections at each")
+    wanted += error("tcp_link::listening", f"can't listen at 127.0.0.1:{port}: {REFUSAL}")
+    wanted += info("hips_place::place", *["a place ended after 0 connections: its door failed"] * 2)
+    wanted += info("survey_commands::serve", f"all places have ended: Failed. {GONE}")
+    check.compare(["serve"], b"\n".join(line for line in said.splitlines() if b"::progress]" not in line), wanted)
 
 
 # ---- copies
@@ -684,8 +834,9 @@ def replied(body, code=b"200 OK", prefix=b"Survey-Prefix: 7\r\n"):
     return b"HTTP/1.1 %s\r\nContent-Length: %d\r\n%s\r\n%s" % (code, len(body), prefix, body)
 
 
-IN_FORM = "the reply isn't in form: it is 200 of HTTP/1.1, with one Content-Length"
-OF_STATE = IN_FORM + ", and the Survey-Prefix of the state that is held"
+ITSELF = "is this the address of hipsd itself?"
+BUILDING = "leaves copied: all %d; the tiles above them are built next"
+COPIED = "copied: the peer's Survey-Prefix 7; its mosaic and properties agree with its leaves"
 DEEP = Survey("log", "Survey log", top=11, low=3, width=2)
 
 
@@ -706,7 +857,7 @@ def large(check):
     parts = info("hips_mirror::progress", "leaves copied: 1 of 2, 0 MB", "leaves copied: 2 of 2, 1 MB")
     fault = "GET /Norder4/Dir0/Npix1.fits (request 4): the body is no tile of the survey: 1 header 1"
     for last, said in (
-        (tiles[1], parts + error("hips_mirror::saying", "GET /Norder3/Allsky.fits (request 5): the peer's bytes end within the reply")),
+        (tiles[1], parts + error("hips_mirror::saying", "GET /Norder3/Allsky.fits (request 5): the connection ended within the reply")),
         (b"none", parts[:1] + error("hips_mirror::saying", fault)),
     ):
         peer = Peer([*first, replied(last)])
@@ -725,39 +876,56 @@ def copies(check):
         check.run(["mirror", address], [line.replace("PEER", address) for line in wanted], files={}, pace=pace)
         peer.join()
 
-    def refused(text, **given):
-        copied(error("hips_mirror::saying", text), **given)
+    built = info("hips_mirror::saying", BUILDING % 1)
 
-    whole = info("shelf_io::words", "5 of 5 files written, the others were right; 0 removed")
-    whole += info("survey_commands::mirror", "5 files are those of the copy")
-    parts = info("hips_mirror::progress", "leaves copied: 1 of 1, 0 MB")
+    def refused(text, told=(), **given):
+        copied([*told, *error("hips_mirror::saying", text)], **given)
+
+    whole = info("shelf_io::words", "5 of 5 files written, 0 were the same; 0 removed")
+    whole += info("survey_commands::mirror", "the folder has the copy: 5 files")
+    same = info("hips_mirror::saying", COPIED)
+    parts = info("hips_mirror::progress", "leaves copied: 1 of 1, 0 MB") + built + same
     parts += info("shelf_io::progress", *(f"files compared and written: {at} of 5" for at in range(1, 6)))
-    copied(whole)
-    copied(whole, host="localhost")
+    copied(built + same + whole)
+    copied(built + same + whole, host="localhost")
     copied(parts + whole, pace=SECOND)
     large(check)
-    refused(f"POST /pin (request 0): {OF_STATE}; its body is `pinned K`", pin=replied(b"pinned 8\n"))
-    refused(f"GET /properties (request 1): {OF_STATE}", properties=replied(SURVEY.properties(leaves), code=b"404 Not Found"))
-    refused(f"GET {LEAF_ASKED} (request 3): {OF_STATE}", leaf0=replied(TILE, prefix=b""))
-    refused(f"POST /unpin (request 5): {IN_FORM}", unpin=replied(b"released\n", code=b"204 No Content"))
-    refused("GET /Moc.fits (request 2): the peer's bytes end within the reply", cover=replied(SURVEY.coverage(leaves))[:-1], last="cover")
-    uncounted = "the last line isn't `survey_leaves = N`, with N in plain decimals"
+    pin, asked = "POST /pin (request 0)", f"GET {LEAF_ASKED} (request 3)"
+    for code, advice in (
+        (b"405 Method Not Allowed", ITSELF),
+        (b"404 Not Found", "hipsd has this path, so is this its address?"),
+        (b"502 Bad Gateway", "a proxy is there, and hipsd behind it doesn't answer; does it run?"),
+        (b"503 Service Unavailable", "the server there is starting or busy; try again later"),
+        (b"501 \xff", ITSELF),
+    ):
+        said = code.decode(errors="backslashreplace")
+        refused(f"{pin} was answered {said}, and not 200: {advice}", pin=replied(b"", code=code))
+    refused(f"{pin}: the body must be `pinned` and the Survey-Prefix: {ITSELF}", pin=replied(b"pinned 8\n"))
+    refused(f"{pin}: what came is no HTTP reply: {ITSELF}", pin=b"SSH-2.0\r\n\r\n")
+    refused(f"{pin} was answered by HTTP/1.0, and not HTTP/1.1: {ITSELF}", pin=replied(b"pinned 7\n").replace(b"1.1", b"1.0"))
+    refused(f"{pin}: the reply must have one Survey-Prefix: {ITSELF}", pin=replied(b"pinned 7\n", prefix=b""))
+    refused(f"{asked}: the reply must have one Content-Length, 67108864 at most: {ITSELF}", leaf0=b"HTTP/1.1 200 OK\r\n\r\n")
+    refused(f"{asked}: the reply has Survey-Prefix 8, which isn't pinned: {ITSELF}", leaf0=replied(TILE, prefix=b"Survey-Prefix: 8\r\n"))
+    refused(f"POST /unpin (request 5) was answered 204 No Content, and not 200: {ITSELF}", built, unpin=replied(b"released\n", code=b"204 No Content"))
+    refused("GET /Moc.fits (request 2): the connection ended within the reply", cover=replied(SURVEY.coverage(leaves))[:-1], last="cover")
+    uncounted = "the last line must be `survey_leaves = N`, with N in plain decimals"
     refused(f"GET /properties (request 1): {uncounted}", properties=replied(SURVEY.description()))
     order = SURVEY.properties(leaves).replace(b"hips_order = 4", b"hips_order = 12")
     refused("GET /properties (request 1): line 8, hips_order = 12: an order is 3 to 11", properties=replied(order))
     refused("GET /Moc.fits (request 2): the body isn't the coverage file of leaves of the survey's order", cover=replied(b"SIMPLE"))
     deep = {"properties": replied(DEEP.properties(range(65_536))), "cover": replied(DEEP.coverage(range(65_536)))}
-    refused("GET /Moc.fits (request 2): 65536 leaves are more than 65000, or are charged with more than 2^29 bytes", **deep)
+    refused("GET /Moc.fits (request 2): 65536 leaves are too many: at most 65000 are copied, of at most 2^29 bytes", **deep)
     refused(f"GET {LEAF_ASKED} (request 3): the body is no tile of the survey: 9 truncated 8", leaf0=replied(TILE[:2880]))
     differs = "the body isn't the file that the leaves make"
-    refused(f"GET /properties (request 1): {differs}", properties=replied(SURVEY.properties([0, 1])))
-    refused(f"GET /Norder3/Allsky.fits (request 4): {differs}", mosaic=replied(SURVEY.mosaic({0: [1, 2, 3, 9]})))
+    refused(f"GET /properties (request 1): {differs}", built, properties=replied(SURVEY.properties([0, 1])))
+    refused(f"GET /Norder3/Allsky.fits (request 4): {differs}", built, mosaic=replied(SURVEY.mosaic({0: [1, 2, 3, 9]})))
     broken = "can't read what PEER sends: the connection broke off, or it was silent for too long"
-    copied(error("hipsd::faults", broken), properties=None)
+    half = error("hips_mirror::saying", "GET /properties (request 1): the reply didn't come, or not whole")
+    copied(half + error("hipsd::faults", broken), properties=None)
     # A peer that is silent.
-    copied(error("hipsd::faults", broken), properties=b"")
+    copied(half + error("hipsd::faults", broken), properties=b"")
     nobody = f"127.0.0.1:{free_port()}"
-    said = error("tcp_link::connection", f"can't connect to {nobody}: Connection refused (os error 111)")
+    said = error("tcp_link::dialing", f"can't connect to {nobody}: Connection refused (os error 111)")
     check.run(["mirror", nobody], said + error("hipsd::faults", f"can't send requests to {nobody}"), files={})
 
 
@@ -795,7 +963,7 @@ def main(program=TOP / "crates/hipsd/out/hipsd"):
     with tempfile.TemporaryDirectory() as folder:
         Path(folder).chmod(0o755)
         check = Check(Path(program).resolve(strict=True), Path(folder))
-        for part in (wrong_words, levels, descriptions, folders, folder_faults, progress, catalogues, records, sessions, servers, places, shortages, publications, addresses, copies):
+        for part in (wrong_words, levels, descriptions, folders, special_files, too_many, folder_faults, progress, catalogues, records, sessions, edits, servers, places, shortages, publications, unix_socket, addresses, lost_address, copies):
             part(check)
         calls = unsaid(check)
     if check.wrong:

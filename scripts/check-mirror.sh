@@ -106,6 +106,26 @@ kept=$(find "$folder" -maxdepth 1 -type d -name 'kept.[0-9]*Z' | wc -l)
 # A server over a copy goes on with it.
 (cd "$folder/kept/" && "$program" verify) >"$folder/body" 2>/dev/null || blame "a copy: $(cat "$folder/body")"
 
+# ---- a copy of a server at a Unix socket, which nginx's file names
+(cd "$folder/kept/" && exec "$program" serve "$folder/socket" 16 4) 2>"$folder/refused" &
+served=$!
+started="$started $served"
+for _ in $(seq 200); do
+    curl -s -f -o "$folder/body" --unix-socket "$folder/socket" http://hipsd/properties && break
+    kill -0 "$served" 2>/dev/null || break
+    sleep 0.05
+done
+printf 'server unix:%s max_conns=48;\n' "$folder/socket" >"$folder/named"
+for address in "$folder/socket" "@$folder/named"; do
+    "$examples/backup.sh" "$address" "$folder/again" >"$folder/body" 2>&1 || blame "backup.sh $address: $(cat "$folder/body" "$folder/refused")"
+    diff -r "$folder/kept/" "$folder/again/" >"$folder/body" || blame "a copy by backup.sh $address: $(cat "$folder/body")"
+done
+"$examples/drain.sh" "$folder/socket" >"$folder/body"
+grep -qF "drain.sh: $folder/socket ends, and with it the 0 edits since its start" "$folder/body" || blame "drain.sh at a Unix socket: $(cat "$folder/body")"
+kill "$served" && wait "$served"
+refused "$folder/socket" "$folder/kept"
+grep -qF "can't connect to $folder/socket: Connection refused" "$folder/body" || blame "where nobody listens, backup.sh says $(cat "$folder/body")"
+
 # ---- the services and their timers
 if command -v systemd-analyze >/dev/null 2>&1; then
     for unit in hipsd-backup hipsd-renew; do

@@ -497,7 +497,7 @@ exports_what_differs() {
     ran 0 ' of 6 files written' export
     [ "$(cat "$folder/said")" = 'exported 6' ] || blame "hipsd export says $(cat "$folder/said")"
     written >"$folder/then"
-    ran 0 '0 of 6 files written, the others were right; 0 removed' export
+    ran 0 '0 of 6 files written, 6 were the same; 0 removed' export
     [ "$(cat "$folder/said")" = 'exported 6' ] || blame "hipsd export, again, says $(cat "$folder/said")"
     written | cmp -s "$folder/then" - || blame "an export of what was exported writes: $(written | diff "$folder/then" -)"
     cp Moc.fits "$folder/moc"
@@ -506,7 +506,7 @@ exports_what_differs() {
     # As long as before, and other bytes.
     printf x | dd of=Norder3/Allsky.fits bs=1 seek=4000 conv=notrunc status=none
     mkdir -p Norder5/Dir20000 && cp "$leaf" Norder5/Dir20000/Npix20001.fits && cp "$leaf" Norder3/Dir0/Npix5.fits
-    ran 0 '3 of 6 files written, the others were right; 1 removed' export
+    ran 0 '3 of 6 files written, 3 were the same; 1 removed' export
     [ "$(cat "$folder/said")" = 'exported 6' ] || blame "hipsd export of three files says $(cat "$folder/said")"
     cmp -s Moc.fits "$folder/moc" || blame "hipsd export leaves a file that differs"
     rm -r Norder5/Dir20000
@@ -534,13 +534,13 @@ no_leaves() {
 refused_leaves() {
     cp "$leaf" "$folder/kept"
     gzip -c "$folder/kept" >"$leaf"
-    ran 3 "$leaf is no tile of this survey (1 header 1); it has $(wc -c <"$leaf") bytes and looks like gzip" verify
+    ran 3 "$leaf is no tile of this survey (1 header 1: it ends within its header); it has $(wc -c <"$leaf") bytes and looks like gzip" verify
     printf '\211PNG\r\n\032\n' >"$leaf"
     ran 3 'it has 8 bytes and looks like a PNG image' verify
     : >"$leaf"
     ran 3 'it has 0 bytes and looks like an empty file' verify
     head -c 3000 "$folder/kept" >"$leaf"
-    ran 3 '(9 truncated 8); it has 3000 bytes and looks like FITS' verify
+    ran 3 '(9 truncated 8: 8 bytes of pixels are missing); it has 3000 bytes and looks like FITS' verify
     head -c 5760 /dev/zero >"$leaf"
     ran 3 'it has 5760 bytes and looks like zeros' export
     cp "$folder/kept" "$leaf"
@@ -548,8 +548,8 @@ refused_leaves() {
 # faults: which call failed, where, and what the system answered.
 faults() {
     rm Moc.fits && mkdir Moc.fits
-    ran 7 "can't read Moc.fits: Is a directory" verify
-    ran 7 "can't read Moc.fits: Is a directory" export
+    ran 7 "can't read Moc.fits: it is no regular file" verify
+    ran 7 "can't read Moc.fits: it is no regular file" export
     rmdir Moc.fits
     rm -r Norder4/Dir0 && : >Norder4/Dir0
     ran 7 "can't make the folder Norder4/Dir0: File exists" export
@@ -714,12 +714,6 @@ says() {
     [ "$got" = "$status" ] || blame "hipsd $*: status $got in place of $status: $(cat "$folder/said")"
     [ -z "$text" ] || grep -qF -- "$text" "$folder/said" || blame "hipsd $*: no '$text' in: $(cat "$folder/said")"
 }
-# first TEXT OTHER: the line with one text stands before that with the other in what was last said.
-first() {
-    before=$(grep -nF -- "$1" "$folder/said" | head -n 1 | cut -d : -f 1)
-    after=$(grep -nF -- "$2" "$folder/said" | head -n 1 | cut -d : -f 1)
-    [ "${before:-1000000}" -lt "${after:-0}" ] || blame "'$1' isn't said before '$2': $(cat "$folder/said")"
-}
 # constant NAME: what the source says of the program.
 constant() {
     sed -n "s/^pub const $1: .* = \"\(.*\)\";\$/\1/p" "$top/crates/hipsd_run/src/version.rt"
@@ -748,14 +742,14 @@ wrong_records() {
     "$program" past 1 <"$folder/records" >"$folder/output" 2>"$folder/said"
     got=$?
     [ "$got $(cat "$folder/output")" = '17 absent' ] || blame "hipsd past: status $got, and it writes $(cat "$folder/output")"
-    grep -qF 'record 1, counted from 0, has no line of a record: "batch LENGTH" or "read K PATH"' "$folder/said" || blame "hipsd past, with a line that is none: $(cat "$folder/said")"
+    grep -qF 'record 1, counted from 0, is malformed: its line must be "batch LENGTH" or "read K PATH"' "$folder/said" || blame "hipsd past, with a line that is none: $(cat "$folder/said")"
 }
 
 # its_version: the log has version and toolchain, as the manual page has and `rt` where it is here.
 its_version() {
     version=$(constant VERSION) toolchain=$(constant TOOLCHAIN)
     says 1 "hipsd $version, toolchain $toolchain" --version
-    says 8 "hipsd $version, toolchain $toolchain" serve nowhere.invalid:1 1 1
+    says 8 "hipsd $version, toolchain $toolchain" serve 8080 1 1
     DESTDIR=$folder/page PROGRAM=$program "$scripts/install.sh" /usr >"$folder/output" 2>&1 || blame "install.sh: $(cat "$folder/output")"
     tr '\n' ' ' <"$folder/page/usr/share/man/man1/hipsd.1" | grep -qF "version $version," || blame "the manual page isn't of version $version"
     grep -qF "built with $toolchain." "$folder/page/usr/share/man/man1/hipsd.1" || blame "the manual page isn't of $toolchain"
@@ -777,7 +771,7 @@ wrong_descriptions() {
     line=$(grep -n '^hips_order ' "$folder/survey/survey.conf" | cut -d : -f 1)
     described 2 "survey.conf: line $line, hips_order = 12: an order is 3 to 11" 's/^hips_order .*/hips_order = 12/'
     described 2 "survey.conf: line $line, hips_order 5: there is no =" 's/^hips_order .*/hips_order 5/'
-    described 2 'survey.conf: survey_blank is missing' '/^survey_blank /d'
+    described 2 'survey.conf: missing: survey_blank' '/^survey_blank /d'
     described 2 'survey_colour = red: this version has no such key' "\$a survey_colour = red"
     described 2 'survey_rule = median: only survey_version = 2 has this key' "\$a survey_rule = median"
     described 9 'WARN ' "\$a hips_frames = equatorial"
@@ -787,15 +781,20 @@ wrong_descriptions() {
     cd "$folder/survey" || exit 1
 }
 
+# nowhere TEXT ADDRESS: serve can't listen there, and says so before it looks at the survey.
+nowhere() {
+    says 8 "$1" serve "$2" 1 1
+    grep -qE 'loaded |Edits that|survey.conf' "$folder/said" && blame "serve $2 goes on: $(cat "$folder/said")"
+    [ ! -s "$folder/output" ] || blame "serve $2 writes $(cat "$folder/output")"
+}
 # addresses: they are tried before the survey is loaded, by number and by name.
 addresses() {
-    says 8 'can'"'"'t listen at "nowhere.invalid:1": ' serve nowhere.invalid:1 1 1
-    first 'nowhere.invalid' 'loaded '
-    says 8 'ADDRESS is an IP address or a host'"'"'s name, with a port' serve 8080 1 1
-    says 8 "can't listen at 127.0.0.1:$port yet: " serve "127.0.0.1:$port" 1 1
-    first "127.0.0.1:$port yet" 'loaded '
-    (cd "$folder" && says 2 'there is no file survey.conf' serve nowhere.invalid:1 1 1)
-    [ "$(cat "$folder/output")" = 'conf absent' ] || blame "no description and no address: $(cat "$folder/output")"
+    nowhere 'can'"'"'t listen at "nowhere.invalid:1": ' nowhere.invalid:1
+    nowhere 'ADDRESS is an IP address or a host'"'"'s name, with a port' 8080
+    nowhere 'can'"'"'t listen at "127.0.0.1:65536": ' 127.0.0.1:65536
+    nowhere "can't listen at 127.0.0.1:$port: Address already in use" "127.0.0.1:$port"
+    nowhere "can't listen at $folder/none/socket: No such file or directory" "$folder/none/socket"
+    (cd "$folder" && nowhere 'can'"'"'t listen at "8080": ' 8080)
     named=$(free_port)
     "$program" serve "localhost:$named" 1 1 >"$folder/output" 2>"$folder/said" &
     ending=$!
@@ -863,8 +862,8 @@ service() {
     [ -s "$folder/body" ] && blame "systemd-analyze verify: $(cat "$folder/body")"
     exposure=$(systemd-analyze security --offline=true "$1" 2>/dev/null | sed -n 's/.*exposure level for .*: \([0-9]*\)\.\([0-9]\).*/\1\2/p')
     [ "${exposure:-100}" -le 11 ] || blame "systemd-analyze security: ${exposure:-nothing} tenths in place of 11"
-    grep -q '^RestartPreventExitStatus=1 2 3$' "$1" || blame "the service starts again where its folder is wrong"
-    for limit in TasksMax= MemoryMax= MemorySwapMax=0 SocketBindDeny=any SocketBindAllow=tcp:8080-8081; do grep -q "^$limit" "$1" || blame "the service has no $limit"; done
+    grep -q '^RestartPreventExitStatus=1 2 3 8$' "$1" || blame "the service starts again where its folder or its address is wrong"
+    for limit in TasksMax= MemoryMax=70% MemorySwapMax=0 SocketBindDeny=any SocketBindAllow=tcp:8080-8081; do grep -q "^$limit" "$1" || blame "the service has no $limit"; done
     grep -q '^Description=.*not with the edits' "$1" || blame "the service doesn't say what a restart goes on with"
 }
 
@@ -875,9 +874,15 @@ installs() {
     PROGRAM=$program DESTDIR=$root "$scripts/install.sh" /usr >"$folder/body" 2>&1 || blame "install.sh, again: $(cat "$folder/body")"
     (cd "$folder/survey" && "$root/usr/bin/hipsd" export) >"$folder/body" 2>/dev/null || blame "what is installed doesn't run: $(cat "$folder/body")"
     for file in share/man/man1/hipsd.1 lib/systemd/system/hipsd@.service lib/systemd/system/hipsd-backup.service lib/systemd/system/hipsd-backup.timer \
-        lib/sysusers.d/hipsd.conf share/doc/hipsd/OPERATING.md; do
+        lib/sysusers.d/hipsd.conf; do
         [ -s "$root/usr/$file" ] || blame "install.sh: there is no $file"
     done
+    for page in README SECURITY docs/OPERATING docs/FORMATS; do
+        sed -n 's/[^]]*](\([^)#:]*\)[^)]*)/\1\n/gp' "$root/usr/share/doc/hipsd/$page.md" | grep -E '^[A-Za-z./]+$' | while read -r link; do
+            [ -e "$root/usr/share/doc/hipsd/$(dirname "$page")/$link" ] || echo "$page.md: $link"
+        done
+    done >"$folder/body" 2>&1
+    [ ! -s "$folder/body" ] || blame "what is installed links to what isn't: $(cat "$folder/body")"
     for script in edit.sh look-back.sh backup.sh rollover.sh; do
         [ -x "$root/usr/share/doc/hipsd/examples/$script" ] || blame "$script can't be run where it is installed"
     done

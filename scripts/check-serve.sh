@@ -182,6 +182,38 @@ fi
 grep -q "127.0.0.1:$port" "$folder/refused" || blame "an address in use isn't named: $(cat "$folder/refused")"
 stop
 
+# ---- a Unix socket
+
+# at_socket: the server at $folder/socket, once it answers.
+at_socket() {
+    (umask 117 && exec "$program" serve "$folder/socket" 65536 2 >"$folder/output" 2>"$folder/log") &
+    server=$!
+    told "listening at $folder/socket" || blame "the server doesn't listen at a Unix socket: $(cat "$folder/log")"
+}
+at_socket
+asks 200 --unix-socket "$folder/socket" http://hipsd/properties
+asks 201 --unix-socket "$folder/socket" -T "$folder/leaf" http://hipsd/Norder5/Dir0/Npix7.fits
+[ "$(stat -c %a "$folder/socket")" = 660 ] || blame "the socket's mode isn't that of the umask: $(stat -c %a "$folder/socket")"
+# A second server is refused where the first one answers, and takes its place where it is dead; a file stays.
+"$program" serve "$folder/socket" 1 1 >"$folder/output" 2>"$folder/refused"
+[ $? = 8 ] || blame "a Unix socket where a server answers, and the status isn't 8"
+grep -qF "can't listen at $folder/socket: Address already in use" "$folder/refused" || blame "a Unix socket where a server answers: $(cat "$folder/refused")"
+grep -q 'loaded ' "$folder/refused" && blame "the survey is loaded though another server answers"
+asks 404 --unix-socket "$folder/socket" http://hipsd/Norder5/Dir0/Npix7.fits
+published=$(HIPSD_SOCKET=$folder/socket "$scripts/../examples/edit.sh" publish)
+[ "${published##*[[:cntrl:]]}" = "published 1" ] || blame "edit.sh publish at a Unix socket: $published"
+mkdir "$folder/read" && (cd "$folder/read" && HIPSD_SOCKET=$folder/socket "$scripts/../examples/edit.sh" read properties Norder3/Dir0/Npix0.fits) >"$folder/body"
+cmp -s "$folder/read/Norder3/Dir0/Npix0.fits" "$folder/tile" || blame "edit.sh read at a Unix socket: $(cat "$folder/body")"
+stop
+[ -S "$folder/socket" ] || blame "a server that is killed removes its socket: the next row tries nothing"
+at_socket
+asks 404 --unix-socket "$folder/socket" http://hipsd/Norder5/Dir0/Npix7.fits
+stop
+echo text >"$folder/text"
+"$program" serve "$folder/text" 1 1 >"$folder/output" 2>"$folder/refused"
+[ $? = 8 ] || blame "a file in place of a Unix socket, and the status isn't 8: $(cat "$folder/refused")"
+[ "$(cat "$folder/text")" = text ] || blame "a file in place of a Unix socket is removed"
+
 # ---- the same address at once after a restart, and places that end by themselves
 
 "$program" serve "127.0.0.1:$port" 1 2 >"$folder/output" 2>"$folder/log" &

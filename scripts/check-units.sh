@@ -5,7 +5,8 @@
 # - hipsd@8080 serves, nginx is before it, hipsd.nft closes its ports. A copy is made by hipsd-backup.service.
 # - rollover.sh stops where hipsd.nft doesn't name the new port. Then it renews the server as hipsd@8081; the next copy is of that.
 #   hipsd-renew.service sees that it has room. A restart drains it first, and says what is lost.
-# - After the second boot the renewed server runs, with the edits that it began with, and nginx goes to it.
+# - After the second boot the renewed server runs, with the edits that it began with, and nginx goes to it. Then it listens at a Unix
+#   socket (hipsd.socket.conf), for the proxy's group alone; nginx and the backup go there, and rollover.sh renews it.
 #
 #     scripts/check-units.sh [PROGRAM]
 #
@@ -193,6 +194,23 @@ is 200 code http://127.0.0.1:8081/properties
 is 'inactive active active active active ' systemctl is-active hipsd@8080 hipsd@8081 nginx hipsd-backup.timer hipsd-renew.timer
 is 200 code "http://localhost/survey/$(leaf 9)"
 is 404 code "http://localhost/survey/$(leaf 10)"
+# At a Unix socket, by the steps of OPERATING.
+install -D -m 644 examples/hipsd.socket.conf /etc/systemd/system/hipsd@.service.d/socket.conf
+sed -i 's#server 127.0.0.1:#server unix:/run/hipsd/#' /etc/nginx/hipsd.port.conf
+systemctl daemon-reload && systemctl restart hipsd@8081 && systemctl reload nginx
+is 200 code --retry-all-errors --unix-socket /run/hipsd/8081 http://hipsd/properties
+is 'srw-rw---- hipsd www-data ' stat -c '%A %U %G' /run/hipsd/8081
+is 200 code "http://localhost/survey/$(leaf 9)"
+is 201 code -u editor:secret -T /mnt/out/10.fits "http://localhost/edit/$(leaf 10)"
+is 000 setpriv --reuid=nobody --clear-groups curl -s -o /dev/null -w '%{http_code}' --unix-socket /run/hipsd/8081 http://hipsd/properties
+is 000 curl -s -o /dev/null -w '%{http_code}' http://127.0.0.1:8081/properties
+systemctl start hipsd-backup || wrong "hipsd-backup.service at a Unix socket"
+examples/rollover.sh >/mnt/out/said 2>&1 || wrong "rollover.sh at a Unix socket: $(cat /mnt/out/said)"
+grep -qF 'may edit' /mnt/out/said && wrong "rollover.sh finds a Unix socket open: $(cat /mnt/out/said)"
+is 'active inactive ' systemctl is-active hipsd@8080 hipsd@8081
+is 'srw-rw---- hipsd www-data ' stat -c '%A %U %G' /run/hipsd/8080
+is 200 code "http://localhost/survey/$(leaf 10)"
+says hipsd@8081 'drain.sh: /run/hipsd/8081 ends, and with it the 1 edits since its start, 0 of them never published'
 SHELL
 
 left_out() {

@@ -22,8 +22,10 @@ PLACES = 64
 # What a request or a reply of few bytes may take, and what may pass until it is seen that the time is over.
 DEADLINE = 30
 SLACK = 5
+# How long a connection may be idle between two requests.
+IDLE = 30
 # How long a connection is read after its last reply, and how soon the client is told that it was the last.
-REST = 10
+END = 10
 SOON = 0.7
 # How often a client sends or takes a byte.
 PAUSE = 2
@@ -180,6 +182,24 @@ def keep_asking():
     client.close()
 
 
+def stay_idle():
+    """A client that asks, asks again after a good part of the time that a connection may be idle, and then asks nothing: it is ended."""
+    client = connect()
+    for pause in (0, 2 * IDLE / 5):
+        time.sleep(pause)
+        client.sendall(b"HEAD /properties HTTP/1.1\r\nHost: a\r\n\r\n")
+        if not client.recv(4096).startswith(b"HTTP/1.1 200"):
+            wrong.append(f"a connection that was idle for {pause} seconds isn't answered")
+    begun = time.monotonic()
+    while client.recv(4096):
+        pass
+    ended = time.monotonic() - begun
+    print(f"drip-client: an idle connection is ended after {ended:.1f} seconds")
+    if not IDLE - 1 < ended < IDLE + SLACK:
+        wrong.append(f"an idle connection is ended after {ended:.1f} seconds")
+    client.close()
+
+
 def send_on():
     """A client that goes on sending after its last reply. It is told at once that this was the last, and ended soon."""
     client = connect()
@@ -196,7 +216,7 @@ def send_on():
         pass
     ended = time.monotonic() - begun
     print(f"drip-client: a connection after its last reply is told so after {told:.1f} seconds, and ended after {ended:.1f}")
-    if told > SOON or ended > REST + SLACK:
+    if told > SOON or ended > END + SLACK:
         wrong.append(f"a connection after its last reply is told so after {told:.1f} seconds, and ended after {ended:.1f}")
     client.close()
 
@@ -218,9 +238,10 @@ def main():
     drippers()
     serve_at_once()
     send_on()
-    keeper = beside(keep_asking)
+    beside_them = [beside(keep_asking), beside(stay_idle)]
     slow_tests()
-    keeper.join()
+    for one in beside_them:
+        one.join()
     serve_at_once()
     for what in wrong[:5]:
         print(f"drip-client: {what}", file=sys.stderr)

@@ -4,9 +4,9 @@
 #     scripts/install.sh [--remove] [PREFIX]
 #
 # PREFIX is /usr/local if none is named. It gets bin/hipsd, share/man/man1/hipsd.1, the units of examples/ in lib/systemd/system,
-# lib/sysusers.d/hipsd.conf and share/doc/hipsd with the examples, FORMATS.md and OPERATING.md; systemd finds those of /usr/local
-# and /usr. The program is crates/hipsd/out/hipsd, or the one in the environment variable PROGRAM. With DESTDIR all goes below that
-# folder, as a package wants it. Nothing is started, no user is made, and /etc and the survey's folder stay as they are.
+# lib/sysusers.d/hipsd.conf and share/doc/hipsd with the examples and the documents, which stand there as they do here; systemd finds
+# those of /usr/local and /usr. The program is crates/hipsd/out/hipsd, or the one in the environment variable PROGRAM. With DESTDIR all
+# goes below that folder, as a package wants it. Nothing is started, no user is made, and /etc and the survey's folder stay as they are.
 set -eu
 cd "$(dirname "$0")/.."
 program=${PROGRAM:-crates/hipsd/out/hipsd}
@@ -78,8 +78,7 @@ install_all() {
         put 644 "$work/unit" "lib/systemd/system/${unit#*/}"
     done
     put 644 examples/hipsd.sysusers lib/sysusers.d/hipsd.conf
-    put 644 docs/FORMATS.md share/doc/hipsd/FORMATS.md
-    put 644 docs/OPERATING.md share/doc/hipsd/OPERATING.md
+    for page in *.md LICENSE bench/RESULTS.md docs/*.md docs/images/*; do put 644 "$page" "share/doc/hipsd/$page"; done
     for name in $(examples); do
         mode=644
         [ ! -x "examples/$name" ] || mode=755

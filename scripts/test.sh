@@ -46,7 +46,7 @@ export work
 export -f tests program check one
 
 {
-    for crate in hipsd board_tests survey_bench; do echo "program $crate"; done
+    for crate in hipsd board_tests; do echo "program $crate"; done
     grep -l '#\[test\]' crates/*/src/*.rt | cut -d / -f 2 | sort -u | sed 's/^/tests /'
     printf 'check %s\n' 'made-survey.py --check' 'made-summary.py --check' 'size-values.py --check' check-docs.py 'quote-headline.py --check'
     ! /usr/bin/python3 -c 'import healpy' 2>/dev/null || printf 'check %s\n' 'healpix-values.py --check' 'pyramid-values.py --check'

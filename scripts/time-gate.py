@@ -1,6 +1,7 @@
 #!/usr/bin/env python3
 """time-gate.py [NAME=VALUE ..] [COMMAND ..]: runs the command, `rt ci` if none is given, with these variables set, at the top of the repository.
 time-gate.py --pid NUMBER: watches an `rt` that runs already, until it ends.
+time-gate.py --memory: runs nothing, and prints how much memory a plain `rt ci` plans for each crate's proof, the most first.
 
 In the end it prints a table: by crate, the seconds of processor that its proof, its tests and its edits took. Each process below
 the command is looked at twice a second, so what it did right before its end is missing: how much that is stands below the table.
@@ -11,6 +12,7 @@ Then come the dearest edits: those stand in functions that take long to prove, a
 import os
 import re
 import resource
+import shutil
 import signal
 import subprocess
 import sys
@@ -135,6 +137,30 @@ def rows(sums):
             yield f"| `{name}` | {proof:.0f} | {f'{tests:.0f}' if tests else 'none'} | {shown} |"
 
 
+def count_lines(crate, ending):
+    """How many lines the files of a crate have whose names end so."""
+    folder = ROOT / "crates" / crate
+    return sum(path.read_bytes().count(b"\n") for part in ("src", "specs", "proofs") for path in (folder / part).rglob(f"*{ending}"))
+
+
+def planned():
+    """The bytes that `rt ci` plans for each crate's proof: 1 GB, 1 MB for each line of its code, 0.2 MB for each of its specs and proofs,
+    0.08 MB for each line of code of the crates below, and for the libraries of the toolchain that it loads five times their size, up to
+    2.5 GB."""
+    libraries = Path(shutil.which("rt") or sys.exit("time-gate.py: there is no rt on the path")).resolve().parent.parent / "rlibs"
+    uses = {name: below.split() for name, below in re.findall(r"^(\w+)[^:\n]*:(.*)$", (ROOT / "crates.txt").read_text(), re.M)}
+    for crate in uses:
+        loads = {crate}
+        while more := {name for it in loads for name in uses.get(it, [])} - loads:
+            loads |= more
+        loaded = [libraries / f"{name}.rlib/toolchain/checked.a" for name in loads - uses.keys() - {"core"}]
+        yield crate, (
+            1e9 + 1e6 * count_lines(crate, ".rt") + 2e5 * count_lines(crate, ".antt")
+            + 8e4 * sum(count_lines(name, ".rt") for name in loads & uses.keys() - {crate})
+            + min(5 * sum(path.stat().st_size for path in loaded if path.is_file()), 2.5e9)
+        )
+
+
 def report(sampler, minutes, whole):
     sums = sampler.sums()
     print("\n".join(rows(sums)))
@@ -153,6 +179,10 @@ def report(sampler, minutes, whole):
 
 def main(words):
     begun = time.monotonic()
+    if words == ["--memory"]:
+        for crate, memory in sorted(planned(), key=lambda pair: -pair[1]):
+            print(f"{memory / 1e9:4.1f} GB  {crate}")
+        return 0
     if words[:1] == ["--pid"]:
         command, sampler = None, Sampler(int(words[1]))
         is_there = Path(f"/proc/{words[1]}").exists

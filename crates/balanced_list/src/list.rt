@@ -1,12 +1,12 @@
 //! The list, as a tree each of whose nodes knows how many items its two sides have.
-ghost use Rattle.std.specs.Prelude.{◌≡◌, ℕ, ◌+◌, ◌<◌, ◌≤◌, ◌^◌, [], ◌∷◌, ◌++◌, length, option_copied, option_to_list, slice_get, slice_set, slice_index_or, map, IfNone, IfOk, OnOk};
+ghost use Rattle.std.specs.Prelude.{◌≡◌, ℕ, ◌+◌, ◌<◌, ◌≤◌, ◌^◌, [], ◌∷◌, ◌++◌, length, option_copied, option_to_list, slice_get, slice_set, slice_index_or, map, IfNone, OnOk};
 ghost use Rattle.std.specs.List.{insert, remove};
 ghost use Rattle.balanced_list.specs.Search.{leading, HoldsAtFirst};
 ghost use Rattle.balanced_list.specs.Tree.{node_items, tree_items};
 
 use crate::balance::{Fork, Tree, balanced};
 use crate::item::Item;
-use std::alloc::{AllocError, Global};
+use std::alloc::AllocError;
 use std::marker::Model;
 use std::mem;
 
@@ -117,19 +117,6 @@ impl<T: Drop> BalancedList<T> {
         (before, there)
     }
 
-    /// The items in order.
-    ///
-    /// # Errors
-    ///
-    /// `AllocError` where there is no memory for them.
-    pub fn to_vec(&self, alloc: Global) -> Result<Vec<&T>, AllocError>
-        ensures { IfOk result (λ items. map (λ item. item.now) items.items ≡ self.now) }
-    {
-        let mut items = Vec::with_capacity(alloc, self.len())?;
-        self.push_all(&mut items)?;
-        Ok(items)
-    }
-
     /// Appends the items in order.
     pub(crate) fn push_all<'a>(&'a self, items: &mut Vec<&'a T>) -> Result<(), AllocError>
         ensures { OnOk result (map (λ item. item.now) items.new.items ≡ map (λ item. item.now) items.old.items ++ self.now) }
@@ -151,7 +138,7 @@ impl<T: Drop> BalancedList<T> {
         ensures item { item.new ≡ slice_index_or self.old i item.new }
     {
         match &mut self.tree {
-            Tree::Empty => {}
+            Tree::Empty => unreachable!(),
             Tree::Fork(node) => {
                 let middle = node.left.len();
                 if i < middle {

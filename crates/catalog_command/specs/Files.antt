@@ -1,4 +1,4 @@
--- The tiles of a catalogue on a shelf (HiPS 1.0, section 4.4).
+-- The tiles of a catalogue on a shelf (HiPS 1.0, section 4.2).
 use Rattle.std.specs.Prelude.{◌≡◌, ◌≢◌, ◌⊎◌, ℕ, List, Option, Some, None, ⊤}
 use Rattle.std.specs.FinMap.{get}
 use Rattle.survey_link.specs.Shelf.{ShelfFiles}

@@ -1,11 +1,22 @@
-//! Tests of `hips_catalog`, over the finished crate: in it each would be proved a second time.
+//! Tests of a catalogue: `balanced_list` (`lists`), `hips_catalog` (`rows`, `worked`, `runs`, beside a `plain` program) and
+//! `catalog_command` (`commands`; `refused` lines; `shelves` that fail or have tiles of an earlier run).
+//!
+//! They stand over the finished crates, in a crate of their own: in each it would be proved a second time.
 #![tactic(auto)]
 
 #[cfg(test)]
+mod commands;
+#[cfg(test)]
+mod lists;
+#[cfg(test)]
 mod plain;
+#[cfg(test)]
+mod refused;
 #[cfg(test)]
 mod rows;
 #[cfg(test)]
 mod runs;
+#[cfg(test)]
+mod shelves;
 #[cfg(test)]
 mod worked;

@@ -1,5 +1,6 @@
-//! Tests of what is kept of edits, and of what they touch: `edit_journal` (`journals`), `dirty_plan` (`plans`) and `coverage_moc` (`covers`, and `outside_files` for tools
-//! of others).
+//! Tests of what is kept of edits, and of what they touch: `leaf_store` (`stores`, beside `plain_store`, which has the same
+//! clauses), `edit_journal` (`journals`), `dirty_plan` (`plans`), `coverage_moc` (`covers`, and `outside_files` for tools of others)
+//! and `shared_history` (`histories`).
 //!
 //! They stand over the finished crates, in a crate of their own: in each it would be proved a second time.
 #![tactic(auto)]
@@ -7,8 +8,14 @@
 #[cfg(test)]
 mod covers;
 #[cfg(test)]
+mod histories;
+#[cfg(test)]
 mod journals;
 #[cfg(test)]
 mod outside_files;
 #[cfg(test)]
+mod plain_store;
+#[cfg(test)]
 mod plans;
+#[cfg(test)]
+mod stores;

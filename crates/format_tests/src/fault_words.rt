@@ -52,8 +52,8 @@ static WORDS: [(usize, &str, &str); 12] = [
         "survey_bitpix = 8",
         "line 8, survey_blank = -32768: it is a whole number that survey_bitpix can hold",
     ),
-    (4, "# hips_order = 4", "hips_order is missing"),
-    (7, "", "survey_blank is missing"),
+    (4, "# hips_order = 4", "missing: hips_order"),
+    (7, "", "missing: survey_blank"),
 ];
 
 // The first fault of a text in words; nothing where it has none.

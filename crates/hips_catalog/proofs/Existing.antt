@@ -26,7 +26,7 @@ abbrev Ascend : List NestedCell → Type 0
 Ascend [] = Unit {0}
 Ascend (c ∷ cs) = All (λ d. at c < at d) cs × Ascend cs
 
-one_all : (P : NestedCell → Type 0) (cs : List NestedCell) (c : NestedCell) → IsOneOf c cs → All P cs → P c
+pub one_all : (P : NestedCell → Type 0) (cs : List NestedCell) (c : NestedCell) → IsOneOf c cs → All P cs → P c
 one_all P [] c m h = absurd m
 one_all P (d ∷ ds) c m h = elim m [ inl e ↦ subst P (sym e) h.0 | inr n ↦ one_all P ds c n h.1 ]
 
@@ -132,7 +132,7 @@ picked_has test p (q ∷ qs) t m = elim m [
 
 -- ---- the cells of one order
 
-abbrev cell_at : ℕ → ℕ → NestedCell
+abbrev pub cell_at : ℕ → ℕ → NestedCell
 cell_at k p = record { order = k; npix = p }
 
 cells_all : (P : NestedCell → Type 0) (k : ℕ) (ps : List ℕ) → All (λ p. P (cell_at k p)) ps → All P (map (cell_at k) ps)
@@ -204,12 +204,12 @@ test_of c k p = has_some (tile_rows c k p)
 existing_ascend : (c : Catalogue) → Ascend (existing_tiles c)
 existing_ascend c = (orders_ascend (test_of c) 0 (c.top + 1)).ascend
 
-existing_hold : (c : Catalogue) → All (λ d. has_some (tile_rows c d.order d.npix) ≡ true) (existing_tiles c)
+pub existing_hold : (c : Catalogue) → All (λ d. has_some (tile_rows c d.order d.npix) ≡ true) (existing_tiles c)
 existing_hold c =
     flat_all (λ d. has_some (tile_rows c d.order d.npix) ≡ true) (of_order (test_of c))
     (λ k. cells_all (λ d. has_some (tile_rows c d.order d.npix) ≡ true) k (filter (test_of c k) (range_with_len 0 (cell_count k))) (picked_meet (test_of c k) (range_with_len 0 (cell_count k)))) (range_with_len 0 (c.top + 1))
 
-existing_has : (c : Catalogue) (k p : ℕ) → k ≤ c.top → p < cell_count k → has_some (tile_rows c k p) ≡ true → IsOneOf (cell_at k p) (existing_tiles c)
+pub existing_has : (c : Catalogue) (k p : ℕ) → k ≤ c.top → p < cell_count k → has_some (tile_rows c k p) ≡ true → IsOneOf (cell_at k p) (existing_tiles c)
 existing_has c k p h l t =
     flat_has (of_order (test_of c)) (cell_at k p) k (range_with_len 0 (c.top + 1)) (range_has 0 (c.top + 1) k (omega arith) (omega (arith, h)))
     (cells_have k p (filter (test_of c k) (range_with_len 0 (cell_count k))) (picked_has (test_of c k) p (range_with_len 0 (cell_count k)) t (range_has 0 (cell_count k) p (omega arith) (omega (arith, l)))))
@@ -232,7 +232,7 @@ some_length : (ss : List Source) → has_some ss ≡ true → 0 < length ss
 some_length [] h = absurd (grind (arith, h))
 some_length (s ∷ ss) h = omega arith
 
-length_some : (ss : List Source) → 0 < length ss → has_some ss ≡ true
+pub length_some : (ss : List Source) → 0 < length ss → has_some ss ≡ true
 length_some [] h = absurd (omega (arith, h))
 length_some (s ∷ ss) h = refl
 

@@ -18,3 +18,4 @@ pub mod Existing
 pub mod Splitting
 pub mod RowLemmas
 pub mod OneTile
+pub mod Above

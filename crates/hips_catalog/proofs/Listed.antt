@@ -7,7 +7,7 @@ use Rattle.balanced_list.specs.Search.{leading, HoldsAtFirst}
 use Rattle.healpix_nested.specs.Cells.{NestedCell, IsCell, uniq_number}
 use Rattle.healpix_nested.specs.CellLaws.{uniq_number_injective}
 use Rattle.hips_catalog.specs.Rows.{Source}
-use Rattle.hips_catalog.specs.Tiles.{sources, is_of, rows_at, number, AreListed, OthersStay, HasTile, HasSameCells, IsGap}
+use Rattle.hips_catalog.specs.Tiles.{sources, is_of, rows_at, number, AreListed, OthersStay, HasTile, HasSameCells, HasNewRows, IsGap}
 use Rattle.hips_catalog.specs.declared.tile.Tile.{Tile}
 use Rattle.std.specs.Arc.{arc_value}
 use Rattle.hips_catalog.proofs.Order.{either, not_both, all_map}
@@ -248,13 +248,6 @@ within (t ∷ ts) (suc at) tile e = let h : at < length ts = within ts at tile e
 pub has_within : (ts : List Tile) (at : ℕ) (cell : NestedCell) → HasTile ts at cell → at < length ts
 has_within ts at cell h = elim (the_tile ts at cell h) [ tile_at tile e c ↦ within ts at tile e ]
 
--- what becomes of tiles when one is taken out, given other rows, and put back
-pub record Changed (ts new : List Tile) (cell : NestedCell) (rows : List Source) : Type 0 where
-  pub rows_are : rows_at new cell.order cell.npix ≡ rows
-  pub others : OthersStay cell.order cell.npix ts new
-  pub listed : AreListed new
-  pub cells : HasSameCells ts new
-
 -- the tile taken out is that of the cell
 pub data Taken (ts : List Tile) (at : ℕ) (cell : NestedCell) (taken : Tile) : Type 0 where
   taken_is : slice_get ts at ≡ Some taken → taken.cell ≡ cell → rows_at ts cell.order cell.npix ≡ sources taken.rows → Taken ts at cell taken
@@ -269,11 +262,11 @@ taken_tile ts at cell taken d l h e = elim (the_tile ts at cell h) [
 ]
 
 pub change : (ts once new : List Tile) (at : ℕ) (cell : NestedCell) (blank taken back d : Tile) → AreListed ts → HasTile ts at cell → taken ≡ slice_index_or ts at d →
-    once ≡ slice_set ts at blank → back.cell ≡ taken.cell → new ≡ slice_set once at back → Changed ts new cell (sources back.rows)
+    once ≡ slice_set ts at blank → back.cell ≡ taken.cell → new ≡ slice_set once at back → HasNewRows cell (sources back.rows) ts new
 change ts once new at cell blank taken back d l h e o c n = elim (taken_tile ts at cell taken d l h e) [
   | taken_is g c2 r ↦
       let all : new ≡ slice_set ts at back = n ∙ ap (λ ys. slice_set ys at back) o ∙ set_again ts at blank back in
-      subst (λ ys. Changed ts ys cell (sources back.rows)) (sym all) (record {
+      subst (λ ys. HasNewRows cell (sources back.rows) ts ys) (sym all) (record {
         rows_are = set_here ts at taken back cell.order cell.npix l g c (ap (λ x. x.order) c2) (ap (λ x. x.npix) c2);
         others = set_others ts at taken back cell.order cell.npix g c (ap (λ x. x.order) c2) (ap (λ x. x.npix) c2);
         listed = set_listed ts at taken back l g c;

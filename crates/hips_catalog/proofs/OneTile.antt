@@ -6,6 +6,7 @@ use Rattle.healpix_nested.specs.CellLaws.{under_one}
 use Rattle.hips_catalog.specs.Rows.{Source, is_better, placed, in_order}
 use Rattle.hips_catalog.specs.Held.{is_under, rest_of, held}
 use Rattle.hips_catalog.specs.More.{IsInOrder}
+use Rattle.hips_catalog.specs.Catalogue.{Catalogue, tile_rows}
 use Rattle.hips_catalog.specs.Laws.{IsAmong, EachRowStandsInOneTile, TilesHoldRowsInOrder}
 use Rattle.hips_catalog.proofs.Order.{either, not_both, not_itself, all_map, in_order_all, in_order_ordered}
 use Rattle.hips_catalog.proofs.Steps.{dropped_all}
@@ -16,7 +17,7 @@ use Rattle.hips_catalog.proofs.Existing.{held_under}
 
 -- ---- which lists have a source
 
-among_all : (P : Source → Type 0) (ss : List Source) (s : Source) → IsAmong s ss → All P ss → P s
+pub among_all : (P : Source → Type 0) (ss : List Source) (s : Source) → IsAmong s ss → All P ss → P s
 among_all P [] s m h = absurd m
 among_all P (r ∷ rs) s m h = elim m [ inl e ↦ subst P (sym e) h.0 | inr n ↦ among_all P rs s n h.1 ]
 
@@ -71,18 +72,21 @@ cut_among s (suc n) (r ∷ rs) m = elim m [
   | inr l ↦ elim (cut_among s n rs l) [ inl a ↦ inl (inr a) | inr b ↦ inr b ]
 ]
 
--- of sources in order none is among the first n and after them too
-on_one_side : (s : Source) (n : ℕ) (ss : List Source) → IsInOrder ss → IsAmong s (take n ss) → IsAmong s (drop n ss) → ⊥
-on_one_side s zero ss o a b = absurd a
-on_one_side s (suc n) [] o a b = absurd a
-on_one_side s (suc n) (r ∷ rs) o a b = elim a [
-  | inl e ↦ not_both (is_better s s) (subst (λ q. is_better q s ≡ true) (sym e) (among_all (λ q. is_better r q ≡ true) (drop n rs) s b (dropped_all (λ q. is_better r q ≡ true) n rs o.0))) (not_itself s)
-  | inr l ↦ on_one_side s n rs o.1 l b
+-- of sources in order each of the first n is better than each after them
+pub better_first : (r s : Source) (n : ℕ) (ss : List Source) → IsInOrder ss → IsAmong r (take n ss) → IsAmong s (drop n ss) → is_better r s ≡ true
+better_first r s zero ss o a b = absurd a
+better_first r s (suc n) [] o a b = absurd a
+better_first r s (suc n) (q ∷ qs) o a b = elim a [
+  | inl e ↦ subst (λ t. is_better t s ≡ true) (sym e) (among_all (λ t. is_better q t ≡ true) (drop n qs) s b (dropped_all (λ t. is_better q t ≡ true) n qs o.0))
+  | inr l ↦ better_first r s n qs o.1 l b
 ]
+
+on_one_side : (s : Source) (n : ℕ) (ss : List Source) → IsInOrder ss → IsAmong s (take n ss) → IsAmong s (drop n ss) → ⊥
+on_one_side s n ss o a b = not_both (is_better s s) (better_first s s n ss o a b) (not_itself s)
 
 -- ---- the path of a source
 
-abbrev path : ℕ → Source → ℕ → ℕ
+abbrev pub path : ℕ → Source → ℕ → ℕ
 path top s k = s.npix / 4 ^ (top - k)
 
 path_up : (top k : ℕ) (s : Source) → suc k ≤ top → path top s (suc k) / 4 ≡ path top s k
@@ -121,14 +125,14 @@ begins top n ss s m = seek top n ss s top 0 (omega arith) (picked_among (is_unde
 
 -- ---- no other tile has it
 
-among_held : (top n : ℕ) (ss : List Source) (s : Source) (k p : ℕ) → IsAmong s (held top n ss k p) → IsAmong s (rest_of top n ss k p)
+pub among_held : (top n : ℕ) (ss : List Source) (s : Source) (k p : ℕ) → IsAmong s (held top n ss k p) → IsAmong s (rest_of top n ss k p)
 among_held top n ss s k p m = elim (either (ltb k top)) [
   | inl t ↦ among_taken s n (rest_of top n ss k p) (subst (λ b. IsAmong s (cond b (take n (rest_of top n ss k p)) (rest_of top n ss k p))) t m)
   | inr f ↦ subst (λ b. IsAmong s (cond b (take n (rest_of top n ss k p)) (rest_of top n ss k p))) f m
 ]
 
 -- what is left for a tile was left over by each tile above it
-was_left : (top n : ℕ) (ss : List Source) (s : Source) (d j k : ℕ) → k ≡ suc j + d → k ≤ top → IsAmong s (rest_of top n ss k (path top s k)) → IsAmong s (drop n (rest_of top n ss j (path top s j)))
+pub was_left : (top n : ℕ) (ss : List Source) (s : Source) (d j k : ℕ) → k ≡ suc j + d → k ≤ top → IsAmong s (rest_of top n ss k (path top s k)) → IsAmong s (drop n (rest_of top n ss j (path top s j)))
 was_left top n ss s zero j k e h m =
     let ek : k ≡ suc j = omega (arith, e) in
     go_up top n ss s j (omega (arith, ek, h)) (subst (λ (i : ℕ). IsAmong s (rest_of top n ss i (path top s i))) ek m)
@@ -178,8 +182,13 @@ among_rest top n ss s zero p m = among_picked (is_under top 0 p) s ss m
 among_rest top n ss s (suc k) p m =
     among_rest top n ss s k (p / 4) (among_dropped s n (rest_of top n ss k (p / 4)) (among_picked (is_under top (suc k) p) s (drop n (rest_of top n ss k (p / 4))) m))
 
+-- what holds of all sources of the catalogue holds of those of a tile
+pub tile_all : (P : Source → Type 0) (c : Catalogue) (k p : ℕ) (s : Source) → All P c.rows → IsAmong s (tile_rows c k p) → P s
+tile_all P c k p s h m =
+    among_all P (in_order c.rows) s (among_rest c.top c.per_tile (in_order c.rows) s k p (among_held c.top c.per_tile (in_order c.rows) s k p m)) (in_order_all P c.rows h)
+
 pub rows_in_order : TilesHoldRowsInOrder
 rows_in_order c a k p = record {
-  rows = λ s m. among_all (λ r. IsAmong r c.rows) (in_order c.rows) s (among_rest c.top c.per_tile (in_order c.rows) s k p (among_held c.top c.per_tile (in_order c.rows) s k p m)) (in_order_all (λ r. IsAmong r c.rows) c.rows (all_among c.rows));
+  rows = λ s m. tile_all (λ r. IsAmong r c.rows) c k p s (all_among c.rows) m;
   in_order = held_ordered c.top c.per_tile (in_order c.rows) k p (in_order_ordered c.rows (distinct c.rows a));
 }

@@ -1,4 +1,4 @@
--- Which rows a tile of a catalogue holds: HiPS 1.0, section 4.4, where the tiles of a source list hold the best sources at the
+-- Which rows a tile of a catalogue holds: HiPS 1.0, section 4.2, where the tiles of a source list hold the best sources at the
 -- lowest order, and deeper ones the next. A tile takes its rows from the top downward: the first of those that no tile above
 -- it holds. How many a tile holds is this project's profile.
 use Rattle.std.specs.Prelude.{ℕ, zero, suc, ◌/◌, nat_lt, Bool, cond, List, take, drop}

@@ -1,8 +1,10 @@
 -- Laws of the definitions, each the whole contract of a function of `laws`.
-use Rattle.std.specs.Prelude.{◌≡◌, ◌⊎◌, ℕ, ◌/◌, ◌-◌, ◌^◌, ◌≤◌, List, [], ◌∷◌, Ok}
-use Rattle.hips_catalog.specs.Rows.{Source}
+use Rattle.std.specs.Prelude.{◌≡◌, ◌⊎◌, ℕ, ◌/◌, ◌-◌, ◌^◌, ◌<◌, ◌≤◌, true, List, [], ◌∷◌, length, Ok}
+use Rattle.healpix_nested.specs.Cells.{NestedCell, lies_under}
+use Rattle.hips_catalog.specs.Rows.{Source, is_better}
 use Rattle.hips_catalog.specs.More.{IsInOrder}
-use Rattle.hips_catalog.specs.Catalogue.{Catalogue, AscendById, tile_rows}
+use Rattle.hips_catalog.specs.Catalogue.{Catalogue, IsCatalogue, AscendById, tile_rows, existing_tiles}
+use Rattle.hips_catalog.specs.Tiles.{IsOneOf}
 use Rattle.hips_catalog.specs.Reading.{IsRow, row_text, read_row}
 
 -- the line that is written of a row is read as that row, and nothing else is read as a row
@@ -35,3 +37,15 @@ pub record HoldsRowsInOrder (catalogue : Catalogue) (k p : ℕ) : Type 0 where
 
 abbrev pub TilesHoldRowsInOrder : Type 0
 TilesHoldRowsInOrder = (catalogue : Catalogue) → AscendById catalogue.rows → (k p : ℕ) → HoldsRowsInOrder catalogue k p
+
+-- the tile of the upper cell exists, is full, and each of its rows is better than each row of the lower cell's tile
+pub record HasBetterRows (catalogue : Catalogue) (upper lower : NestedCell) : Type 0 where
+  pub exists : IsOneOf upper (existing_tiles catalogue)
+  pub full : length (tile_rows catalogue upper.order upper.npix) ≡ catalogue.per_tile
+  pub better : (r s : Source) → IsAmong r (tile_rows catalogue upper.order upper.npix) → IsAmong s (tile_rows catalogue lower.order lower.npix) → is_better r s ≡ true
+
+-- above a tile that exists each tile on its path is full of better rows
+abbrev pub BetterRowsStandAbove : Type 0
+BetterRowsStandAbove =
+    (catalogue : Catalogue) → IsCatalogue catalogue → (upper lower : NestedCell) → IsOneOf lower (existing_tiles catalogue)
+    → upper.order < lower.order → lies_under lower.order lower.npix upper.order upper.npix ≡ true → HasBetterRows catalogue upper lower

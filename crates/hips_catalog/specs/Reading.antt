@@ -1,5 +1,5 @@
 -- The line of a row: `RANK TAB NPIX TAB ID TAB REST`, a record of tab-separated values (IANA, text/tab-separated-values), as
--- the tiles of a source list are (HiPS 1.0, section 4.4). The rank and the number of the cell are in plain decimals. Which
+-- the tiles of a source list are (HiPS 1.0, section 4.2). The rank and the number of the cell are in plain decimals. Which
 -- fields there are and what they may be is this project's profile. Texts are lists of bytes.
 use Rattle.std.specs.Prelude.{◌≡◌, ℕ, ◌^◌, ◌<◌, Bool, true, not, ◌&&◌, ◌==◌, nat_le, nat_lt, List, [], ◌∷◌, ◌++◌, length, decimal, Some, None, option_and_then, ok_or, Result, Ok, Err, if◌then◌else◌}
 use Rattle.std.specs.List.{list_all, slice_split}

@@ -1,4 +1,4 @@
--- A tile's text, as tab-separated values: HiPS 1.0, section 4.4. A line of the names of the columns comes first, and then a
+-- A tile's text, as tab-separated values: HiPS 1.0, section 4.2. A line of the names of the columns comes first, and then a
 -- line for each row.
 use Rattle.std.specs.Prelude.{ℕ, List, [], ◌∷◌, ◌++◌, Option, Some, None, codes}
 use Rattle.std.specs.List.{flat_map}

@@ -48,7 +48,14 @@ OthersStay k p old new = (j q : ℕ) → ¬ ((j ≡ k) × (q ≡ p)) → rows_at
 abbrev pub HasSameCells : List Tile → List Tile → Type 0
 HasSameCells old new = map (λ t. t.cell) new ≡ map (λ t. t.cell) old
 
--- and all but those of two cells
+-- the tile of the cell has these rows now, and all else is as it was
+pub record HasNewRows (cell : NestedCell) (rows : List Source) (old new : List Tile) : Type 0 where
+  pub rows_are : rows_at new cell.order cell.npix ≡ rows
+  pub others : OthersStay cell.order cell.npix old new
+  pub listed : AreListed new
+  pub cells : HasSameCells old new
+
+-- all but the tiles of two cells have the rows that they had
 abbrev pub OthersStayButTwo : NestedCell → NestedCell → List Tile → List Tile → Type 0
 OthersStayButTwo cell child old new =
     (j q : ℕ) → ¬ ((j ≡ cell.order) × (q ≡ cell.npix)) → ¬ ((j ≡ child.order) × (q ≡ child.npix)) → rows_at new j q ≡ rows_at old j q

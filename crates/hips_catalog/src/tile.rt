@@ -1,11 +1,12 @@
 //! The tiles, by the numbers of their cells.
-ghost use Rattle.std.specs.Prelude.{◌≡◌, true, false, ℕ, List, ◌+◌, ◌<◌, ◌≤◌, ◌^◌, [], ◌∷◌, length, IfOk, MatchOption, drop, take as first_of, ◌++◌, None, IfErr, OnSome, IsSome, slice_get, slice_index_or, option_map, option_copied, IfSome, IfNone};
+ghost use Rattle.std.specs.Prelude.{◌≡◌, true, false, ℕ, List, ◌+◌, ◌<◌, ◌≤◌, ◌^◌, [], ◌∷◌, length, IfOk, MatchOption, drop, take as first_of, ◌++◌, None, IfErr, OnSome, IsSome, slice_get, slice_set, slice_index_or, option_map, option_copied, IfSome, IfNone};
 ghost use Rattle.std.specs.Arc.{arc_value};
 ghost use Rattle.std.specs.List.{insert, remove};
 ghost use Rattle.balanced_list.specs.Search.{leading, HoldsAtFirst};
 ghost use Rattle.hips_catalog.specs.Rows.{Source, is_better, placed};
 ghost use Rattle.healpix_nested.specs.Cells.{NestedCell};
-ghost use Rattle.hips_catalog.specs.Tiles.{sources, child_cell, rows_at, is_of, AreListed, HasTile, IsGap, OthersStay, OthersStayButTwo, HasSameCells, IsBest, IsBestTile, first_at, NoneIsEmpty, number};
+ghost use Rattle.hips_catalog.specs.declared.tile.Tile.{Tile};
+ghost use Rattle.hips_catalog.specs.Tiles.{sources, child_cell, rows_at, is_of, AreListed, HasTile, IsGap, OthersStay, OthersStayButTwo, HasSameCells, HasNewRows, IsBest, IsBestTile, first_at, NoneIsEmpty, number};
 
 use crate::ranked::Ranked;
 use crate::row::Row;
@@ -80,6 +81,36 @@ pub(crate) fn find(tiles: &Tiles, cell: Cell) -> Result<(usize, &Tile), usize>
     }
 }
 
+// The place of the cell's tile, which has rows, and the tile.
+fn with_place(tiles: &Tiles, cell: Cell) -> (usize, &Tile)
+    requires listed { AreListed tiles.now }
+    requires some { 0 < length (rows_at tiles.now cell.order cell.npix) }
+    ensures there { HasTile tiles.now result.0 cell }
+    ensures rows { rows_at tiles.now cell.order cell.npix ≡ sources result.1.now.rows }
+{
+    match find(tiles, cell) {
+        Ok(found) => found,
+        Err(_) => unreachable!(),
+    }
+}
+
+// Takes the cell's tile out for a change of its rows. Until it is swapped back, one without rows stands in its place.
+fn lift(tiles: &mut Tiles, cell: Cell, at: usize) -> Tile
+    requires listed { AreListed tiles.old }
+    requires there { HasTile tiles.old at cell }
+    ensures rows { rows_at tiles.old cell.order cell.npix ≡ sources result.rows }
+    ensures count { length (rows_at tiles.old cell.order cell.npix) ≡ length result.rows }
+    ensures within { at < length tiles.new }
+    ensures back { (tile : Tile) → tile.cell ≡ result.cell → HasNewRows cell (sources tile.rows) tiles.old (slice_set tiles.new at tile) }
+{
+    let mut tile = Tile {
+        cell,
+        rows: TileRows::new(),
+    };
+    tiles.swap(at, &mut tile);
+    tile
+}
+
 /// Puts a row into the cell's tile, which is there.
 pub(crate) fn put(tiles: &mut Tiles, cell: Cell, at: usize, i: usize, row: Item<Ranked>)
     requires listed { AreListed tiles.old }
@@ -91,11 +122,7 @@ pub(crate) fn put(tiles: &mut Tiles, cell: Cell, at: usize, i: usize, row: Item<
     ensures listed { AreListed tiles.new }
     ensures cells { HasSameCells tiles.old tiles.new }
 {
-    let mut tile = Tile {
-        cell,
-        rows: TileRows::new(),
-    };
-    tiles.swap(at, &mut tile);
+    let mut tile = lift(tiles, cell, at);
     tile.rows.insert(i, row);
     tiles.swap(at, &mut tile);
 }
@@ -111,11 +138,7 @@ pub(crate) fn take(tiles: &mut Tiles, cell: Cell, at: usize, i: usize) -> Item<R
     ensures listed { AreListed tiles.new }
     ensures cells { HasSameCells tiles.old tiles.new }
 {
-    let mut tile = Tile {
-        cell,
-        rows: TileRows::new(),
-    };
-    tiles.swap(at, &mut tile);
+    let mut tile = lift(tiles, cell, at);
     let row = tile.rows.remove(i);
     tiles.swap(at, &mut tile);
     row
@@ -132,11 +155,7 @@ fn exchange(tiles: &mut Tiles, cell: Cell, at: usize, row: Item<Ranked>) -> Item
     ensures listed { AreListed tiles.new }
     ensures cells { HasSameCells tiles.old tiles.new }
 {
-    let mut tile = Tile {
-        cell,
-        rows: TileRows::new(),
-    };
-    tiles.swap(at, &mut tile);
+    let mut tile = lift(tiles, cell, at);
     let first = tile.rows.exchange(0, row);
     tiles.swap(at, &mut tile);
     first
@@ -254,11 +273,7 @@ fn offer_to(
     if i == room {
         return Some(row);
     }
-    let mut tile = Tile {
-        cell,
-        rows: TileRows::new(),
-    };
-    tiles.swap(at, &mut tile);
+    let mut tile = lift(tiles, cell, at);
     let last = put_among(&mut tile.rows, i, row, room);
     tiles.swap(at, &mut tile);
     last
@@ -327,20 +342,12 @@ pub(crate) fn pull(tiles: &mut Tiles, cell: Cell, i: usize, child: Cell)
     ensures listed { AreListed tiles.new }
     ensures full { NoneIsEmpty tiles.old → NoneIsEmpty tiles.new }
 {
-    match find(tiles, cell) {
-        Err(_) => {}
-        Ok((upper, tile)) => {
-            let last = tile.rows.len() - 1;
-            match find(tiles, child) {
-                Err(_) => {}
-                Ok((lower, _tile)) => {
-                    let dead = take(tiles, cell, upper, i);
-                    let best = exchange(tiles, child, lower, dead);
-                    put(tiles, cell, upper, last, best);
-                }
-            }
-        }
-    }
+    let (upper, tile) = with_place(tiles, cell);
+    let last = tile.rows.len() - 1;
+    let (lower, _tile) = with_place(tiles, child);
+    let dead = take(tiles, cell, upper, i);
+    let best = exchange(tiles, child, lower, dead);
+    put(tiles, cell, upper, last, best);
 }
 
 /// Takes row `i` out of the cell's tile, and the tile too where it has no other.
@@ -352,14 +359,10 @@ pub(crate) fn take_out(tiles: &mut Tiles, cell: Cell, i: usize)
     ensures listed { AreListed tiles.new }
     ensures full { NoneIsEmpty tiles.old → NoneIsEmpty tiles.new }
 {
-    match find(tiles, cell) {
-        Err(_) => {}
-        Ok((at, tile)) => {
-            if tile.rows.len() == 1 {
-                let _tile = tiles.remove(at);
-                return;
-            }
-            let _row = take(tiles, cell, at, i);
-        }
+    let (at, tile) = with_place(tiles, cell);
+    if tile.rows.len() == 1 {
+        let _tile = tiles.remove(at);
+        return;
     }
+    let _row = take(tiles, cell, at, i);
 }

@@ -44,9 +44,9 @@ pub(crate) enum Call {
     Pin,
     Unpin,
     Batch,
-    /// The leaf is to have the tile in the body.
+    /// Puts the tile in the body at the leaf.
     Put(u64),
-    /// The leaf is to be taken away.
+    /// Removes the leaf.
     Delete(u64),
 }
 
@@ -83,7 +83,7 @@ fn text_kind(path: &[u8], top: u8) -> PathKind
     }
 }
 
-// The leaf whose tile the file is; `None` exactly where it is no leaf's.
+// The leaf whose tile the file is; `None` if it is no leaf's.
 fn leaf_of(file: &Option<Path>, top: u8) -> Option<Cell>
     ensures some { IfSome result (λ leaf. (file.now ≡ Some (Tile leaf)) × (leaf.order ≡ top)) }
     ensures none { IsNone result → (leaf : NestedCell) → leaf.order ≡ top → ¬ (file.now ≡ Some (Tile leaf)) }

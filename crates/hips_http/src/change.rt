@@ -18,9 +18,11 @@ ghost use Rattle.hips_http.specs.Progress.{Serves};
 
 use crate::open_connection::Means;
 use crate::reply::TextReply;
+use crate::room::{say_batch, say_edit};
 use edit_journal::{Edit, EditFault};
 use fits_tile::{TileRefusal, decode};
 use http_frame::{Request, Tags};
+use log::Log;
 use parent_rule::Steps;
 use reader_pin::{BoardBatch, BoardRefusal, ChangedWith};
 use std::alloc::Global;
@@ -29,7 +31,7 @@ use survey_core::{BatchRead, State, read_batch};
 use tile_pixels::Tile;
 
 /// Answers PUT of a leaf: it has the tile of the body from then on, where the request's preconditions hold.
-pub(crate) fn put<R, G, B: ChangedWith<R>>(
+pub(crate) fn put<R: Log, G, B: ChangedWith<R>>(
     means: &Means<'_, '_, R, G>,
     board: &mut B,
     request: &Request,
@@ -52,7 +54,10 @@ pub(crate) fn put<R, G, B: ChangedWith<R>>(
         None => return TextReply::unmet(board.last().edits()),
     };
     match board.edit(means.rt, edit) {
-        Ok(accepted) => TextReply::edited(!accepted.created, accepted.number),
+        Ok(accepted) => {
+            say_edit(means.rt, board.last());
+            TextReply::edited(!accepted.created, accepted.number)
+        }
         Err(BoardRefusal::Fault { fault, edits }) => TextReply::edit_refused(fault, edits),
         Err(BoardRefusal::OutOfMemory) => TextReply::no_memory(),
     }
@@ -94,7 +99,7 @@ fn put_edit(request: &Request, leaf: u64, tile: Arc<Tile>) -> Option<Edit>
 }
 
 /// Answers DELETE of a leaf: it is taken away, where it is there and the request's preconditions hold.
-pub(crate) fn delete<R, B: ChangedWith<R>>(
+pub(crate) fn delete<R: Log, B: ChangedWith<R>>(
     rt: &R,
     board: &mut B,
     request: &Request,
@@ -109,7 +114,10 @@ pub(crate) fn delete<R, B: ChangedWith<R>>(
         None => return unmet_delete(board.last(), leaf),
     };
     match board.edit(rt, edit) {
-        Ok(accepted) => TextReply::edited(true, accepted.number),
+        Ok(accepted) => {
+            say_edit(rt, board.last());
+            TextReply::edited(true, accepted.number)
+        }
         Err(BoardRefusal::Fault { fault, edits }) => delete_refused(fault, edits),
         Err(BoardRefusal::OutOfMemory) => TextReply::no_memory(),
     }
@@ -148,7 +156,7 @@ fn delete_refused(fault: EditFault, edits: u32) -> TextReply
 }
 
 /// Answers POST batch: the edits of the body are accepted, all or none.
-pub(crate) fn batch<R, B: ChangedWith<R>>(
+pub(crate) fn batch<R: Log, B: ChangedWith<R>>(
     rt: &R,
     alloc: Global,
     board: &mut B,
@@ -165,7 +173,10 @@ pub(crate) fn batch<R, B: ChangedWith<R>>(
     };
     let count = edits.len() as u32;
     match board.batch(rt, edits) {
-        Ok(number) => TextReply::batch_accepted(count, number),
+        Ok(number) => {
+            say_batch(rt, board.last(), count);
+            TextReply::batch_accepted(count, number)
+        }
         Err(BoardBatch::Fault { at, fault, edits }) => TextReply::batch_unmet(at, fault, edits),
         Err(BoardBatch::OutOfMemory) => TextReply::no_memory(),
     }

@@ -25,11 +25,11 @@ use survey_core::batch_room;
 use survey_link::{Gate, Sink, Source};
 
 /// Serves one connection: reads its requests and answers each from the states that the board sees, until the input ends, a
-/// request asked to close, 65,536 were answered, or the source or the sink failed. What the board held is given up first. Each
+/// request asked to close, 65,536 were answered, or the source or the sink failed. It releases the board's pin first. Each
 /// reply is flushed before the next one is written.
 ///
-/// `OutOfMemory` ends it where there is no memory for its buffers, before anything is read or written. From then on only PUT,
-/// DELETE, POST batch and POST publish may want memory, and they answer it with code 503; `wants` is the number of these
+/// It ends with `OutOfMemory` if there is no memory for its buffers, before anything is read or written. From then on only PUT,
+/// DELETE, POST batch and POST publish may run out of memory, and they answer code 503; `wants` is the number of these
 /// replies. An event whose reply couldn't be written stays in the history.
 pub fn session<
     R: Threads + Sync + Clock + Log,
@@ -71,7 +71,7 @@ pub fn session<
 }
 
 /// As `session`, over a frame that is handed in, which has room for the longest body of the board's survey; without one it
-/// ends for want of memory, before anything is read or written. What the frame held is dropped first.
+/// ends out of memory, before anything is read or written. What the frame held is dropped first.
 pub fn session_in<
     R: Threads + Sync + Clock + Log,
     B: ChangedWith<R>,
@@ -108,7 +108,7 @@ pub fn session_in<
     ensures order { IfSome (S.left src.old) (λ input. (served : IsServed (B.content board.old) (B.content board.new) input
         (connection_of S.Source K.Sink src.old sink.old) (connection_of S.Source K.Sink src.new sink.new) steps.old steps.new result)
         × ReadsWhere S.Source (FollowsReplies (room_of (B.content board.old).conf) served.run.outputs served.passed) [] src.old src.new) }
-    // Want of memory ends it exactly where there is no frame.
+    // It ends out of memory if and only if there is no frame.
     ensures begins { (result.end ≡ OutOfMemory) ↔ IsNone frame.old }
     ensures kept { IsSome frame.old → IsSome frame.new }
     ensures room { IfSome frame.new (λ frame. frame.room ≡ room_of (B.content board.new).conf) }

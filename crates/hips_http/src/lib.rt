@@ -14,6 +14,7 @@ mod file;
 pub mod laws;
 mod open_connection;
 mod reply;
+mod room;
 mod saying;
 mod send;
 mod served;
@@ -21,4 +22,5 @@ mod step;
 mod text;
 
 pub use connection::{frame_for, session, session_in};
+pub use room::say_room;
 pub use served::{Served, SessionEnd};

@@ -1,4 +1,4 @@
-//! What is said to the log.
+//! What is logged of requests and publications.
 use crate::open_connection::Due;
 use http_frame::Method;
 use log::{Level, Log, debug, info, log_enabled};
@@ -8,7 +8,7 @@ use std::time::{Clock, Instant};
 /// What the log calls a request.
 const REQUEST: &str = "request";
 
-/// A stop-watch over one request. It reads the clock only where requests are said.
+/// A stop-watch over one request. It reads the clock only if requests are logged.
 #[derive(Clone, Copy)]
 pub(crate) struct Stopwatch {
     begun: Option<Instant>,
@@ -32,7 +32,7 @@ impl Stopwatch {
     }
 }
 
-/// Says that a request was answered, by a body of so many bytes; where it was refused, the text says why.
+/// Logs that a request was answered, by a body of so many bytes; if it was refused, the text says why.
 pub(crate) fn say_reply<R: Clock + Log>(
     rt: &R,
     due: &Due,
@@ -57,7 +57,7 @@ pub(crate) fn say_reply<R: Clock + Log>(
     say(rt, due.watch, line);
 }
 
-/// Says that a head was refused by its framing. Nothing of it is known but the code.
+/// Logs that a head was refused by its framing. Nothing of it is known but the code.
 pub(crate) fn say_refused<R: Clock + Log>(rt: &R, watch: Stopwatch, code: u16) {
     let line = Line {
         method: "-",
@@ -69,7 +69,7 @@ pub(crate) fn say_refused<R: Clock + Log>(rt: &R, watch: Stopwatch, code: u16) {
     say(rt, watch, line);
 }
 
-// What is said of a request: the method, the path, the code, the bytes of the body, and why it was refused.
+// What is logged of a request: the method, the path, the code, the bytes of the body, and why it was refused.
 #[derive(Clone, Copy)]
 struct Line<'p, 't> {
     method: &'static str,
@@ -79,7 +79,7 @@ struct Line<'p, 't> {
     refusal: &'t [u8],
 }
 
-// Says that a request was answered, in one line of words, whatever bytes its path has; the microseconds come before the last.
+// Logs that a request was answered, in one line of words, whatever bytes its path has; the microseconds come before the last.
 fn say<R: Clock + Log>(rt: &R, watch: Stopwatch, line: Line<'_, '_>) {
     let Line {
         method,
@@ -184,7 +184,7 @@ impl Publishing {
         }
     }
 
-    /// Says that the first `prefix` of so many edits are published, at that count of steps, and how many weren't when it began.
+    /// Logs that the first `prefix` of so many edits are published, at that count of steps, and how many weren't when it began.
     pub(crate) fn say_done<R: Clock + Log>(&self, rt: &R, prefix: u32, edits: u32, steps: u64) {
         let own = prefix.saturating_sub(self.prefix);
         let tiles = steps.saturating_sub(self.steps);

@@ -13,7 +13,7 @@ use log::Log;
 use std::time::Clock;
 use survey_link::{Failed, Sink};
 
-/// Writes a reply to a request, and says it; to HEAD its head alone.
+/// Writes a reply to a request, and logs it; to HEAD its head alone.
 ///
 /// # Errors
 ///
@@ -52,7 +52,7 @@ pub(crate) fn sent_part(method: Method, part: &[u8]) -> &[u8]
     }
 }
 
-/// Writes the reply to a head that is refused by its framing, and says it. The code is one of those by which a frame refuses.
+/// Writes the reply to a head that is refused by its framing, and logs it. The code is one of those by which a frame refuses.
 ///
 /// # Errors
 ///

@@ -26,6 +26,6 @@ pub enum SessionEnd {
 pub struct Served {
     /// How it ended.
     pub end: SessionEnd,
-    /// How many replies told want of memory.
+    /// How many replies said that there was no memory (503).
     pub wants: u32,
 }

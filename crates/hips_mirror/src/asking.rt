@@ -10,17 +10,17 @@ ghost use Rattle.hips_mirror.specs.Mirror.{RefusesReply};
 ghost use Rattle.hips_mirror.specs.Stages.{FaultRose, of_stop};
 
 use crate::refusal::MirrorRefusal;
-use crate::saying::{Request, say_refusal};
+use crate::saying::{Request, say_stop};
 use log::Log;
 use mirror_frame::{Due, Peer, Stop};
 use survey_link::{Sink, Source};
 
-/// Sends a request, and reads its reply: its body is then the peer's. It answers the reply's Survey-Prefix. The log gets which
-/// reply isn't in form or is cut.
+/// Sends a request, and reads its reply: its body is then the peer's. It answers the reply's Survey-Prefix. The log gets what is
+/// wrong with a reply.
 ///
 /// # Errors
 ///
-/// `Reply` with the number of the request exactly where the reply isn't in form; `Cut` exactly where the input ends within it;
+/// `Reply` with the number of the request if and only if the reply is malformed; `Cut` if and only if the input ends within it;
 /// `ReadFault` and `WriteFault` only where that count rose; `OutOfMemory`.
 pub(crate) fn ask<R: Log, S: Source, K: Sink>(
     rt: &R,
@@ -41,9 +41,8 @@ pub(crate) fn ask<R: Log, S: Source, K: Sink>(
     match peer.ask(&request.ask, due) {
         Ok(prefix) => Ok(prefix),
         Err(stop) => {
-            let refusal = refusal_of(stop, request.number);
-            say_refusal(rt, request, &refusal);
-            Err(refusal)
+            say_stop(rt, request, stop, peer.fault(due));
+            Err(refusal_of(stop, request.number))
         }
     }
 }

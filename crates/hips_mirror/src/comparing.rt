@@ -64,7 +64,7 @@ pub(crate) fn read_mosaic<R: Log, S: Source, K: Sink>(
 ///
 /// # Errors
 ///
-/// `Differs` with the path of the properties exactly where these differ; `OutOfMemory`.
+/// `Differs` with the path of the properties if and only if these differ; `OutOfMemory`.
 pub(crate) fn build<R: Threads + Sync, G: Gate + Sync>(
     rt: &R,
     alloc: Global,
@@ -93,7 +93,7 @@ pub(crate) fn build<R: Threads + Sync, G: Gate + Sync>(
 ///
 /// # Errors
 ///
-/// `Differs` with the path of the mosaic exactly where there is a leaf and they differ; `OutOfMemory`.
+/// `Differs` with the path of the mosaic if and only if there is a leaf and they differ; `OutOfMemory`.
 pub(crate) fn compare_mosaic(
     alloc: Global,
     generation: &Generation,

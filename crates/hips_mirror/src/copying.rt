@@ -19,7 +19,7 @@ use crate::cover::read_cover;
 use crate::description::read_description;
 use crate::leaves::read_leaves;
 use crate::refusal::MirrorRefusal;
-use crate::saying::{Request, say_refused};
+use crate::saying::{Request, say_building, say_copied, say_refused};
 use generation::Generation;
 use log::Log;
 use mirror_frame::{Due, Peer, Received};
@@ -32,16 +32,16 @@ use survey_link::{Gate, LinkFault, Shelf, Sink, Source};
 
 /// Copies one published state of a peer's survey onto the shelf, and answers how many files these are. It has the peer's newest
 /// state held, reads its description, its coverage, its leaves one after another, and its mosaic, builds all files of the leaves
-/// itself, and compares. Then the state is let go, and the shelf's files of a survey become those of the copy; all other files
+/// itself, and compares. Then the pin is released, and the shelf's files of a survey become those of the copy; all other files
 /// stay. The steps rise by one for each leaf and each tile that exists above them, at most. The log gets how far it is, and what
 /// is wrong with what the peer sends.
 ///
 /// # Errors
 ///
-/// The first of these, by the order of the requests: `Reply` exactly where that reply isn't in form; `Cut` exactly where the
-/// input ends within it; `Properties`, `Cover` and `Leaf` exactly where that body is refused; `TooLarge` exactly where the cover
-/// has more than 65,000 leaves, or these are charged with more than 2^29 bytes; `Differs` exactly where the properties, or
-/// else the mosaic, isn't that of the leaves. `ReadFault`, `WriteFault` and `ShelfFault` only where that count rose.
+/// The first of these that applies, by the order of the requests, each if and only if: `Reply`: that reply is malformed; `Cut`:
+/// the input ends within it; `Properties`, `Cover`, `Leaf`: that body is refused; `TooLarge`: the cover has more than 65,000
+/// leaves, or these are charged with more than 2^29 bytes; `Differs`: the properties, or else the mosaic, isn't that of the
+/// leaves. `ReadFault`, `WriteFault` and `ShelfFault` only where that count rose.
 /// `OutOfMemory`. The shelf is changed only after the last reply.
 pub fn mirror<R: Threads + Sync + Clock + Log, S: Source, K: Sink, H: Shelf, G: Gate + Sync>(
     rt: &R,
@@ -152,6 +152,8 @@ fn copy_from<R: Threads + Sync + Clock + Log, S: Source, K: Sink, G: Gate + Sync
     let leaves = read_leaves(rt, alloc, peer, &survey, &numbers, steps)?;
     let count = leaves.len();
     read_mosaic(rt, peer, survey.pinned, count)?;
+    let pinned = survey.pinned;
+    say_building(rt, count);
     let built = build(rt, alloc, survey, leaves, gate, steps);
     say_refused(rt, &Request::mosaic(count), &built);
     let generation = built?;
@@ -159,5 +161,6 @@ fn copy_from<R: Threads + Sync + Clock + Log, S: Source, K: Sink, G: Gate + Sync
     say_refused(rt, &Request::mosaic(count), &compared);
     compared?;
     ask(rt, peer, &Request::unpin(count), Due::Any)?;
+    say_copied(rt, pinned);
     Ok(generation)
 }

@@ -29,8 +29,8 @@ const MOST_LEAVES: u64 = 65_000;
 ///
 /// # Errors
 ///
-/// As `ask`; `Cover` exactly where what was sent isn't the coverage file of leaves of the survey's order; `TooLarge` exactly
-/// where these are more than 65,000, or are charged with more than 2^29 bytes.
+/// As `ask`; `Cover` if and only if what was sent isn't the coverage file of leaves of the survey's order; `TooLarge` if and
+/// only if these are more than 65,000, or are charged with more than 2^29 bytes.
 pub(crate) fn read_cover<R: Log, S: Source, K: Sink>(
     rt: &R,
     alloc: Global,

@@ -9,7 +9,7 @@ ghost use Rattle.hips_mirror.specs.Stages.{TellsProperties, TellsSurvey, Counts,
 
 use crate::asking::ask;
 use crate::refusal::MirrorRefusal;
-use crate::saying::{Request, say_fault, say_no_count};
+use crate::saying::{Request, say_conf_fault, say_no_count};
 use decimal_scale::plain_decimal;
 use http_frame::digits;
 use log::Log;
@@ -19,7 +19,7 @@ use std::alloc::{AllocError, Global};
 use survey_conf::{Conf, ConfRefusal};
 use survey_link::{Sink, Source};
 
-/// What a peer tells of its survey.
+/// What a peer's properties say of its survey.
 #[derive(Drop)]
 pub(crate) struct Survey {
     /// How many edits are published in the state that is held for this copy.
@@ -34,7 +34,7 @@ pub(crate) struct Survey {
 ///
 /// # Errors
 ///
-/// As `ask`; `Properties` exactly where what was sent isn't a properties file whose description is accepted.
+/// As `ask`; `Properties` if and only if what was sent isn't a properties file whose description is accepted.
 pub(crate) fn read_description<R: Log, S: Source, K: Sink>(
     rt: &R,
     alloc: Global,
@@ -103,7 +103,7 @@ fn describe<R: Log>(
     }
 }
 
-// The survey that the properties file describes by this text, where its last line tells these digits.
+// The survey that the properties file describes by this text, where its last line has these digits.
 fn describe_by<R: Log>(
     rt: &R,
     alloc: Global,
@@ -129,14 +129,14 @@ fn describe_by<R: Log>(
             })
         }
         Err(ConfRefusal::Fault(fault)) => {
-            say_fault(rt, text, fault);
+            say_conf_fault(rt, text, fault);
             Err(MirrorRefusal::Properties)
         }
         Err(ConfRefusal::OutOfMemory) => Err(MirrorRefusal::OutOfMemory),
     }
 }
 
-// The number of leaves with which the description's properties are this body, whose last line tells these digits.
+// The number of leaves with which the description's properties are this body, whose last line has these digits.
 fn count_told(
     alloc: Global,
     conf: &Conf,
@@ -159,7 +159,7 @@ fn count_told(
     }
 }
 
-// The text before the last line of a properties file, and the digits of that line, which tells a number of leaves.
+// The text before the last line of a properties file, and the digits of that line, the number of leaves.
 fn split_properties(body: &[u8]) -> Option<(&[u8], &[u8])>
     ensures told { IfSome result (λ parts. TellsLeaves body.now parts.0.now parts.1.now) }
     ensures none { IsNone result → (text digits : List ℕ) → ¬ TellsLeaves body.now text digits }

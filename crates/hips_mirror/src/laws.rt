@@ -10,7 +10,7 @@ use survey_conf::laws::properties_read_again;
 use tile_path::laws::spellings_differ;
 
 /// Bytes are a copy of one description and one map of leaves at most, and then no stage of a copy refuses them; bytes that are
-/// refused are refused in one way. Faults and want of memory are no matter of bytes.
+/// refused are refused in one way. Faults and lack of memory don't depend on the bytes.
 pub fn copies_have_one_outcome()
     ensures { CopiesHaveOneOutcome }
 {

@@ -35,7 +35,7 @@ use tile_pixels::Tile;
 ///
 /// # Errors
 ///
-/// As `ask`; `Leaf` exactly where what was sent as a leaf is refused, for the first such leaf.
+/// As `ask`; `Leaf` for the first leaf that is refused, if and only if one is.
 pub(crate) fn read_leaves<R: Clock + Log, S: Source, K: Sink>(
     rt: &R,
     alloc: Global,

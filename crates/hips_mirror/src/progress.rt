@@ -2,13 +2,13 @@
 use log::{Log, info};
 use std::time::{Clock, Instant};
 
-// How many seconds pass at least until it is said again.
+// How many seconds pass at least until it is logged again.
 const PAUSE: u64 = 1;
 
 // How many bytes a megabyte has.
 const MEGABYTE: u64 = 1_000_000;
 
-/// Says how many leaves of a copy are read: at most once a second, so nothing of a copy that takes less.
+/// Logs how many leaves of a copy are read: at most once a second, so nothing of a copy that takes less.
 #[derive(Drop)]
 pub(crate) struct Progress {
     total: usize,
@@ -38,7 +38,7 @@ impl Progress {
         }
     }
 
-    // Whether a second has passed since it was said, which counts as saying it. Without a clock nothing is said.
+    // Whether a second has passed since it was logged, which counts as logging it. Without a clock nothing is logged.
     fn is_due<R: Clock>(&mut self, rt: &R) -> bool {
         match (Instant::now(rt).ok(), self.said) {
             (Some(now), Some(said)) => {

@@ -4,10 +4,10 @@ use healpix_nested::Cell;
 use std::alloc::AllocError;
 use tile_path::Path;
 
-/// Why no survey was copied. The first seven are told of the replies in their order, and `Differs` before the last request.
+/// Why no survey was copied. The first seven come in the order of the replies, `Differs` before the last request.
 #[derive(Clone, Copy, Debug, PartialEq, Eq)]
 pub enum MirrorRefusal {
-    /// The reply to this request isn't in form.
+    /// The reply to this request is malformed.
     Reply {
         /// The number of the request, from 0.
         request: u32,

@@ -26,21 +26,21 @@ static LIES: [Lie; 14] = [
         leaves: 4,
         changes: ["pinned 7", "pinned 8", "", "", "", ""],
         told: (1, 0),
-        said: "POST /pin (request 0): the reply isn't in form",
+        said: "POST /pin (request 0): the body must be `pinned`",
     },
     // A length of nine digits.
     Lie {
         leaves: 0,
         changes: ["Length: 9\r\n", "Length: 000000009\r\n", "", "", "", ""],
         told: (1, 0),
-        said: "POST /pin (request 0): the reply isn't in form",
+        said: "POST /pin (request 0): the reply must have one Content-Length",
     },
     // The cover of another state.
     Lie {
         leaves: 4,
         changes: ["7\r\n\r\nSIMPLE", "8\r\n\r\nSIMPLE", "", "", "", ""],
         told: (1, 2),
-        said: "GET /Moc.fits (request 2): the reply isn't in form",
+        said: "GET /Moc.fits (request 2): the reply has Survey-Prefix 8",
     },
     // The first leaf of another state.
     Lie {
@@ -54,7 +54,7 @@ static LIES: [Lie; 14] = [
             "",
         ],
         told: (1, 3),
-        said: "GET /Norder4/Dir0/Npix0.fits (request 3): the reply isn't in form",
+        said: "GET /Norder4/Dir0/Npix0.fits (request 3): the reply has Survey-Prefix 8",
     },
     // The last reply without success.
     Lie {
@@ -68,21 +68,21 @@ static LIES: [Lie; 14] = [
             "",
         ],
         told: (1, 8),
-        said: "POST /unpin (request 8): the reply isn't in form",
+        said: "POST /unpin (request 8) was answered 204 OK, and not 200",
     },
     // A sign before the number of leaves.
     Lie {
         leaves: 0,
         changes: ["survey_leaves = 0", "survey_leaves =+0", "", "", "", ""],
         told: (2, 0),
-        said: "GET /properties (request 1): the last line isn't `survey_leaves = N`",
+        said: "GET /properties (request 1): the last line must be `survey_leaves = N`",
     },
     // A key that there isn't.
     Lie {
         leaves: 0,
         changes: ["hips_order = 4", "hips_ardor = 4", "", "", "", ""],
         told: (2, 0),
-        said: "GET /properties (request 1): hips_order is missing",
+        said: "GET /properties (request 1): missing: hips_order",
     },
     // Another card.
     Lie {
@@ -103,7 +103,7 @@ static LIES: [Lie; 14] = [
             "\0\0\0\0\0\0\0\x04",
         ],
         told: (4, 262_144),
-        said: "GET /Moc.fits (request 2): 262144 leaves are more than 65000",
+        said: "GET /Moc.fits (request 2): 262144 leaves are too many",
     },
     // A tile of three columns; that of leaf 0 comes first.
     Lie {
@@ -166,7 +166,7 @@ static LIES: [Lie; 14] = [
             "",
         ],
         told: (7, 0),
-        said: "POST /unpin (request 3): the peer's bytes end within the reply",
+        said: "POST /unpin (request 3): the connection ended within the reply",
     },
 ];
 

@@ -3,10 +3,9 @@ use Rattle.std.proofs.Common.{◌≡◌, ◌≢◌, inl, inr, ℕ, zero, suc, �
 use Rattle.std.specs.Prelude.{All, Contains, slice_index_or, Result, Ok, Err, OnOk}
 use Rattle.std.specs.List.{AllZip, concat, range_with_len}
 use Rattle.std.proofs.lemmas.List.{length-set, length-map, take_all, take_more, take_more_set, drop-set-lt}
-use Rattle.std.proofs.lemmas.List.Elements.{All-nil, All-cons, All-head, All-tail, All-push, All-weaker, AllZip-push}
+use Rattle.std.proofs.lemmas.List.Elements.{All-nil, All-cons, All-head, All-tail, All-push, All-weaker, All-map, AllZip-push}
 use Rattle.survey_conf.specs.Description.{Description}
 use Rattle.survey_link.specs.Link.{Rises}
-use Rattle.survey_link.specs.Door.{Connections}
 use Rattle.edit_journal.specs.Leaves.{LeafTiles}
 use Rattle.shared_history.specs.Histories.{SeenHistory, SeatContent, places_of, one_state}
 use Rattle.shared_history.specs.Laws.{PlacesAreOwn, EachIsOneSeats}
@@ -18,7 +17,7 @@ use Rattle.reader_pin.specs.SeatLaws.{keeps_itself, keeps_trans}
 use Rattle.reader_pin.specs.Shared.{seated, HaveMet}
 use Rattle.hips_place.specs.declared.place.PlaceEnd.{PlaceEnd}
 use Rattle.hips_place.specs.declared.place.PlaceEnd.TheVariants.{Done, Failed, OutOfMemory}
-use Rattle.hips_place.specs.Place.{OnePlace, IsServedPlace, DoorCounts, EndsBy, EndAs, ArePlaces, AllReturned, IsPlace, PlaceRun, first_board, DoorRun, IsOneSessions, ServesDoor, ServesDoors, SomeRises, HaveAllMet, OwnsAmong}
+use Rattle.hips_place.specs.Place.{OnePlace, IsServedPlace, DoorContent, EndsBy, EndAs, ArePlaces, AllReturned, IsPlace, PlaceRun, first_board, DoorRun, IsOneSessions, ServesDoor, ServesApart, ServesDoors, SomeRises, HaveAllMet, OwnsAmong}
 use Rattle.hips_place.proofs.OneOwner.{one_sessions, each_door}
 
 -- ---- boards that meet
@@ -164,85 +163,108 @@ front_met (Ok done) boards front rest mids d now is one stays stay met owns =
     subst HaveAllMet (sym (is ∙ ap (λ xs. xs ++ rest) (one_item front d one))) (all_met (get_or front 0 d) now rest stays met (owns_before now rest mids stay owns))
 front_met (Err error) boards front rest mids d now is one stays stay met owns = tt
 
--- ---- the doors
+-- ---- lists of what items have
+
+map_of_map : {X Y Z : Type 0} (f : Y → Z) (g : X → Y) (xs : List X) → map f (map g xs) ≡ map (λ x. f (g x)) xs
+map_of_map f g [] = refl
+map_of_map f g (x ∷ xs) = ap (λ zs. f (g x) ∷ zs) (map_of_map f g xs)
+
+pub map_same : {X : Type 0} (xs : List X) → map (λ x. x) xs ≡ xs
+map_same [] = refl
+map_same (x ∷ xs) = ap (λ ys. x ∷ ys) (map_same xs)
+
+all_unmapped : {X Y : Type 0} (P : Y → Type 0) (f : X → Y) (xs : List X) → All P (map f xs) → All (λ x. P (f x)) xs
+all_unmapped P f [] all = All-nil (λ x. P (f x))
+all_unmapped P f (x ∷ xs) all = All-cons (λ x. P (f x)) x xs (All-head P (f x) (map f xs) all) (all_unmapped P f xs (All-tail P (f x) (map f xs) all))
+
+-- ---- a door
 
 -- the board at a seat of a survey with so many seats that nobody had changed
 abbrev pub IsFirst : ℕ → Description → LeafTiles → BoardContent → Type 0
 IsFirst seats conf opening board = board ≡ first_board (record { number = board.seat.number; seats = seats }) conf opening
 
+-- a place that was served from the first state of a survey on
+pub record IsFromFirst (most seats : ℕ) (conf : Description) (opening : LeafTiles) (p : OnePlace) : Type 0 where
+  pub served : IsServedPlace most p
+  pub first : IsFirst seats conf opening p.board
+
 abbrev pub run_of : OnePlace → DoorRun
-run_of p = record { door = p.door; door_then = p.door_then; owns = p.owns }
+run_of p = record { door = p.door; door_then = p.door_then; owns = p.owns; seen = p.board_then.history; end = p.end }
 
-serves_one : (seats : ℕ) (conf : Description) (opening : LeafTiles) (states : List SurveyState) (most : ℕ) (end : PlaceEnd) (p : OnePlace) → IsServedPlace most p → IsFirst seats conf opening p.board
-    → Begins p.board_then.history states → (end ≡ Done → p.end ≡ Done) → AllReturned p.door → ServesDoor conf opening states most end (run_of p)
-serves_one seats conf opening states most end p is first begins done all =
-    let place : IsPlace p.board p.board_then p.door p.door_then p.counts p.counts_then most p.end p.owns = is.served all in
-    let conf_is : p.board_then.conf ≡ conf = is.goes.conf ∙ ap (λ b. b.conf) first in
-    let opening_is : p.board_then.opening ≡ opening = is.goes.opening ∙ ap (λ b. b.opening) first in
-    let history_is : p.board.history ≡ opening_state ∷ [] = ap (λ b. b.history) first in
-    record {
-      takens = place.takens;
-      backs = place.backs;
-      ends = place.ends;
-      seen = p.board_then.history;
-      run = subst (λ (c : Description). PlaceRun c opening (opening_state ∷ []) place.takens place.backs place.ends p.owns p.board_then.history) conf_is
-          (subst (λ (l : LeafTiles). PlaceRun p.board_then.conf l (opening_state ∷ []) place.takens place.backs place.ends p.owns p.board_then.history) opening_is
-          (subst (λ (h : List SurveyState). PlaceRun p.board_then.conf p.board_then.opening h place.takens place.backs place.ends p.owns p.board_then.history) history_is place.run));
-      begins = begins;
-      handed = place.handed;
-      few = place.few;
-      all = λ e. place.all (done e);
-      none_wanted = λ e. place.none_wanted (done e);
-    }
+module _ (most seats : ℕ) (conf : Description) (opening : LeafTiles) (p : OnePlace) (is : IsFromFirst most seats conf opening p) where
+  opening_stays : p.board_then.opening ≡ opening
+  opening_stays = is.served.goes.opening ∙ ap (λ (b : BoardContent). b.opening) is.first
 
-serves_each : (seats : ℕ) (conf : Description) (opening : LeafTiles) (states : List SurveyState) (most : ℕ) (end : PlaceEnd) (ps : List OnePlace) → All (IsServedPlace most) ps
-    → All (IsFirst seats conf opening) (map (λ (p : OnePlace). p.board) ps) → All (λ board. Begins board.history states) (map (λ (p : OnePlace). p.board_then) ps)
-    → (end ≡ Done → All (λ each. each ≡ Done) (map (λ (p : OnePlace). p.end) ps))
-    → All (λ run. AllReturned run.door → ServesDoor conf opening states most end run) (map run_of ps)
-serves_each seats conf opening states most end [] each first begins done = All-nil (λ run. AllReturned run.door → ServesDoor conf opening states most end run)
-serves_each seats conf opening states most end (p ∷ ps) each first begins done =
-    All-cons (λ run. AllReturned run.door → ServesDoor conf opening states most end run) (run_of p) (map run_of ps)
-    (serves_one seats conf opening states most end p (All-head (IsServedPlace most) p ps each) (All-head (IsFirst seats conf opening) p.board (map (λ (p : OnePlace). p.board) ps) first)
-    (All-head (λ board. Begins board.history states) p.board_then (map (λ (p : OnePlace). p.board_then) ps) begins)
-    (λ e. All-head (λ each. each ≡ Done) p.end (map (λ (p : OnePlace). p.end) ps) (done e)))
-    (serves_each seats conf opening states most end ps (All-tail (IsServedPlace most) p ps each) (All-tail (IsFirst seats conf opening) p.board (map (λ (p : OnePlace). p.board) ps) first)
-    (All-tail (λ board. Begins board.history states) p.board_then (map (λ (p : OnePlace). p.board_then) ps) begins)
-    (λ e. All-tail (λ each. each ≡ Done) p.end (map (λ (p : OnePlace). p.end) ps) (done e)))
+  seats_stay : p.board_then.seat.seats ≡ seats
+  seats_stay = ap (λ (seat : BoardSeat). seat.seats) is.served.goes.seat.seat ∙ ap (λ (b : BoardContent). b.seat.seats) is.first
 
--- their boards are still of the survey
-openings_stay : (seats : ℕ) (conf : Description) (opening : LeafTiles) (most : ℕ) (ps : List OnePlace) → All (IsServedPlace most) ps
-    → All (IsFirst seats conf opening) (map (λ (p : OnePlace). p.board) ps) → All (λ board. board.opening ≡ opening) (map (λ (p : OnePlace). p.board_then) ps)
-openings_stay seats conf opening most [] each first = All-nil (λ board. board.opening ≡ opening)
-openings_stay seats conf opening most (p ∷ ps) each first =
-    All-cons (λ board. board.opening ≡ opening) p.board_then (map (λ (p : OnePlace). p.board_then) ps)
-    ((All-head (IsServedPlace most) p ps each).goes.opening ∙ ap (λ b. b.opening) (All-head (IsFirst seats conf opening) p.board (map (λ (p : OnePlace). p.board) ps) first))
-    (openings_stay seats conf opening most ps (All-tail (IsServedPlace most) p ps each) (All-tail (IsFirst seats conf opening) p.board (map (λ (p : OnePlace). p.board) ps) first))
+  legal_seen : IsHistory opening p.board_then.history
+  legal_seen = subst (λ (o : LeafTiles). IsHistory o p.board_then.history) opening_stays is.served.goes.legal
 
--- the sessions of each place have all that is its seat's
-places_own : (seats : ℕ) (conf : Description) (opening : LeafTiles) (most : ℕ) (owners : List ℕ) (ps : List OnePlace) → All (IsServedPlace most) ps
-    → All (IsFirst seats conf opening) (map (λ (p : OnePlace). p.board) ps) → All (λ board. board.own ≡ places_of board.seat.number owners) (map (λ (p : OnePlace). p.board_then) ps)
-    → All (λ p. concat p.owns ≡ places_of p.board.seat.number owners) ps
-places_own seats conf opening most owners [] each first own = All-nil (λ p. concat p.owns ≡ places_of p.board.seat.number owners)
-places_own seats conf opening most owners (p ∷ ps) each first own =
-    let goes = (All-head (IsServedPlace most) p ps each).goes in
-    let none : p.board.own ≡ [] = ap (λ (b : BoardContent). b.own) (All-head (IsFirst seats conf opening) p.board (map (λ (p : OnePlace). p.board) ps) first) in
-    let mine : p.board_then.own ≡ concat p.owns = goes.own_is ∙ ap (λ (own : List ℕ). own ++ concat p.owns) none in
-    let all : p.board_then.own ≡ places_of p.board_then.seat.number owners = All-head (λ board. board.own ≡ places_of board.seat.number owners) p.board_then (map (λ (p : OnePlace). p.board_then) ps) own in
-    All-cons (λ p. concat p.owns ≡ places_of p.board.seat.number owners) p ps
-    (sym mine ∙ (all ∙ ap (λ (seat : BoardSeat). places_of seat.number owners) goes.seat.seat))
-    (places_own seats conf opening most owners ps (All-tail (IsServedPlace most) p ps each) (All-tail (IsFirst seats conf opening) p.board (map (λ (p : OnePlace). p.board) ps) first)
-    (All-tail (λ board. board.own ≡ places_of board.seat.number owners) p.board_then (map (λ (p : OnePlace). p.board_then) ps) own))
+  -- its sessions have all that is its seat's
+  owns_all : (owners : List ℕ) → p.board_then.own ≡ places_of p.board_then.seat.number owners → concat p.owns ≡ places_of p.board.seat.number owners
+  owns_all owners all =
+      let none : p.board.own ≡ [] = ap (λ (b : BoardContent). b.own) is.first in
+      let mine : p.board_then.own ≡ concat p.owns = is.served.goes.own_is ∙ ap (λ (own : List ℕ). own ++ concat p.owns) none in
+      sym mine ∙ (all ∙ ap (λ (seat : BoardSeat). places_of seat.number owners) is.served.goes.seat.seat)
 
--- each owner is one of the seats
-seats_below : (seats : ℕ) (conf : Description) (opening : LeafTiles) (most : ℕ) (owners : List ℕ) (ps : List OnePlace) → 0 < length ps → All (IsServedPlace most) ps
-    → All (IsFirst seats conf opening) (map (λ (p : OnePlace). p.board) ps) → All (λ board. All (λ owner. owner < board.seat.seats) owners) (map (λ (p : OnePlace). p.board_then) ps)
-    → All (λ owner. owner < seats) owners
-seats_below seats conf opening most owners [] some each first below = absurd (omega (arith, some))
-seats_below seats conf opening most owners (p ∷ ps) some each first below =
-    let goes = (All-head (IsServedPlace most) p ps each).goes in
-    let is : p.board_then.seat.seats ≡ seats =
-    ap (λ (seat : BoardSeat). seat.seats) goes.seat.seat ∙ ap (λ (b : BoardContent). b.seat.seats) (All-head (IsFirst seats conf opening) p.board (map (λ (p : OnePlace). p.board) ps) first) in
-    subst (λ (n : ℕ). All (λ owner. owner < n) owners) is (All-head (λ board. All (λ owner. owner < board.seat.seats) owners) p.board_then (map (λ (p : OnePlace). p.board_then) ps) below)
+  serves_door : AllReturned p.door.connections → ServesDoor conf opening most (run_of p)
+  serves_door all =
+      let place : IsPlace p.board p.board_then p.door p.door_then most p.end p.owns = is.served.served all in
+      let conf_is : p.board_then.conf ≡ conf = is.served.goes.conf ∙ ap (λ (b : BoardContent). b.conf) is.first in
+      let history_is : p.board.history ≡ opening_state ∷ [] = ap (λ (b : BoardContent). b.history) is.first in
+      record {
+        takens = place.takens;
+        backs = place.backs;
+        ends = place.ends;
+        run = subst (λ (c : Description). PlaceRun c opening (opening_state ∷ []) place.takens place.backs place.ends p.owns p.board_then.history) conf_is
+            (subst (λ (l : LeafTiles). PlaceRun p.board_then.conf l (opening_state ∷ []) place.takens place.backs place.ends p.owns p.board_then.history) opening_stays
+            (subst (λ (h : List SurveyState). PlaceRun p.board_then.conf p.board_then.opening h place.takens place.backs place.ends p.owns p.board_then.history) history_is place.run));
+        handed = place.handed;
+        few = place.few;
+        ended = place.ended;
+        wants_first = place.wants_first;
+      }
+
+-- ---- the doors
+
+module _ (most seats : ℕ) (conf : Description) (opening : LeafTiles) (ps : List OnePlace) (all : All (IsFromFirst most seats conf opening) ps) where
+  abbrev serves_apart : (doors doors' : List DoorContent) (end : PlaceEnd) → map (λ (p : OnePlace). p.door) ps ≡ doors → map (λ (p : OnePlace). p.door_then) ps ≡ doors'
+      → EndAs (map (λ (p : OnePlace). p.end) ps) end → ServesApart conf opening most doors doors' end
+  serves_apart doors doors' end are are' ends = record {
+    runs = map run_of ps;
+    doors_are = map_of_map (λ (run : DoorRun). run.door) run_of ps ∙ are;
+    doors_then = map_of_map (λ (run : DoorRun). run.door_then) run_of ps ∙ are';
+    legal = All-map (λ run. IsHistory opening run.seen) run_of ps
+        (All-weaker (IsFromFirst most seats conf opening) (λ p. IsHistory opening p.board_then.history) (legal_seen most seats conf opening) ps all);
+    each = All-map (λ run. AllReturned run.door.connections → ServesDoor conf opening most run) run_of ps
+        (All-weaker (IsFromFirst most seats conf opening) (λ p. AllReturned p.door.connections → ServesDoor conf opening most (run_of p)) (serves_door most seats conf opening) ps all);
+    ends_by = All-map (λ run. EndsBy run.door run.door_then run.end) run_of ps
+        (All-weaker (IsFromFirst most seats conf opening) (λ p. EndsBy p.door p.door_then p.end) (λ p is. is.served.ends_by) ps all);
+    ends = subst (λ (ends : List PlaceEnd). EndAs ends end) (sym (map_of_map (λ (run : DoorRun). run.end) run_of ps)) ends;
+  }
+
+  -- their boards are still of the survey
+  openings_stay : All (λ board. board.opening ≡ opening) (map (λ (p : OnePlace). p.board_then) ps)
+  openings_stay = All-map (λ board. board.opening ≡ opening) (λ (p : OnePlace). p.board_then) ps
+      (All-weaker (IsFromFirst most seats conf opening) (λ p. p.board_then.opening ≡ opening) (opening_stays most seats conf opening) ps all)
+
+  places_own : (owners : List ℕ) → All (λ board. board.own ≡ places_of board.seat.number owners) (map (λ (p : OnePlace). p.board_then) ps) → All (λ p. concat p.owns ≡ places_of p.board.seat.number owners) ps
+  places_own owners own =
+      let theirs = all_unmapped (λ board. board.own ≡ places_of board.seat.number owners) (λ (p : OnePlace). p.board_then) ps own in
+      λ k p within. owns_all most seats conf opening (get_or ps k p) (all k p within) owners (theirs k p within)
+
+  -- each owner is one of the seats
+  seats_below : (owners : List ℕ) → 0 < length ps → All (λ board. All (λ owner. owner < board.seat.seats) owners) (map (λ (p : OnePlace). p.board_then) ps) → All (λ owner. owner < seats) owners
+  seats_below owners some below =
+      first_below ps some all (all_unmapped (λ board. All (λ owner. owner < board.seat.seats) owners) (λ (p : OnePlace). p.board_then) ps below)
+    where
+      first_below : (qs : List OnePlace) → 0 < length qs → All (IsFromFirst most seats conf opening) qs → All (λ (q : OnePlace). All (λ owner. owner < q.board_then.seat.seats) owners) qs
+          → All (λ owner. owner < seats) owners
+      first_below [] some from below = absurd (omega (arith, some))
+      first_below (q ∷ qs) some from below =
+          subst (λ (n : ℕ). All (λ owner. owner < n) owners) (seats_stay most seats conf opening q (All-head (IsFromFirst most seats conf opening) q qs from))
+          (All-head (λ (q : OnePlace). All (λ owner. owner < q.board_then.seat.seats) owners) q qs below)
 
 -- the boards at the seats of a survey in its first state
 seated_one : (state : StateContent) (seats : ℕ) (seat : SeatContent StateContent) → state.batches ≡ [] → state.tip ≡ 0 → seat.seen ≡ one_state seats state → IsFirst seats state.conf state.opening (seated seat)
@@ -257,136 +279,128 @@ seated_one state seats seat none zero_tip is =
       held = None;
     })
 
-seated_first : (state : StateContent) (count : ℕ) → state.batches ≡ [] → state.tip ≡ 0 → (seats : List (SeatContent StateContent)) → All (λ seat. seat.seen ≡ one_state count state) seats
-    → All (IsFirst count state.conf state.opening) (map seated seats)
-seated_first state count none zero_tip [] all = All-nil (IsFirst count state.conf state.opening)
-seated_first state count none zero_tip (seat ∷ seats) all =
-    All-cons (IsFirst count state.conf state.opening) (seated seat) (map seated seats) (seated_one state count seat none zero_tip (All-head (λ seat. seat.seen ≡ one_state count state) seat seats all))
-    (seated_first state count none zero_tip seats (All-tail (λ seat. seat.seen ≡ one_state count state) seat seats all))
+-- what is true of the seats of a survey that was just opened
+pub record AreSeats (state : StateContent) (seats : List (SeatContent StateContent)) : Type 0 where
+  pub some : 0 < length seats
+  pub numbers : map (λ (seat : SeatContent StateContent). seat.number) seats ≡ range_with_len 0 (length seats)
+  pub seen : All (λ seat. seat.seen ≡ one_state (length seats) state) seats
+  pub none : state.batches ≡ []
+  pub zero_tip : state.tip ≡ 0
 
-numbers_of : (seats : List (SeatContent StateContent)) → map (λ (b : BoardContent). b.seat.number) (map seated seats) ≡ map (λ (seat : SeatContent StateContent). seat.number) seats
-numbers_of [] = refl
-numbers_of (seat ∷ seats) = ap (λ (ns : List ℕ). seat.number ∷ ns) (numbers_of seats)
+module _ (state : StateContent) (seats : List (SeatContent StateContent)) (are : AreSeats state seats) (most : ℕ) (boards' : List BoardContent) (doors doors' : List DoorContent) (end : PlaceEnd)
+    (a : ArePlaces most (map seated seats) boards' doors doors' end) where
+  as_many : length a.places ≡ length seats
+  as_many = sym (length-map a.places (λ (p : OnePlace). p.board)) ∙ (ap length a.boards_are ∙ length-map seats seated)
 
-numbers_at : (ps : List OnePlace) → map (λ (p : OnePlace). p.board.seat.number) ps ≡ map (λ (b : BoardContent). b.seat.number) (map (λ (p : OnePlace). p.board) ps)
-numbers_at [] = refl
-numbers_at (p ∷ ps) = ap (λ (ns : List ℕ). p.board.seat.number ∷ ns) (numbers_at ps)
+  from_first : All (IsFromFirst most (length seats) state.conf state.opening) a.places
+  from_first =
+      let seated_first = All-map (IsFirst (length seats) state.conf state.opening) seated seats
+      (All-weaker (λ seat. seat.seen ≡ one_state (length seats) state) (λ seat. IsFirst (length seats) state.conf state.opening (seated seat))
+      (λ seat is. seated_one state (length seats) seat are.none are.zero_tip is) seats are.seen) in
+      let first = all_unmapped (IsFirst (length seats) state.conf state.opening) (λ (p : OnePlace). p.board) a.places
+      (subst (All (IsFirst (length seats) state.conf state.opening)) (sym a.boards_are) seated_first) in
+      λ k p within. (record { served = a.each k p within; first = first k p within })
 
-doors_of : (ps : List OnePlace) → map (λ (run : DoorRun). run.door) (map run_of ps) ≡ map (λ (p : OnePlace). p.door) ps
-doors_of [] = refl
-doors_of (p ∷ ps) = ap (λ (ds : List (Option Connections)). p.door ∷ ds) (doors_of ps)
+  pub places_apart : ServesApart state.conf state.opening most doors doors' end
+  places_apart = serves_apart most (length seats) state.conf state.opening a.places from_first doors doors' end a.doors_are a.doors_then a.ends
 
-doors_then_of : (ps : List OnePlace) → map (λ (run : DoorRun). run.door_then) (map run_of ps) ≡ map (λ (p : OnePlace). p.door_then) ps
-doors_then_of [] = refl
-doors_then_of (p ∷ ps) = ap (λ (ds : List (Option Connections)). p.door_then ∷ ds) (doors_then_of ps)
-
-owns_of : (ps : List OnePlace) → map (λ (run : DoorRun). run.owns) (map run_of ps) ≡ map (λ (p : OnePlace). p.owns) ps
-owns_of [] = refl
-owns_of (p ∷ ps) = ap (λ (os : List (List (List ℕ))). p.owns ∷ os) (owns_of ps)
-
-pub serves_doors : PlacesAreOwn → EachIsOneSeats → (state : StateContent) (seats : List (SeatContent StateContent)) (most : ℕ) (boards' : List BoardContent) (doors doors' : List (Option Connections)) (faults faults' wants wants' : List ℕ) (end : PlaceEnd)
-    → 0 < length seats → map (λ (seat : SeatContent StateContent). seat.number) seats ≡ range_with_len 0 (length seats) → All (λ seat. seat.seen ≡ one_state (length seats) state) seats → state.batches ≡ [] → state.tip ≡ 0
-    → ArePlaces most (map seated seats) boards' doors doors' faults faults' wants wants' end → HaveAllMet boards' → ServesDoors state.conf state.opening most doors doors' end
-serves_doors own one state seats most boards' doors doors' faults faults' wants wants' end some numbers all none zero_tip a met =
-    let n = length seats in
-    let ps = a.places in
-    let count : length ps ≡ n = sym (length-map ps (λ (p : OnePlace). p.board)) ∙ (ap length a.boards_are ∙ length-map seats seated) in
-    let first : All (IsFirst n state.conf state.opening) (map (λ (p : OnePlace). p.board) ps) =
-    subst (All (IsFirst n state.conf state.opening)) (sym a.boards_are) (seated_first state n none zero_tip seats all) in
-    let begins : All (λ board. Begins board.history met.states) (map (λ (p : OnePlace). p.board_then) ps) =
-    subst (λ (boards : List BoardContent). All (λ board. Begins board.history met.states) boards) (sym a.boards_then) met.each in
-    let same : All (λ board. board.opening ≡ state.opening) boards' =
-    subst (λ (boards : List BoardContent). All (λ board. board.opening ≡ state.opening) boards) a.boards_then (openings_stay n state.conf state.opening most ps a.each first) in
-    let mine : All (λ p. concat p.owns ≡ places_of p.board.seat.number met.owners) ps =
-    places_own n state.conf state.opening most met.owners ps a.each first
-    (subst (λ (boards : List BoardContent). All (λ board. board.own ≡ places_of board.seat.number met.owners) boards) (sym a.boards_then) met.own) in
-    let below : All (λ owner. owner < n) met.owners =
-    seats_below n state.conf state.opening most met.owners ps (omega (arith, some, count)) a.each first
-    (subst (λ (boards : List BoardContent). All (λ board. All (λ owner. owner < board.seat.seats) met.owners) boards) (sym a.boards_then) met.seated) in
-    let in_order : map (λ (p : OnePlace). p.board.seat.number) ps ≡ range_with_len 0 (length ps) =
-    numbers_at ps ∙ (ap (map (λ (b : BoardContent). b.seat.number)) a.boards_are ∙ (numbers_of seats ∙ (numbers ∙ ap (range_with_len 0) (sym count)))) in
-    let owns : List (List (List ℕ)) = map (λ (p : OnePlace). p.owns) ps in
-    let doors_own : (d : ℕ) → d < length owns → concat (slice_index_or owns d []) ≡ places_of d met.owners =
-    λ d inside. (let zero_plus : 0 + d ≡ d = omega arith in each_door met.owners ps 0 mine in_order d (omega (arith, inside, length-map ps (λ (p : OnePlace). p.owns))) ∙ ap (λ (k : ℕ). places_of k met.owners) zero_plus) in
-    let owners_below : All (λ owner. owner < length owns) met.owners =
-    subst (λ (k : ℕ). All (λ owner. owner < k) met.owners) (sym (length-map ps (λ (p : OnePlace). p.owns) ∙ count)) below in
-    record {
-      states = met.states;
-      legal = met.legal state.opening same;
-      runs = map run_of ps;
-      doors_are = doors_of ps ∙ a.doors_are;
-      doors_then = doors_then_of ps ∙ a.doors_then;
-      each = serves_each n state.conf state.opening met.states most end ps a.each first begins a.ends.done;
-      owned = λ place after within. subst (λ (os : List (List (List ℕ))). IsOneSessions os place) (sym (owns_of ps))
-          (one_sessions own one owns met.owners doors_own owners_below place after (omega (arith, within, met.owned)));
-    }
+  pub serves_doors : PlacesAreOwn → EachIsOneSeats → HaveAllMet boards' → ServesDoors state.conf state.opening most doors doors' end
+  serves_doors own one met =
+      let n = length seats in
+      let ps = a.places in
+      let begins : All (λ board. Begins board.history met.states) (map (λ (p : OnePlace). p.board_then) ps) =
+      subst (λ (boards : List BoardContent). All (λ board. Begins board.history met.states) boards) (sym a.boards_then) met.each in
+      let same : All (λ board. board.opening ≡ state.opening) boards' =
+      subst (λ (boards : List BoardContent). All (λ board. board.opening ≡ state.opening) boards) a.boards_then (openings_stay most n state.conf state.opening ps from_first) in
+      let mine : All (λ p. concat p.owns ≡ places_of p.board.seat.number met.owners) ps =
+      places_own most n state.conf state.opening ps from_first met.owners
+      (subst (λ (boards : List BoardContent). All (λ board. board.own ≡ places_of board.seat.number met.owners) boards) (sym a.boards_then) met.own) in
+      let below : All (λ owner. owner < n) met.owners =
+      seats_below most n state.conf state.opening ps from_first met.owners (let some = are.some in omega (arith, as_many, some))
+      (subst (λ (boards : List BoardContent). All (λ board. All (λ owner. owner < board.seat.seats) met.owners) boards) (sym a.boards_then) met.seated) in
+      let in_order : map (λ (p : OnePlace). p.board.seat.number) ps ≡ range_with_len 0 (length ps) =
+      sym (map_of_map (λ (b : BoardContent). b.seat.number) (λ (p : OnePlace). p.board) ps) ∙ (ap (map (λ (b : BoardContent). b.seat.number)) a.boards_are
+      ∙ (map_of_map (λ (b : BoardContent). b.seat.number) seated seats ∙ (are.numbers ∙ ap (range_with_len 0) (sym as_many)))) in
+      let owns : List (List (List ℕ)) = map (λ (p : OnePlace). p.owns) ps in
+      let doors_own : (d : ℕ) → d < length owns → concat (slice_index_or owns d []) ≡ places_of d met.owners =
+      λ d inside. (let zero_plus : 0 + d ≡ d = omega arith in each_door met.owners ps 0 mine in_order d (omega (arith, inside, length-map ps (λ (p : OnePlace). p.owns))) ∙ ap (λ (k : ℕ). places_of k met.owners) zero_plus) in
+      let owners_below : All (λ owner. owner < length owns) met.owners =
+      subst (λ (k : ℕ). All (λ owner. owner < k) met.owners) (sym (length-map ps (λ (p : OnePlace). p.owns) ∙ as_many)) below in
+      record {
+        apart = serves_apart most n state.conf state.opening ps from_first doors doors' end a.doors_are a.doors_then a.ends;
+        states = met.states;
+        legal = met.legal state.opening same;
+        begins = All-map (λ run. Begins run.seen met.states) run_of ps (all_unmapped (λ board. Begins board.history met.states) (λ (p : OnePlace). p.board_then) ps begins);
+        owned = λ place after within. subst (λ (os : List (List (List ℕ))). IsOneSessions os place) (sym (map_of_map (λ (run : DoorRun). run.owns) run_of ps))
+            (one_sessions own one owns met.owners doors_own owners_below place after (omega (arith, within, met.owned)));
+      }
 
 -- ---- the counts of doors
 
-ends_rise : (before after : DoorCounts) (end : PlaceEnd) → end ≡ Failed → EndsBy before after end → Rises before.faults after.faults
-ends_rise before after Failed is e = e.0
-ends_rise before after Done is e = absurd (cc)
-ends_rise before after OutOfMemory is e = absurd (cc)
+ends_rise : (door door' : DoorContent) (end : PlaceEnd) → end ≡ Failed → EndsBy door door' end → Rises door.faults door'.faults
+ends_rise door door' Failed is e = e.0
+ends_rise door door' Done is e = absurd (cc)
+ends_rise door door' OutOfMemory is e = absurd (cc)
 
-ends_still : (before after : DoorCounts) (end : PlaceEnd) → end ≢ Failed → EndsBy before after end → after.faults ≡ before.faults
-ends_still before after Done other e = ap (λ (c : DoorCounts). c.faults) e
-ends_still before after OutOfMemory other e = e.0
-ends_still before after Failed other e = absurd (other refl)
+ends_still : (door door' : DoorContent) (end : PlaceEnd) → end ≢ Failed → EndsBy door door' end → door'.faults ≡ door.faults
+ends_still door door' Done other e = e.0
+ends_still door door' OutOfMemory other e = e.0
+ends_still door door' Failed other e = absurd (other refl)
 
-ends_done : (before after : DoorCounts) (end : PlaceEnd) → end ≡ Done → EndsBy before after end → after.wants ≡ before.wants
-ends_done before after Done is e = ap (λ (c : DoorCounts). c.wants) e
-ends_done before after OutOfMemory is e = absurd (cc)
-ends_done before after Failed is e = absurd (cc)
+ends_done : (door door' : DoorContent) (end : PlaceEnd) → end ≡ Done → EndsBy door door' end → door'.wants ≡ door.wants
+ends_done door door' Done is e = e.1
+ends_done door door' OutOfMemory is e = absurd (cc)
+ends_done door door' Failed is e = absurd (cc)
 
-rises_at : (most : ℕ) (ps : List OnePlace) → All (IsServedPlace most) ps → Contains (map (λ (p : OnePlace). p.end) ps) Failed → SomeRises (map (λ (p : OnePlace). p.counts.faults) ps) (map (λ (p : OnePlace). p.counts_then.faults) ps)
-rises_at most [] each (k, within, is) = absurd (omega arith)
-rises_at most (p ∷ ps) each (zero, within, is) = inl (ends_rise p.counts p.counts_then p.end is (All-head (IsServedPlace most) p ps each).ends_by)
-rises_at most (p ∷ ps) each (suc k, within, is) = inr (rises_at most ps (All-tail (IsServedPlace most) p ps each) (k, omega arith, is))
+rises_at : (ps : List OnePlace) → All (λ p. EndsBy p.door p.door_then p.end) ps → Contains (map (λ (p : OnePlace). p.end) ps) Failed
+    → SomeRises (map (λ (p : OnePlace). p.door.faults) ps) (map (λ (p : OnePlace). p.door_then.faults) ps)
+rises_at [] each (k, within, is) = absurd (omega arith)
+rises_at (p ∷ ps) each (zero, within, is) = inl (ends_rise p.door p.door_then p.end is (All-head (λ p. EndsBy p.door p.door_then p.end) p ps each))
+rises_at (p ∷ ps) each (suc k, within, is) = inr (rises_at ps (All-tail (λ p. EndsBy p.door p.door_then p.end) p ps each) (k, omega arith, is))
 
-still_all : (most : ℕ) (ps : List OnePlace) → All (IsServedPlace most) ps → All (λ end. end ≢ Failed) (map (λ (p : OnePlace). p.end) ps) → map (λ (p : OnePlace). p.counts_then.faults) ps ≡ map (λ (p : OnePlace). p.counts.faults) ps
-still_all most [] each none = refl
-still_all most (p ∷ ps) each none =
-    let here = ends_still p.counts p.counts_then p.end (All-head (λ end. end ≢ Failed) p.end (map (λ (p : OnePlace). p.end) ps) none) (All-head (IsServedPlace most) p ps each).ends_by in
-    let more = still_all most ps (All-tail (IsServedPlace most) p ps each) (All-tail (λ end. end ≢ Failed) p.end (map (λ (p : OnePlace). p.end) ps) none) in
-    ap₂ (λ (n : ℕ) (ns : List ℕ). n ∷ ns) here more
-
-done_all : (most : ℕ) (ps : List OnePlace) → All (IsServedPlace most) ps → All (λ end. end ≡ Done) (map (λ (p : OnePlace). p.end) ps) → map (λ (p : OnePlace). p.counts_then.wants) ps ≡ map (λ (p : OnePlace). p.counts.wants) ps
-done_all most [] each done = refl
-done_all most (p ∷ ps) each done =
-    let here = ends_done p.counts p.counts_then p.end (All-head (λ end. end ≡ Done) p.end (map (λ (p : OnePlace). p.end) ps) done) (All-head (IsServedPlace most) p ps each).ends_by in
-    let more = done_all most ps (All-tail (IsServedPlace most) p ps each) (All-tail (λ end. end ≡ Done) p.end (map (λ (p : OnePlace). p.end) ps) done) in
-    ap₂ (λ (n : ℕ) (ns : List ℕ). n ∷ ns) here more
+-- items that are alike one by one in what is asked of them
+map_alike : {X Y : Type 0} (f g : X → Y) (xs : List X) → All (λ x. f x ≡ g x) xs → map f xs ≡ map g xs
+map_alike f g [] all = refl
+map_alike f g (x ∷ xs) all = ap₂ (λ y ys. y ∷ ys) (All-head (λ x. f x ≡ g x) x xs all) (map_alike f g xs (All-tail (λ x. f x ≡ g x) x xs all))
 
 none_failed : (ends : List PlaceEnd) (end : PlaceEnd) → EndAs ends end → end ≢ Failed → All (λ each. each ≢ Failed) ends
 none_failed ends Done e other = All-weaker (λ each. each ≡ Done) (λ each. each ≢ Failed) (λ each is failed. cc) ends (e.done refl)
 none_failed ends OutOfMemory e other = (e.wanted refl).1
 none_failed ends Failed e other = absurd (other refl)
 
-module _ (most : ℕ) (boards boards' : List BoardContent) (doors doors' : List (Option Connections)) (faults faults' wants wants' : List ℕ) (end : PlaceEnd)
-    (a : ArePlaces most boards boards' doors doors' faults faults' wants wants' end) where
-  pub failed_rises : end ≡ Failed → SomeRises faults faults'
+module _ {D : Type 0} (content : D → DoorContent) (most : ℕ) (boards boards' : List BoardContent) (doors doors' : List D) (end : PlaceEnd)
+    (a : ArePlaces most boards boards' (map content doors) (map content doors') end) where
+  -- what the doors tell, by the places
+  told : {Y : Type 0} (of : DoorContent → Y) → map (λ (p : OnePlace). of p.door) a.places ≡ map (λ d. of (content d)) doors
+  told of = sym (map_of_map of (λ (p : OnePlace). p.door) a.places) ∙ (ap (map of) a.doors_are ∙ map_of_map of content doors)
+
+  told_then : {Y : Type 0} (of : DoorContent → Y) → map (λ (p : OnePlace). of p.door_then) a.places ≡ map (λ d. of (content d)) doors'
+  told_then of = sym (map_of_map of (λ (p : OnePlace). p.door_then) a.places) ∙ (ap (map of) a.doors_then ∙ map_of_map of content doors')
+
+  same_then : {Y : Type 0} (of : DoorContent → Y) → All (λ (p : OnePlace). of p.door_then ≡ of p.door) a.places → map (λ d. of (content d)) doors' ≡ map (λ d. of (content d)) doors
+  same_then of same = sym (told_then of) ∙ (map_alike (λ (p : OnePlace). of p.door_then) (λ (p : OnePlace). of p.door) a.places same ∙ told of)
+
+  pub failed_rises : end ≡ Failed → SomeRises (map (λ d. (content d).faults) doors) (map (λ d. (content d).faults) doors')
   failed_rises is =
-      let some = a.ends.failed is in
-      subst (λ (ns : List ℕ). SomeRises ns faults') a.faults_are
-      (subst (λ (ns : List ℕ). SomeRises (map (λ (p : OnePlace). p.counts.faults) a.places) ns) a.faults_then (rises_at most a.places a.each some))
+      let by = All-weaker (IsServedPlace most) (λ p. EndsBy p.door p.door_then p.end) (λ p served. served.ends_by) a.places a.each in
+      subst (λ (ns : List ℕ). SomeRises ns (map (λ d. (content d).faults) doors')) (told (λ d. d.faults))
+      (subst (λ (ns : List ℕ). SomeRises (map (λ (p : OnePlace). p.door.faults) a.places) ns) (told_then (λ d. d.faults)) (rises_at a.places by (a.ends.failed is)))
 
-  pub failed_only : end ≢ Failed → faults' ≡ faults
-  failed_only other = sym a.faults_then ∙ still_all most a.places a.each (none_failed (map (λ (p : OnePlace). p.end) a.places) end a.ends other) ∙ a.faults_are
+  pub failed_only : end ≢ Failed → map (λ d. (content d).faults) doors' ≡ map (λ d. (content d).faults) doors
+  failed_only other =
+      let none = all_unmapped (λ each. each ≢ Failed) (λ (p : OnePlace). p.end) a.places (none_failed (map (λ (p : OnePlace). p.end) a.places) end a.ends other) in
+      same_then (λ d. d.faults) (λ k p within. ends_still (get_or a.places k p).door (get_or a.places k p).door_then (get_or a.places k p).end (none k p within) (a.each k p within).ends_by)
 
-  pub done_only : end ≡ Done → wants' ≡ wants
-  done_only is = sym a.wants_then ∙ done_all most a.places a.each (a.ends.done is) ∙ a.wants_are
+  pub done_only : end ≡ Done → map (λ d. (content d).wants) doors' ≡ map (λ d. (content d).wants) doors
+  done_only is =
+      let done = all_unmapped (λ each. each ≡ Done) (λ (p : OnePlace). p.end) a.places (a.ends.done is) in
+      same_then (λ d. d.wants) (λ k p within. ends_done (get_or a.places k p).door (get_or a.places k p).door_then (get_or a.places k p).end (done k p within) (a.each k p within).ends_by)
 
 -- ---- boards that are seen as they are
 
-pub map_same : {X : Type 0} (xs : List X) → map (λ x. x) xs ≡ xs
-map_same [] = refl
-map_same (x ∷ xs) = ap (λ ys. x ∷ ys) (map_same xs)
-
-pub serves_seats : PlacesAreOwn → EachIsOneSeats → (state : StateContent) (seats : List (SeatContent StateContent)) (most : ℕ) (boards boards' : List BoardContent) (doors doors' : List (Option Connections)) (faults faults' wants wants' : List ℕ) (end : PlaceEnd)
-    → boards ≡ map seated seats → ArePlaces most (map (λ (b : BoardContent). b) boards) (map (λ (b : BoardContent). b) boards') doors doors' faults faults' wants wants' end → HaveAllMet boards'
-    → 0 < length seats → map (λ (seat : SeatContent StateContent). seat.number) seats ≡ range_with_len 0 (length seats) → All (λ seat. seat.seen ≡ one_state (length seats) state) seats → state.batches ≡ [] → state.tip ≡ 0
-    → ServesDoors state.conf state.opening most doors doors' end
-serves_seats own one state seats most boards boards' doors doors' faults faults' wants wants' end is a met some numbers all none zero_tip =
-    serves_doors own one state seats most boards' doors doors' faults faults' wants wants' end some numbers all none zero_tip
-    (subst (λ (bs : List BoardContent). ArePlaces most bs boards' doors doors' faults faults' wants wants' end) (map_same boards ∙ is)
-    (subst (λ (bs : List BoardContent). ArePlaces most (map (λ (b : BoardContent). b) boards) bs doors doors' faults faults' wants wants' end) (map_same boards') a)) met
+-- places of the boards at a survey's seats
+pub as_seated : (seats : List (SeatContent StateContent)) (most : ℕ) (boards boards' : List BoardContent) (doors doors' : List DoorContent) (end : PlaceEnd)
+    → boards ≡ map seated seats → ArePlaces most (map (λ (b : BoardContent). b) boards) (map (λ (b : BoardContent). b) boards') doors doors' end → ArePlaces most (map seated seats) boards' doors doors' end
+as_seated seats most boards boards' doors doors' end is a =
+    subst (λ (bs : List BoardContent). ArePlaces most bs boards' doors doors' end) (map_same boards ∙ is)
+    (subst (λ (bs : List BoardContent). ArePlaces most (map (λ (b : BoardContent). b) boards) bs doors doors' end) (map_same boards') a)

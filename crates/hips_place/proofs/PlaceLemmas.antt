@@ -23,7 +23,7 @@ use Rattle.hips_place.specs.declared.place.PlaceEnd.{PlaceEnd}
 use Rattle.hips_place.specs.declared.place.PlaceEnd.TheVariants.{Done, Failed}
 use Rattle.hips_place.specs.declared.place.PlaceEnd.TheVariants as placed
 use Rattle.reader_pin.specs.SeatLaws.{keeps_itself, keeps_trans}
-use Rattle.hips_place.specs.Place.{IsSession, IsServedOnce, HasSameEnds, PlaceRun, AllReturned, HandsOut, DoorCounts, WantsFirst, EndsBy, IsPlace, PlaceGoes, TakesOne}
+use Rattle.hips_place.specs.Place.{IsSession, IsServedOnce, HasSameEnds, PlaceRun, AllReturned, HandsOut, DoorContent, TookAll, WantsFirst, EndsBy, EndsAfter, IsPlace, PlaceGoes, TakesOne}
 
 begins_same : {X : Type 0} (xs ys : List X) → ys ≡ xs → Begins xs ys
 begins_same xs ys same = record { rest = []; is = grind (arith, common_steps) }
@@ -223,71 +223,57 @@ one_more old now new door door1 door2 count wanted wanted' frame frame' end owns
       ];
     }
 
-pub place_of : (old now : BoardContent) (door door' : Option Connections) (counts counts' : DoorCounts) (count most : ℕ) (wanted : Bool) (frame : Option FrameState) (end : PlaceEnd) (owns : List (List ℕ))
-    → SoFar old now door door' count wanted frame owns → count ≤ most → (end ≡ Done → (count ≡ most) ⊎ NoneWaits door') → (end ≡ placed.OutOfMemory → ¬ Rises counts.wants counts'.wants → (count ≡ most) ⊎ NoneWaits door') → (end ≡ Done → wanted ≡ false)
-    → (end ≡ placed.OutOfMemory → Rises counts.wants counts'.wants ⊎ (wanted ≡ true)) → IsPlace old now door door' counts counts' most end owns
-place_of old now door door' counts counts' count most wanted frame end owns s few all wanting done wants = record {
-  takens = s.takens;
-  backs = s.backs;
-  ends = s.ends;
-  run = s.run;
-  handed = s.handed;
-  few = (let same = s.count_is in omega arith);
-  all = λ is. elim (all is) [ inl whole ↦ inl (s.count_is ∙ whole) | inr waits ↦ inr waits ];
-  all_wanting = λ is none. elim (wanting is none) [ inl whole ↦ inl (s.count_is ∙ whole) | inr waits ↦ inr waits ];
-  wants_first = framed_first frame s.ends s.framed;
-  none_wanted = λ is. s.none_wanted (done is);
-  wanted = λ is. elim (wants is) [ inl rises ↦ inl rises | inr so ↦ inr (s.some_wanted so) ];
-}
-
--- the same of a board and a door that stayed
-pub place_as : (old now new : BoardContent) (door door1 door2 : Option Connections) (counts counts' : DoorCounts) (count most : ℕ) (wanted : Bool) (frame : Option FrameState) (end : PlaceEnd) (owns : List (List ℕ))
-    → SoFar old now door door1 count wanted frame owns → new ≡ now → door2 ≡ door1 → count ≤ most
-    → (end ≡ Done → (count ≡ most) ⊎ NoneWaits door2) → (end ≡ placed.OutOfMemory → ¬ Rises counts.wants counts'.wants → (count ≡ most) ⊎ NoneWaits door2)
-    → (end ≡ Done → wanted ≡ false) → (end ≡ placed.OutOfMemory → Rises counts.wants counts'.wants ⊎ (wanted ≡ true)) → IsPlace old new door door2 counts counts' most end owns
-place_as old now new door door1 door2 counts counts' count most wanted frame end owns s board_is door_is few all wanting done wants =
-    place_of old new door door2 counts counts' count most wanted frame end owns
-    (subst (λ (b : BoardContent). SoFar old b door door2 count wanted frame owns) (sym board_is) (subst (λ (d : Option Connections). SoFar old now door d count wanted frame owns) (sym door_is) s)) few all wanting done wants
-
 -- ---- how it ends
 
 abbrev end_of : Bool → PlaceEnd
 end_of wanted = if wanted then placed.OutOfMemory else Done
 
-pub done_wants : (wanted : Bool) → end_of wanted ≡ Done → wanted ≡ false
-done_wants false is = refl
-done_wants true is = absurd (cc)
-
-pub wanting_wants : (wanted : Bool) → end_of wanted ≡ placed.OutOfMemory → wanted ≡ true
-wanting_wants false is = absurd (cc)
-wanting_wants true is = refl
-
-ends_so : (counts counts' : DoorCounts) (wanted : Bool) → counts' ≡ counts → EndsBy counts counts' (end_of wanted)
-ends_so counts counts' false same = same
-ends_so counts counts' true same = (ap (λ c. c.faults) same, inr (ap (λ c. c.wants) same))
-
 -- no accept was refused
-pub ends_sound : (counts counts' : DoorCounts) (wanted : Bool) (end : PlaceEnd) → end ≡ end_of wanted → counts'.faults ≡ counts.faults → counts'.wants ≡ counts.wants → EndsBy counts counts' end
-ends_sound counts counts' wanted end is faults wants =
-    subst (λ (e : PlaceEnd). EndsBy counts counts' e) (sym is) (ends_so counts counts' wanted (λ i. record { faults = faults i; wants = wants i }))
+pub ends_sound : (door door' : DoorContent) (wanted : Bool) (end : PlaceEnd) → end ≡ end_of wanted → door'.faults ≡ door.faults → door'.wants ≡ door.wants → EndsBy door door' end
+ends_sound door door' wanted end is faults wants = subst (λ (e : PlaceEnd). EndsBy door door' e) (sym is) (so wanted)
+  where
+    so : (wanted : Bool) → EndsBy door door' (end_of wanted)
+    so false = (faults, wants)
+    so true = (faults, inr wants)
 
-pub ends_refused : (counts counts' : DoorCounts) (why : DoorFault) (end : PlaceEnd) → (why ≡ fault.Failed → end ≡ Failed) → (why ≡ fault.OutOfMemory → end ≡ placed.OutOfMemory)
-    → (why ≡ fault.Failed → Rises counts.faults counts'.faults × (counts'.wants ≡ counts.wants)) → (why ≡ fault.OutOfMemory → Rises counts.wants counts'.wants × (counts'.faults ≡ counts.faults))
-    → EndsBy counts counts' end
-ends_refused counts counts' fault.Failed end failed wanted rises wants = subst (λ (e : PlaceEnd). EndsBy counts counts' e) (sym (failed refl)) (rises refl)
-ends_refused counts counts' fault.OutOfMemory end failed wanted rises wants =
-    subst (λ (e : PlaceEnd). EndsBy counts counts' e) (sym (wanted refl)) ((wants refl).1, inl (wants refl).0)
+-- one was
+pub ends_refused : (door door' : DoorContent) (why : DoorFault) (end : PlaceEnd) → (why ≡ fault.Failed → end ≡ Failed) → (why ≡ fault.OutOfMemory → end ≡ placed.OutOfMemory)
+    → (why ≡ fault.Failed → Rises door.faults door'.faults × (door'.wants ≡ door.wants)) → (why ≡ fault.OutOfMemory → Rises door.wants door'.wants × (door'.faults ≡ door.faults))
+    → EndsBy door door' end
+ends_refused door door' fault.Failed end failed wanted rises wants = subst (λ (e : PlaceEnd). EndsBy door door' e) (sym (failed refl)) (rises refl)
+ends_refused door door' fault.OutOfMemory end failed wanted rises wants =
+    subst (λ (e : PlaceEnd). EndsBy door door' e) (sym (wanted refl)) ((wants refl).1, inl (wants refl).0)
 
--- an accept was refused
-pub place_refused : (old now new : BoardContent) (door door1 door2 : Option Connections) (counts counts' : DoorCounts) (count most : ℕ) (wanted : Bool) (frame : Option FrameState) (why : DoorFault) (end : PlaceEnd) (owns : List (List ℕ))
-    → SoFar old now door door1 count wanted frame owns → new ≡ now → door2 ≡ door1 → count ≤ most → (why ≡ fault.Failed → end ≡ Failed) → (why ≡ fault.OutOfMemory → end ≡ placed.OutOfMemory)
-    → (why ≡ fault.OutOfMemory → Rises counts.wants counts'.wants) → IsPlace old new door door2 counts counts' most end owns
-place_refused old now new door door1 door2 counts counts' count most wanted frame fault.Failed end owns s board_is door_is few failed want rises =
-    let is = failed refl in
-    place_as old now new door door1 door2 counts counts' count most wanted frame end owns s board_is door_is few (λ e. absurd (cc)) (λ e none. absurd (cc)) (λ e. absurd (cc)) (λ e. absurd (cc))
-place_refused old now new door door1 door2 counts counts' count most wanted frame fault.OutOfMemory end owns s board_is door_is few failed want rises =
-    let is = want refl in
-    place_as old now new door door1 door2 counts counts' count most wanted frame end owns s board_is door_is few (λ e. absurd (cc)) (λ e none. absurd (none (rises refl))) (λ e. absurd (cc)) (λ e. inl (rises refl))
+module _ (old now new : BoardContent) (door door' : DoorContent) (now_told : Option Connections) (count most : ℕ) (wanted : Bool) (frame : Option FrameState) (end : PlaceEnd) (owns : List (List ℕ))
+    (s : SoFar old now door.connections now_told count wanted frame owns) (board_is : new ≡ now) (door_is : door'.connections ≡ now_told) (few : count ≤ most) where
+  place_of : EndsAfter door door' most s.takens s.ends end → IsPlace old new door door' most end owns
+  place_of ended = record {
+    takens = s.takens;
+    backs = s.backs;
+    ends = s.ends;
+    run = subst (λ (b : BoardContent). PlaceRun b.conf b.opening old.history s.takens s.backs s.ends owns b.history) (sym board_is) s.run;
+    handed = subst (λ (told : Option Connections). HandsOut door.connections s.takens s.backs told) (sym door_is) s.handed;
+    few = (let same = s.count_is in omega (arith, same, few));
+    ended = ended;
+    wants_first = framed_first frame s.ends s.framed;
+  }
+
+  -- it took all
+  pub place_took : end ≡ end_of wanted → (count ≡ most) ⊎ NoneWaits door'.connections → IsPlace old new door door' most end owns
+  place_took is all =
+      let took : TookAll most s.takens door' = elim all [ inl whole ↦ inl (s.count_is ∙ whole) | inr waits ↦ inr waits ] in
+      place_of (subst (λ (e : PlaceEnd). EndsAfter door door' most s.takens s.ends e) (sym is) (after wanted took s.none_wanted s.some_wanted))
+    where
+      after : (wanted : Bool) → TookAll most s.takens door' → (wanted ≡ false → All (λ end. end ≢ OutOfMemory) s.ends) → (wanted ≡ true → Contains s.ends OutOfMemory)
+          → EndsAfter door door' most s.takens s.ends (end_of wanted)
+      after false took none some = (took, none refl)
+      after true took none some = inr (took, some refl)
+
+  -- an accept was refused
+  pub place_refused : (why : DoorFault) → (why ≡ fault.Failed → end ≡ Failed) → (why ≡ fault.OutOfMemory → end ≡ placed.OutOfMemory) → (why ≡ fault.OutOfMemory → Rises door.wants door'.wants)
+      → IsPlace old new door door' most end owns
+  place_refused fault.Failed failed wants rises = place_of (subst (λ (e : PlaceEnd). EndsAfter door door' most s.takens s.ends e) (sym (failed refl)) tt)
+  place_refused fault.OutOfMemory failed wants rises = place_of (subst (λ (e : PlaceEnd). EndsAfter door door' most s.takens s.ends e) (sym (wants refl)) (inl (rises refl)))
 
 concat_push : (owns : List (List ℕ)) (own : List ℕ) → concat (owns ++ own ∷ []) ≡ concat owns ++ own
 concat_push [] own = append-nil own
@@ -334,10 +320,10 @@ pub goes_as : (old now new : BoardContent) (count most : ℕ) (owns : List (List
 goes_as old now new count most owns goes is few = subst (λ (b : BoardContent). PlaceGoes old b most owns) (sym is) (goes_most old now count most owns goes few)
 
 -- the loop over connections
-pub record IsLoop (old now : BoardContent) (door door' : Option Connections) (faults faults' wants wants' steps steps' count : ℕ) (wanted : Bool) (frame : Option FrameState) : Type 0 where
+pub record IsLoop (old now : BoardContent) (door door' : DoorContent) (steps steps' count : ℕ) (wanted : Bool) (frame : Option FrameState) : Type 0 where
   pub owns : List (List ℕ)
   pub goes : PlaceGoes old now count owns
-  pub no_faults : faults' ≡ faults
-  pub no_wants : wants' ≡ wants
+  pub no_faults : door'.faults ≡ door.faults
+  pub no_wants : door'.wants ≡ door.wants
   pub steps_never_fall : steps ≤ steps'
-  pub so_far : AllReturned door → SoFar old now door door' count wanted frame owns
+  pub so_far : AllReturned door.connections → SoFar old now door.connections door'.connections count wanted frame owns

@@ -1,13 +1,12 @@
 -- The places of a server.
-use Rattle.std.proofs.Common.{◌≡◌, ◌≢◌, ℕ, List, [], ◌∷◌, ◌++◌, length, get_or, map, slice_set, Option, refl, sym, ap₂, ◌∙◌, subst, arith}
+use Rattle.std.proofs.Common.{◌≡◌, ◌≢◌, ℕ, List, [], ◌∷◌, ◌++◌, length, get_or, map, slice_set, refl, sym, ap₂, ◌∙◌, subst, arith}
 use Rattle.std.specs.Prelude.{All}
 use Rattle.std.proofs.lemmas.List.{map-append}
 use Rattle.std.proofs.lemmas.List.Elements.{All-nil, All-cons, All-append, All-weaker, Contains-append_left, Contains-append_right}
-use Rattle.survey_link.specs.Door.{Connections}
 use Rattle.reader_pin.specs.Board.{BoardContent}
 use Rattle.hips_place.specs.declared.place.PlaceEnd.{PlaceEnd}
 use Rattle.hips_place.specs.declared.place.PlaceEnd.TheVariants.{Done, Failed, OutOfMemory}
-use Rattle.hips_place.specs.Place.{OnePlace, IsServedPlace, EndAs, ArePlaces, counts_of, worse}
+use Rattle.hips_place.specs.Place.{OnePlace, DoorContent, IsServedPlace, EndAs, ArePlaces, worse}
 
 -- ---- how places end
 
@@ -62,7 +61,7 @@ one_end end = record {
 
 -- ---- the places
 
-pub no_places : (most : ℕ) → ArePlaces most [] [] [] [] [] [] [] [] Done
+pub no_places : (most : ℕ) → ArePlaces most [] [] [] [] Done
 no_places most = record {
   places = [];
   each = All-nil (IsServedPlace most);
@@ -70,15 +69,11 @@ no_places most = record {
   boards_then = refl;
   doors_are = refl;
   doors_then = refl;
-  faults_are = refl;
-  faults_then = refl;
-  wants_are = refl;
-  wants_then = refl;
   ends = record { done = λ _. All-nil (λ each. each ≡ Done); failed = λ e. cc; wanted = λ e. cc };
 }
 
 pub one_place : (most : ℕ) (place : OnePlace) → IsServedPlace most place
-    → ArePlaces most (place.board ∷ []) (place.board_then ∷ []) (place.door ∷ []) (place.door_then ∷ []) (place.counts.faults ∷ []) (place.counts_then.faults ∷ []) (place.counts.wants ∷ []) (place.counts_then.wants ∷ []) place.end
+    → ArePlaces most (place.board ∷ []) (place.board_then ∷ []) (place.door ∷ []) (place.door_then ∷ []) place.end
 one_place most place is = record {
   places = place ∷ [];
   each = All-cons (IsServedPlace most) place [] is (All-nil (IsServedPlace most));
@@ -86,59 +81,46 @@ one_place most place is = record {
   boards_then = refl;
   doors_are = refl;
   doors_then = refl;
-  faults_are = refl;
-  faults_then = refl;
-  wants_are = refl;
-  wants_then = refl;
   ends = one_end place.end;
 }
 
-pub both_places : (most : ℕ) (boards boards' more more' : List BoardContent) (doors doors' further further' : List (Option Connections)) (faults faults' others others' wants wants' wanted wanted' : List ℕ) (end other : PlaceEnd)
-    → ArePlaces most boards boards' doors doors' faults faults' wants wants' end → ArePlaces most more more' further further' others others' wanted wanted' other
-    → ArePlaces most (boards ++ more) (boards' ++ more') (doors ++ further) (doors' ++ further') (faults ++ others) (faults' ++ others') (wants ++ wanted) (wants' ++ wanted') (worse end other)
-both_places most boards boards' more more' doors doors' further further' faults faults' others others' wants wants' wanted wanted' end other a b = record {
+pub both_places : (most : ℕ) (boards boards' more more' : List BoardContent) (doors doors' further further' : List DoorContent) (end other : PlaceEnd)
+    → ArePlaces most boards boards' doors doors' end → ArePlaces most more more' further further' other
+    → ArePlaces most (boards ++ more) (boards' ++ more') (doors ++ further) (doors' ++ further') (worse end other)
+both_places most boards boards' more more' doors doors' further further' end other a b = record {
   places = a.places ++ b.places;
   each = All-append (IsServedPlace most) a.places b.places a.each b.each;
   boards_are = map-append (λ (p : OnePlace). p.board) a.places b.places ∙ ap₂ ◌++◌ a.boards_are b.boards_are;
   boards_then = map-append (λ (p : OnePlace). p.board_then) a.places b.places ∙ ap₂ ◌++◌ a.boards_then b.boards_then;
   doors_are = map-append (λ (p : OnePlace). p.door) a.places b.places ∙ ap₂ ◌++◌ a.doors_are b.doors_are;
   doors_then = map-append (λ (p : OnePlace). p.door_then) a.places b.places ∙ ap₂ ◌++◌ a.doors_then b.doors_then;
-  faults_are = map-append (λ (p : OnePlace). p.counts.faults) a.places b.places ∙ ap₂ ◌++◌ a.faults_are b.faults_are;
-  faults_then = map-append (λ (p : OnePlace). p.counts_then.faults) a.places b.places ∙ ap₂ ◌++◌ a.faults_then b.faults_then;
-  wants_are = map-append (λ (p : OnePlace). p.counts.wants) a.places b.places ∙ ap₂ ◌++◌ a.wants_are b.wants_are;
-  wants_then = map-append (λ (p : OnePlace). p.counts_then.wants) a.places b.places ∙ ap₂ ◌++◌ a.wants_then b.wants_then;
   ends = subst (λ (ends : List PlaceEnd). EndAs ends (worse end other)) (sym (map-append (λ (p : OnePlace). p.end) a.places b.places))
       (ends_both end other (map (λ (p : OnePlace). p.end) a.places) (map (λ (p : OnePlace). p.end) b.places) a.ends b.ends);
 }
 
--- no board and no door
-pub empty_places : {B D : Type 0} (content : B → BoardContent) (connections : D → Option Connections) (faults wants : D → ℕ) (most : ℕ) (boards : List B) (doors : List D)
-    → length boards ≡ 0 → length doors ≡ 0
-    → ArePlaces most (map content boards) (map content boards) (map connections doors) (map connections doors) (map faults doors) (map faults doors) (map wants doors) (map wants doors) Done
-empty_places content connections faults wants most [] [] none same = no_places most
-empty_places content connections faults wants most [] (d ∷ doors) none same = absurd (omega arith)
-empty_places content connections faults wants most (b ∷ boards) doors none same = absurd (omega arith)
+module _ {B D : Type 0} (content : B → BoardContent) (told : D → DoorContent) (most : ℕ) where
+  -- no board and no door
+  pub empty_places : (boards : List B) (doors : List D) → length boards ≡ 0 → length doors ≡ 0 → ArePlaces most (map content boards) (map content boards) (map told doors) (map told doors) Done
+  empty_places [] [] none same = no_places most
+  empty_places [] (d ∷ doors) none same = absurd (omega arith)
+  empty_places (b ∷ boards) doors none same = absurd (omega arith)
 
--- the first of one board and of one door
-pub first_place : {B D : Type 0} (content : B → BoardContent) (connections : D → Option Connections) (faults wants : D → ℕ) (most : ℕ) (boards : List B) (doors : List D)
-    (b b' : B) (d d' : D) (owns : List (List ℕ)) (end : PlaceEnd) → length boards ≡ 1 → length doors ≡ 1 → b ≡ get_or boards 0 b → d ≡ get_or doors 0 d
-    → IsServedPlace most (record { board = content b; board_then = content b'; door = connections d; door_then = connections d'; counts = counts_of (faults d) (wants d); counts_then = counts_of (faults d') (wants d'); owns = owns; end = end })
-    → ArePlaces most (map content boards) (map content (slice_set boards 0 b')) (map connections doors) (map connections (slice_set doors 0 d')) (map faults doors) (map faults (slice_set doors 0 d')) (map wants doors) (map wants (slice_set doors 0 d')) end
-first_place content connections faults wants most [] doors b b' d d' owns end one same is_b is_d is = absurd (omega arith)
-first_place content connections faults wants most (x ∷ y ∷ boards) doors b b' d d' owns end one same is_b is_d is = absurd (omega arith)
-first_place content connections faults wants most (x ∷ []) [] b b' d d' owns end one same is_b is_d is = absurd (omega arith)
-first_place content connections faults wants most (x ∷ []) (y ∷ z ∷ doors) b b' d d' owns end one same is_b is_d is = absurd (omega arith)
-first_place {B = B} {D = D} content connections faults wants most (x ∷ []) (y ∷ []) b b' d d' owns end one same is_b is_d is =
-    subst (λ (b : B). ArePlaces most (content b ∷ []) (content b' ∷ []) (connections y ∷ []) (connections d' ∷ []) (faults y ∷ []) (faults d' ∷ []) (wants y ∷ []) (wants d' ∷ []) end) is_b
-    (subst (λ (d : D). ArePlaces most (content b ∷ []) (content b' ∷ []) (connections d ∷ []) (connections d' ∷ []) (faults d ∷ []) (faults d' ∷ []) (wants d ∷ []) (wants d' ∷ []) end) is_d
-    (one_place most (record { board = content b; board_then = content b'; door = connections d; door_then = connections d'; counts = counts_of (faults d) (wants d); counts_then = counts_of (faults d') (wants d'); owns = owns; end = end }) is))
+  -- the first of one board and of one door
+  pub first_place : (boards : List B) (doors : List D) (b b' : B) (d d' : D) (owns : List (List ℕ)) (end : PlaceEnd) → length boards ≡ 1 → length doors ≡ 1 → b ≡ get_or boards 0 b → d ≡ get_or doors 0 d
+      → IsServedPlace most (record { board = content b; board_then = content b'; door = told d; door_then = told d'; owns = owns; end = end })
+      → ArePlaces most (map content boards) (map content (slice_set boards 0 b')) (map told doors) (map told (slice_set doors 0 d')) end
+  first_place [] doors b b' d d' owns end one same is_b is_d is = absurd (omega arith)
+  first_place (x ∷ y ∷ boards) doors b b' d d' owns end one same is_b is_d is = absurd (omega arith)
+  first_place (x ∷ []) [] b b' d d' owns end one same is_b is_d is = absurd (omega arith)
+  first_place (x ∷ []) (y ∷ z ∷ doors) b b' d d' owns end one same is_b is_d is = absurd (omega arith)
+  first_place (x ∷ []) (y ∷ []) b b' d d' owns end one same is_b is_d is =
+      subst (λ (b : B). ArePlaces most (content b ∷ []) (content b' ∷ []) (told y ∷ []) (told d' ∷ []) end) is_b
+      (subst (λ (d : D). ArePlaces most (content b ∷ []) (content b' ∷ []) (told d ∷ []) (told d' ∷ []) end) is_d
+      (one_place most (record { board = content b; board_then = content b'; door = told d; door_then = told d'; owns = owns; end = end }) is))
 
--- ---- two parts of the boards and doors, joined
-
-module _ {B D : Type 0} (content : B → BoardContent) (connections : D → Option Connections) (faults wants : D → ℕ) where
-  pub are_joined : (most : ℕ) (boards b1 b2 b1' b2' : List B) (doors d1 d2 d1' d2' : List D) (end : PlaceEnd) → boards ≡ b1 ++ b2 → doors ≡ d1 ++ d2
-      → ArePlaces most (map content b1 ++ map content b2) (map content b1' ++ map content b2') (map connections d1 ++ map connections d2) (map connections d1' ++ map connections d2')
-      (map faults d1 ++ map faults d2) (map faults d1' ++ map faults d2') (map wants d1 ++ map wants d2) (map wants d1' ++ map wants d2') end
-      → ArePlaces most (map content boards) (map content (b1' ++ b2')) (map connections doors) (map connections (d1' ++ d2')) (map faults doors) (map faults (d1' ++ d2')) (map wants doors) (map wants (d1' ++ d2')) end
-  are_joined most boards b1 b2 b1' b2' doors d1 d2 d1' d2' end bs ds are =
-      rw (bs, ds, map-append content b1 b2, map-append content b1' b2', map-append connections d1 d2, map-append connections d1' d2', map-append faults d1 d2, map-append faults d1' d2', map-append wants d1 d2, map-append wants d1' d2') are
+  -- two parts of the boards and doors, joined
+  pub are_joined : (boards b1 b2 b1' b2' : List B) (doors d1 d2 d1' d2' : List D) (end : PlaceEnd) → boards ≡ b1 ++ b2 → doors ≡ d1 ++ d2
+      → ArePlaces most (map content b1 ++ map content b2) (map content b1' ++ map content b2') (map told d1 ++ map told d2) (map told d1' ++ map told d2') end
+      → ArePlaces most (map content boards) (map content (b1' ++ b2')) (map told doors) (map told (d1' ++ d2')) end
+  are_joined boards b1 b2 b1' b2' doors d1 d2 d1' d2' end bs ds are =
+      rw (bs, ds, map-append content b1 b2, map-append content b1' b2', map-append told d1 d2, map-append told d1' d2') are

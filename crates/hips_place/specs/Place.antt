@@ -1,11 +1,12 @@
 -- One place of the server: the connections that it takes from its door, serves one after another, and gives back. This
 -- project's profile.
-use Rattle.std.specs.Prelude.{◌≡◌, ◌≢◌, ◌⊎◌, ℕ, ◌+◌, ◌*◌, ◌<◌, ◌≤◌, List, [], ◌∷◌, ◌++◌, length, map, slice_index_or, All, Contains, Option, Some, None, IfSome, option_map, ⊤}
+use Rattle.std.specs.Prelude.{◌≡◌, ◌≢◌, ◌⊎◌, ℕ, ◌+◌, ◌*◌, ◌<◌, ◌≤◌, List, [], ◌∷◌, ◌++◌, length, map, slice_index_or, All, Contains, Option, Some, None, IfSome, option_map, Result, Ok, Err, ⊤}
 use Rattle.std.specs.List.{concat}
 use Rattle.std.specs.Io.KnownBytes.{Appends}
 use Rattle.survey_conf.specs.Description.{Description}
 use Rattle.survey_link.specs.Link.{Rises}
 use Rattle.survey_link.specs.Door.{Connection, Numbered, AreNumbered, Connections, Takes, NoneWaits, given_back}
+use Rattle.survey_link.specs.declared.door.Door.{Ghosts as DoorTells}
 use Rattle.edit_journal.specs.Leaves.{LeafTiles}
 use Rattle.survey_core.specs.History.{SurveyState, opening_state, IsHistory, Begins}
 use Rattle.shared_history.specs.Histories.{places_of}
@@ -15,6 +16,8 @@ use Rattle.hips_http.specs.declared.served.SessionEnd.TheVariants.{OutOfMemory a
 use Rattle.hips_http.specs.SessionRun.{Flushes, SessionRun, most_requests}
 use Rattle.hips_place.specs.declared.place.PlaceEnd.{PlaceEnd}
 use Rattle.hips_place.specs.declared.place.PlaceEnd.TheVariants.{Done, Failed, OutOfMemory}
+use Rattle.hips_place.specs.declared.doors.ServeRefusal.{ServeRefusal}
+use Rattle.hips_place.specs.declared.doors.ServeRefusal.TheVariants.{NotOpened, NotMet}
 
 -- ---- a connection
 
@@ -79,20 +82,32 @@ HandsOut (Some old) takens backs (Some new) =
     (old.waiting ≡ takens ++ new.waiting) × (new.taken ≡ old.taken ++ takens) × (new.returned ≡ old.returned ++ backs)
     × AreNumbered (length old.taken) takens
 
--- how often a door has failed, and how often it had no memory to accept a connection
-pub record DoorCounts : Type 0 where
+-- a door at one moment: its connections, where it tells them, how often it has failed, and how often it had no memory to accept
+-- a connection
+pub record DoorContent : Type 0 where
+  pub connections : Option Connections
   pub faults : ℕ
   pub wants : ℕ
 
-abbrev pub counts_of : ℕ → ℕ → DoorCounts
-counts_of faults wants = record { faults = faults; wants = wants }
+abbrev pub door_of : {D I O : Type 0} → DoorTells D I O → D → DoorContent
+door_of told door = record { connections = told.connections door; faults = told.faults door; wants = told.wants door }
 
--- a place whose door had these counts at first ended so: `Failed` exactly where an accept failed, and `Done` only where no
--- accept was refused
-abbrev pub EndsBy : DoorCounts → DoorCounts → PlaceEnd → Type 0
-EndsBy counts counts' Done = counts' ≡ counts
-EndsBy counts counts' Failed = Rises counts.faults counts'.faults × (counts'.wants ≡ counts.wants)
-EndsBy counts counts' OutOfMemory = (counts'.faults ≡ counts.faults) × (Rises counts.wants counts'.wants ⊎ (counts'.wants ≡ counts.wants))
+-- what a place's end tells of its door's counts: `Failed` exactly where an accept failed, and `Done` only where none was refused
+abbrev pub EndsBy : DoorContent → DoorContent → PlaceEnd → Type 0
+EndsBy door door' Done = (door'.faults ≡ door.faults) × (door'.wants ≡ door.wants)
+EndsBy door door' Failed = Rises door.faults door'.faults × (door'.wants ≡ door.wants)
+EndsBy door door' OutOfMemory = (door'.faults ≡ door.faults) × (Rises door.wants door'.wants ⊎ (door'.wants ≡ door.wants))
+
+-- as many connections were taken as were to be, or none is left
+abbrev pub TookAll : ℕ → List Numbered → DoorContent → Type 0
+TookAll most takens door' = (length takens ≡ most) ⊎ NoneWaits door'.connections
+
+-- what a place's end tells of its connections, whatever became of other places. Done: it took all, and no session ended for want
+-- of memory. Out of memory: an accept wanted it, or the place took all and a session ended so
+abbrev pub EndsAfter : DoorContent → DoorContent → ℕ → List Numbered → List SessionEnd → PlaceEnd → Type 0
+EndsAfter door door' most takens ends Done = TookAll most takens door' × All (λ end. end ≢ WantOfMemory) ends
+EndsAfter door door' most takens ends OutOfMemory = Rises door.wants door'.wants ⊎ (TookAll most takens door' × Contains ends WantOfMemory)
+EndsAfter door door' most takens ends Failed = ⊤
 
 -- those that ended for want of memory come before all others
 abbrev pub WantsFirst : List SessionEnd → Type 0
@@ -100,21 +115,17 @@ WantsFirst [] = ⊤
 WantsFirst (WantOfMemory ∷ ends) = WantsFirst ends
 WantsFirst (end ∷ ends) = All (λ each. each ≢ WantOfMemory) ends
 
--- what a place whose sessions had these events of their own did to its board and its door, of which it was to take so many connections. It took them or none is left, unless
--- an accept was refused. It ends for want of memory where an accept wanted it or a connection ended so, and is done where none
--- did
-pub record IsPlace (old new : BoardContent) (door door' : Option Connections) (counts counts' : DoorCounts) (most : ℕ) (end : PlaceEnd) (owns : List (List ℕ)) : Type 0 where
+-- what a place whose sessions had these events of their own did to its board and its door, of which it was to take so many
+-- connections
+pub record IsPlace (old new : BoardContent) (door door' : DoorContent) (most : ℕ) (end : PlaceEnd) (owns : List (List ℕ)) : Type 0 where
   pub takens : List Numbered
   pub backs : List Numbered
   pub ends : List SessionEnd
   pub run : PlaceRun new.conf new.opening old.history takens backs ends owns new.history
-  pub handed : HandsOut door takens backs door'
+  pub handed : HandsOut door.connections takens backs door'.connections
   pub few : length takens ≤ most
-  pub all : end ≡ Done → (length takens ≡ most) ⊎ NoneWaits door'
-  pub all_wanting : end ≡ OutOfMemory → ¬ Rises counts.wants counts'.wants → (length takens ≡ most) ⊎ NoneWaits door'
+  pub ended : EndsAfter door door' most takens ends end
   pub wants_first : WantsFirst ends
-  pub none_wanted : end ≡ Done → All (λ end. end ≢ WantOfMemory) ends
-  pub wanted : end ≡ OutOfMemory → Rises counts.wants counts'.wants ⊎ Contains ends WantOfMemory
 
 -- what is true of it, also where nothing is told: the history that its board sees goes on, by the events of its sessions and
 -- those of other boards, with no more of its own than so many connections may make
@@ -128,10 +139,10 @@ pub record PlaceGoes (old new : BoardContent) (most : ℕ) (owns : List (List �
   pub few : length (concat owns) ≤ most * most_requests
 
 -- a place and what it did, where its door tells its connections
-pub record ServesPlace (old new : BoardContent) (door door' : Option Connections) (counts counts' : DoorCounts) (most : ℕ) (end : PlaceEnd) : Type 0 where
+pub record ServesPlace (old new : BoardContent) (door door' : DoorContent) (most : ℕ) (end : PlaceEnd) : Type 0 where
   pub owns : List (List ℕ)
   pub goes : PlaceGoes old new most owns
-  pub place : AllReturned door → IsPlace old new door door' counts counts' most end owns
+  pub place : AllReturned door.connections → IsPlace old new door door' most end owns
 
 -- ---- the next connection
 
@@ -154,22 +165,20 @@ pub record GivesBack (door door' : Option Connections) (old new : BoardContent) 
 
 -- ---- the places of a server
 
--- a place: its board, its door and the door's counts, before and after, the events of each of its sessions, and how it ended
+-- a place: its board and its door before and after, the events of each of its sessions, and how it ended
 pub record OnePlace : Type 0 where
   pub board : BoardContent
   pub board_then : BoardContent
-  pub door : Option Connections
-  pub door_then : Option Connections
-  pub counts : DoorCounts
-  pub counts_then : DoorCounts
+  pub door : DoorContent
+  pub door_then : DoorContent
   pub owns : List (List ℕ)
   pub end : PlaceEnd
 
 -- it is one of which so many connections were to be taken
 pub record IsServedPlace (most : ℕ) (place : OnePlace) : Type 0 where
-  pub served : AllReturned place.door → IsPlace place.board place.board_then place.door place.door_then place.counts place.counts_then most place.end place.owns
+  pub served : AllReturned place.door.connections → IsPlace place.board place.board_then place.door place.door_then most place.end place.owns
   pub goes : PlaceGoes place.board place.board_then most place.owns
-  pub ends_by : EndsBy place.counts place.counts_then place.end
+  pub ends_by : EndsBy place.door place.door_then place.end
 
 -- the worse of two ends: `Failed`, before `OutOfMemory`, before `Done`
 abbrev pub worse : PlaceEnd → PlaceEnd → PlaceEnd
@@ -186,17 +195,13 @@ pub record EndAs (ends : List PlaceEnd) (end : PlaceEnd) : Type 0 where
   pub wanted : end ≡ OutOfMemory → Contains ends OutOfMemory × All (λ each. each ≢ Failed) ends
 
 -- the places of a server, one for each board and the door beside it, of each of which so many connections were to be taken
-pub record ArePlaces (most : ℕ) (boards boards' : List BoardContent) (doors doors' : List (Option Connections)) (faults faults' wants wants' : List ℕ) (end : PlaceEnd) : Type 0 where
+pub record ArePlaces (most : ℕ) (boards boards' : List BoardContent) (doors doors' : List DoorContent) (end : PlaceEnd) : Type 0 where
   pub places : List OnePlace
   pub each : All (IsServedPlace most) places
   pub boards_are : map (λ p. p.board) places ≡ boards
   pub boards_then : map (λ p. p.board_then) places ≡ boards'
   pub doors_are : map (λ p. p.door) places ≡ doors
   pub doors_then : map (λ p. p.door_then) places ≡ doors'
-  pub faults_are : map (λ p. p.counts.faults) places ≡ faults
-  pub faults_then : map (λ p. p.counts_then.faults) places ≡ faults'
-  pub wants_are : map (λ p. p.counts.wants) places ≡ wants
-  pub wants_then : map (λ p. p.counts_then.wants) places ≡ wants'
   pub ends : EndAs (map (λ p. p.end) places) end
 
 -- ---- the doors of a survey's server
@@ -213,25 +218,37 @@ first_board seat conf opening = record {
   held = None;
 }
 
--- a door before and after, and the places of the events of each of its sessions, in order
+-- a door before and after, the places of the events of each of its sessions, in order, the states that its place had seen in the
+-- end, and how the place ended
 pub record DoorRun : Type 0 where
-  pub door : Option Connections
-  pub door_then : Option Connections
+  pub door : DoorContent
+  pub door_then : DoorContent
   pub owns : List (List ℕ)
+  pub seen : List SurveyState
+  pub end : PlaceEnd
 
--- a door of the server, of which so many connections were to be taken, where the server's places ended all in all so: those
--- that it handed out and got back lead from the survey's first state to states with which these begin
-pub record ServesDoor (conf : Description) (opening : LeafTiles) (states : List SurveyState) (most : ℕ) (end : PlaceEnd) (served : DoorRun) : Type 0 where
+-- a door: the connections that it handed out and got back lead from the survey's first state to those that its place had seen
+-- in the end
+pub record ServesDoor (conf : Description) (opening : LeafTiles) (most : ℕ) (served : DoorRun) : Type 0 where
   pub takens : List Numbered
   pub backs : List Numbered
   pub ends : List SessionEnd
-  pub seen : List SurveyState
-  pub run : PlaceRun conf opening (opening_state ∷ []) takens backs ends served.owns seen
-  pub begins : Begins seen states
-  pub handed : HandsOut served.door takens backs served.door_then
+  pub run : PlaceRun conf opening (opening_state ∷ []) takens backs ends served.owns served.seen
+  pub handed : HandsOut served.door.connections takens backs served.door_then.connections
   pub few : length takens ≤ most
-  pub all : end ≡ Done → (length takens ≡ most) ⊎ NoneWaits served.door_then
-  pub none_wanted : end ≡ Done → All (λ end. end ≢ WantOfMemory) ends
+  pub ended : EndsAfter served.door served.door_then most takens ends served.end
+  pub wants_first : WantsFirst ends
+
+-- the doors of a server, each by itself: a legal history of its own, and its run where it had got back all that it had handed
+-- out. All in all their places ended so
+pub record ServesApart (conf : Description) (opening : LeafTiles) (most : ℕ) (doors doors' : List DoorContent) (end : PlaceEnd) : Type 0 where
+  pub runs : List DoorRun
+  pub doors_are : map (λ run. run.door) runs ≡ doors
+  pub doors_then : map (λ run. run.door_then) runs ≡ doors'
+  pub legal : All (λ run. IsHistory opening run.seen) runs
+  pub each : All (λ run. AllReturned run.door.connections → ServesDoor conf opening most run) runs
+  pub ends_by : All (λ run. EndsBy run.door run.door_then run.end) runs
+  pub ends : EndAs (map (λ run. run.end) runs) end
 
 -- the places of the events of a session, by the place of its door and its own there
 abbrev pub own_at : List (List (List ℕ)) → ℕ → ℕ → List ℕ
@@ -244,16 +261,20 @@ pub record IsOneSessions (owns : List (List (List ℕ))) (place : ℕ) : Type 0 
   pub own : Contains (own_at owns door session) place
   pub alone : (other another : ℕ) → Contains (own_at owns other another) place → (other ≡ door) × (another ≡ session)
 
--- the doors of the server, each of which had got back all that it had handed out: one history holds what happened at all of
--- them, and each of its states but the first is one session's event
-pub record ServesDoors (conf : Description) (opening : LeafTiles) (most : ℕ) (doors doors' : List (Option Connections)) (end : PlaceEnd) : Type 0 where
+-- the same, and one history holds what happened at all of them: each of its states but the first is one session's event
+pub record ServesDoors (conf : Description) (opening : LeafTiles) (most : ℕ) (doors doors' : List DoorContent) (end : PlaceEnd) : Type 0 where
+  pub apart : ServesApart conf opening most doors doors' end
   pub states : List SurveyState
   pub legal : IsHistory opening states
-  pub runs : List DoorRun
-  pub doors_are : map (λ run. run.door) runs ≡ doors
-  pub doors_then : map (λ run. run.door_then) runs ≡ doors'
-  pub each : All (λ run. AllReturned run.door → ServesDoor conf opening states most end run) runs
-  pub owned : (place : ℕ) → 0 < place → place < length states → IsOneSessions (map (λ run. run.owns) runs) place
+  pub begins : All (λ run. Begins run.seen states) apart.runs
+  pub owned : (place : ℕ) → 0 < place → place < length states → IsOneSessions (map (λ run. run.owns) apart.runs) place
+
+-- the doors were served, and their places ended all in all so; or the survey wasn't opened, and they stay; or the boards couldn't
+-- meet in the end
+abbrev pub ServesAs : Description → LeafTiles → ℕ → List DoorContent → List DoorContent → Result PlaceEnd ServeRefusal → Type 0
+ServesAs conf opening most doors doors' (Ok end) = ServesDoors conf opening most doors doors' end
+ServesAs conf opening most doors doors' (Err NotOpened) = doors' ≡ doors
+ServesAs conf opening most doors doors' (Err (NotMet end)) = ServesApart conf opening most doors doors' end
 
 -- the count of one of them rose
 abbrev pub SomeRises : List ℕ → List ℕ → Type 0

@@ -1,13 +1,14 @@
 //! The doors of a survey, at once.
-ghost use Rattle.std.specs.Prelude.{◌≡◌, ◌≢◌, ◌<◌, ◌≤◌, [], Ok, map, length, All, IfOk, OnOk};
+ghost use Rattle.std.specs.Prelude.{◌≡◌, ◌≢◌, ◌<◌, ◌≤◌, List, [], Ok, Err, map, length, All, IfOk, OnOk};
 ghost use Rattle.std.specs.List.{AllZip, range_with_len};
-ghost use Rattle.shared_history.specs.Histories.{one_state};
+ghost use Rattle.shared_history.specs.Histories.{SeatContent, one_state};
 ghost use Rattle.survey_core.specs.State.{StateContent};
 ghost use Rattle.survey_core.specs.History.{Begins};
 ghost use Rattle.reader_pin.specs.Board.{Stays};
 ghost use Rattle.reader_pin.specs.Shared.{seated};
 ghost use Rattle.hips_place.specs.declared.place.PlaceEnd.TheVariants.{Done, Failed};
-ghost use Rattle.hips_place.specs.Place.{ServesDoors, SomeRises, HaveAllMet, OwnsAmong};
+ghost use Rattle.hips_place.specs.declared.doors.ServeRefusal.TheVariants.{NotOpened};
+ghost use Rattle.hips_place.specs.Place.{door_of, ServesDoors, ServesApart, ServesAs, SomeRises, HaveAllMet, OwnsAmong};
 
 use crate::place::{InConnection, PlaceEnd};
 use crate::places::serve_places;
@@ -22,6 +23,18 @@ use std::thread::Threads;
 use std::time::Clock;
 use survey_core::State;
 use survey_link::{Door, Gate};
+use thiserror::Error;
+
+/// What there was no memory for when the doors of a survey were to be served.
+#[derive(Clone, Copy, Debug, PartialEq, Eq, Error)]
+pub enum ServeRefusal {
+    /// The survey wasn't opened, and no door was touched.
+    #[error("the survey wasn't opened")]
+    NotOpened,
+    /// All places have ended, all in all so; then their boards couldn't meet.
+    #[error("what the places have seen can't be put together")]
+    NotMet(PlaceEnd),
+}
 
 /// Opens the survey of which this is the first state, and serves its doors at once, each by a place of its own: up to `most`
 /// connections of each. When all places have ended, the first board meets each other one, so that one history holds what
@@ -31,7 +44,7 @@ use survey_link::{Door, Gate};
 ///
 /// # Errors
 ///
-/// `AllocError` where there is no memory to open the survey, or for boards to meet.
+/// Where there is no memory to open the survey, or for boards to meet.
 pub fn serve_doors<R: Threads + Wait + Sync + Clock + Log, D: Door + Send, G: Gate + Sync>(
     rt: &R,
     alloc: Global,
@@ -39,14 +52,15 @@ pub fn serve_doors<R: Threads + Wait + Sync + Clock + Log, D: Door + Send, G: Ga
     most: u32,
     gate: &G,
     doors: &mut [D],
-) -> Result<PlaceEnd, AllocError>
+) -> Result<PlaceEnd, ServeRefusal>
 where
     D::In: Send,
     D::Out: Send,
     requires first { (state.batches ≡ []) × (state.tip ≡ 0) }
     requires some { 0 < length doors.old }
     requires most { length doors.old ≤ 64 }
-    ensures served { IfOk result (ServesDoors state.conf state.opening most (map D.connections doors.old) (map D.connections doors.new)) }
+    ensures served { ServesAs state.conf state.opening most (map (door_of D.Door) doors.old) (map (door_of D.Door) doors.new) result }
+    ensures kept { result ≡ Err NotOpened → doors.new ≡ doors.old }
     ensures failed { result ≡ Ok Failed → SomeRises (map D.faults doors.old) (map D.faults doors.new) }
     ensures sound { IfOk result (λ end. end ≢ Failed → map D.faults doors.new ≡ map D.faults doors.old) }
     ensures done { result ≡ Ok Done → map D.wants doors.new ≡ map D.wants doors.old }
@@ -63,7 +77,7 @@ fn serve_named<J, R, D, G>(
     most: u32,
     gate: &G,
     doors: &mut [D],
-) -> Result<PlaceEnd, AllocError>
+) -> Result<PlaceEnd, ServeRefusal>
 where
     J: Naming + Send + Sync,
     R: Threads + Wait + Sync + Clock + Log,
@@ -75,18 +89,23 @@ where
     requires first { (state.batches ≡ []) × (state.tip ≡ 0) }
     requires some { 0 < length doors.old }
     requires most { length doors.old ≤ 64 }
-    ensures served { IfOk result (ServesDoors state.conf state.opening most (map D.connections doors.old) (map D.connections doors.new)) }
+    ensures served { ServesAs state.conf state.opening most (map (door_of D.Door) doors.old) (map (door_of D.Door) doors.new) result }
+    ensures kept { result ≡ Err NotOpened → doors.new ≡ doors.old }
     ensures failed { result ≡ Ok Failed → SomeRises (map D.faults doors.old) (map D.faults doors.new) }
     ensures sound { IfOk result (λ end. end ≢ Failed → map D.faults doors.new ≡ map D.faults doors.old) }
     ensures done { result ≡ Ok Done → map D.wants doors.new ≡ map D.wants doors.old }
 {
-    let (survey, seats) = open_shared::<J, R>(rt, alloc, book, state, doors.len())?;
-    let ended = serve_seats(rt, alloc, &survey, seats, most, gate, doors);
-    survey.close(rt);
-    ended
+    match open_shared::<J, R>(rt, alloc, book, state, doors.len()) {
+        Ok((survey, seats)) => {
+            let ended = serve_seats(rt, alloc, &survey, seats, most, gate, doors);
+            survey.close(rt);
+            ended
+        }
+        Err(AllocError) => Err(ServeRefusal::NotOpened),
+    }
 }
 
-// Serves the doors at the seats of an open survey; then the first board meets each other one.
+// Serves the doors at the seats of an open survey.
 fn serve_seats<'a, J, R, D, G>(
     rt: &R,
     alloc: Global,
@@ -95,7 +114,7 @@ fn serve_seats<'a, J, R, D, G>(
     most: u32,
     gate: &G,
     doors: &mut [D],
-) -> Result<PlaceEnd, AllocError>
+) -> Result<PlaceEnd, ServeRefusal>
 where
     J: Naming + Send + Sync,
     R: Threads + Wait + Sync + Clock + Log,
@@ -107,20 +126,57 @@ where
     requires some { 0 < length doors.old }
     ensures served { (state : StateContent) → map (λ seat. seat.number) seats.items ≡ range_with_len 0 (length seats.items)
         → All (λ seat. seat.seen ≡ one_state (length seats.items) state) seats.items → state.batches ≡ [] → state.tip ≡ 0
-        → IfOk result (ServesDoors state.conf state.opening most (map D.connections doors.old) (map D.connections doors.new)) }
+        → ServesAs state.conf state.opening most (map (door_of D.Door) doors.old) (map (door_of D.Door) doors.new) result }
+    ensures kept { result ≡ Err NotOpened → doors.new ≡ doors.old }
+    ensures failed { result ≡ Ok Failed → SomeRises (map D.faults doors.old) (map D.faults doors.new) }
+    ensures sound { IfOk result (λ end. end ≢ Failed → map D.faults doors.new ≡ map D.faults doors.old) }
+    ensures done { result ≡ Ok Done → map D.wants doors.new ≡ map D.wants doors.old }
+{
+    match boards_at(alloc, survey, seats) {
+        Ok(mut boards) => {
+            let boards = boards.as_mut_slice();
+            serve_boards(rt, alloc, most, gate, boards, doors)
+        }
+        Err(AllocError) => Err(ServeRefusal::NotOpened),
+    }
+}
+
+// Serves the doors by the boards at the seats of a survey that was just opened; then the first board meets each other one.
+fn serve_boards<'a, J, R, D, G>(
+    rt: &R,
+    alloc: Global,
+    most: u32,
+    gate: &G,
+    boards: &mut [Shared<'a, J>],
+    doors: &mut [D],
+) -> Result<PlaceEnd, ServeRefusal>
+where
+    J: Naming + Send + Sync,
+    R: Threads + Wait + Sync + Clock + Log,
+    D: Door + Send,
+    D::In: Send,
+    D::Out: Send,
+    G: Gate + Sync,
+    requires same { length boards.old ≡ length doors.old }
+    requires some { 0 < length boards.old }
+    ensures served { (state : StateContent) (seats : List (SeatContent StateContent)) → boards.old ≡ map seated seats
+        → map (λ seat. seat.number) seats ≡ range_with_len 0 (length seats)
+        → All (λ seat. seat.seen ≡ one_state (length seats) state) seats → state.batches ≡ [] → state.tip ≡ 0
+        → ServesAs state.conf state.opening most (map (door_of D.Door) doors.old) (map (door_of D.Door) doors.new) result }
+    ensures opened { result ≢ Err NotOpened }
     ensures failed { result ≡ Ok Failed → SomeRises (map D.faults doors.old) (map D.faults doors.new) }
     ensures sound { IfOk result (λ end. end ≢ Failed → map D.faults doors.new ≡ map D.faults doors.old) }
     ensures done { result ≡ Ok Done → map D.wants doors.new ≡ map D.wants doors.old }
 {
     places_are_own();
     each_is_one_seats();
-    let mut boards = boards_at(alloc, survey, seats)?;
-    let boards = boards.as_mut_slice();
     let end = serve_places::<&R, InConnection<&R>, Shared<'a, J>, D, G>(
         &rt, alloc, 1, most, gate, boards, doors,
     );
-    meet_first(boards)?;
-    Ok(end)
+    match meet_first(boards) {
+        Ok(()) => Ok(end),
+        Err(AllocError) => Err(ServeRefusal::NotMet(end)),
+    }
 }
 
 // A board at each seat.

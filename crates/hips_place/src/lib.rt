@@ -9,6 +9,6 @@ mod numbered;
 mod place;
 mod places;
 
-pub use doors::serve_doors;
+pub use doors::{ServeRefusal, serve_doors};
 pub use place::{InConnection, NamesConnections, PlaceEnd, serve_place};
 pub use places::serve_places;

@@ -4,13 +4,13 @@ ghost use Rattle.survey_link.specs.Link.{Rises};
 ghost use Rattle.survey_link.specs.Door.{NoneWaits};
 ghost use Rattle.hips_http.specs.Moment.{connection_of};
 ghost use Rattle.hips_http.specs.SessionRun.{Goes, room_of};
-ghost use Rattle.hips_place.specs.Place.{EndsBy, IsServedOnce, ServesPlace, TakesOne, GivesBack, counts_of, worse};
+ghost use Rattle.hips_place.specs.Place.{EndsBy, IsServedOnce, ServesPlace, TakesOne, GivesBack, door_of, worse};
 
 use crate::numbered::{NumberedSink, NumberedSource, Numbers};
 use hips_http::{SessionEnd, frame_for, session_in};
 use http_frame::Frame;
 use log::kv::With;
-use log::{Level, Log, Span, debug, info, log_enabled};
+use log::{Level, Log, Span, debug, info, log_enabled, warn};
 use parent_rule::Steps;
 use reader_pin::ChangedWith;
 use std::alloc::Global;
@@ -29,10 +29,10 @@ pub trait NamesConnections<N> {
 }
 
 impl<R: Log + Copy> NamesConnections<InConnection<R>> for R {
-    // It names the connection where requests are said.
+    // It names the connection where edits are logged.
     fn within(&self, place: usize, number: u32) -> InConnection<R> {
         Span::enter(*self, "connection")
-            .shown_if(log_enabled!(*self; Level::Debug))
+            .shown_if(log_enabled!(*self; Level::Info))
             .with("place", place)
             .with("number", number)
     }
@@ -69,6 +69,8 @@ impl PlaceEnd {
 /// It waits for nobody but the door and its connections where the board doesn't. A runtime that can't be copied is given as a
 /// reference to it.
 ///
+/// It warns when 80 and when 95 percent of the connections were taken, since it ends after the last one.
+///
 /// `Failed` exactly where an accept fails, also after a session that ended for want of memory. `OutOfMemory` where an accept
 /// answers it, or a session ended so and no accept failed; such a session doesn't end the place.
 pub fn serve_place<
@@ -87,9 +89,8 @@ pub fn serve_place<
     gate: &G,
     steps: &mut Steps,
 ) -> PlaceEnd
-    ensures place { ServesPlace (B.content board.old) (B.content board.new) (D.connections door.old) (D.connections door.new)
-        (counts_of (D.faults door.old) (D.wants door.old)) (counts_of (D.faults door.new) (D.wants door.new)) most result }
-    ensures ends_by { EndsBy (counts_of (D.faults door.old) (D.wants door.old)) (counts_of (D.faults door.new) (D.wants door.new)) result }
+    ensures place { ServesPlace (B.content board.old) (B.content board.new) (door_of D.Door door.old) (door_of D.Door door.new) most result }
+    ensures ends_by { EndsBy (door_of D.Door door.old) (door_of D.Door door.new) result }
     ensures steps_never_fall { steps.old ≤ steps.new }
 {
     // For the prover: what a board has seen is a history.
@@ -102,7 +103,10 @@ pub fn serve_place<
             number: count + 1,
         };
         match serve_next::<R, N, B, D, G>(rt, alloc, name, &mut frame, board, door, gate, steps) {
-            Ok(Some(end)) => wanted = is_wanted(wanted, end),
+            Ok(Some(end)) => {
+                wanted = is_wanted(wanted, end);
+                warn_of_last(rt, name, most);
+            }
             Ok(None) => return say_ended(rt, end_of(wanted), count),
             Err(fault) => return say_ended(rt, end_by(fault), count),
         }
@@ -115,6 +119,23 @@ pub fn serve_place<
 struct ConnectionName {
     place: usize,
     number: u32,
+}
+
+// Warns once when 80 and once when 95 percent of the connections that a place takes were taken.
+fn warn_of_last<R: Log>(rt: &R, name: ConnectionName, most: u32) {
+    let ConnectionName { place, number } = name;
+    let left = most.saturating_sub(number);
+    if left > 0 && (number == share_of(most, 80) || number == share_of(most, 95)) {
+        warn!(rt; "place {place} has taken {number} of {most} connections: after {left} more it ends. Once all places have ended the server has too, and its edits are gone: renew it before");
+    }
+}
+
+// So many percent, up to 100, of some connections, rounded up.
+fn share_of(most: u32, percent: u8) -> u32
+    requires { percent ≤ 100 }
+{
+    let share = (u64::from(most) * u64::from(percent)).div_ceil(100);
+    u32::try_from(share).unwrap_or(most)
 }
 
 // Says how a place ended that has served so many connections.
@@ -208,8 +229,8 @@ fn serve_next<
     }
 }
 
-// Serves a connection, whose ends have the numbers of `J`, and gives it back; how it ended. What is said meanwhile names it, where
-// requests are said.
+// Serves a connection, whose ends have the numbers of `J`, and gives it back; how it ended. What is logged meanwhile names it,
+// where edits are logged.
 fn serve_connection<
     J: Numbers,
     R: Log + NamesConnections<N>,

@@ -1,7 +1,7 @@
 //! The places of a server, at once.
 ghost use Rattle.std.specs.Prelude.{◌≡◌, ◌<◌, ◌++◌, map, length};
 ghost use denote.Param.Send.{IsSync, IsSend};
-ghost use Rattle.hips_place.specs.Place.{ArePlaces};
+ghost use Rattle.hips_place.specs.Place.{ArePlaces, door_of};
 
 use crate::place::{NamesConnections, PlaceEnd, serve_place};
 use log::Log;
@@ -38,8 +38,8 @@ where
     D::In: Send,
     D::Out: Send,
     requires { length boards.old ≡ length doors.old }
-    ensures { ArePlaces most (map B.content boards.old) (map B.content boards.new) (map D.connections doors.old) (map D.connections doors.new)
-        (map D.faults doors.old) (map D.faults doors.new) (map D.wants doors.old) (map D.wants doors.new) result }
+    ensures { ArePlaces most (map B.content boards.old) (map B.content boards.new)
+        (map (door_of D.Door) doors.old) (map (door_of D.Door) doors.new) result }
 {
     if boards.len() < 2 {
         return serve_first::<R, N, B, D, G>(rt, alloc, first, most, gate, boards, doors);
@@ -105,18 +105,15 @@ where
     requires far { length far_boards.old ≡ length far_doors.old }
     requires some { (0 < length near_boards.old) × (0 < length far_boards.old) }
     ensures { ArePlaces most (map B.content near_boards.old ++ map B.content far_boards.old) (map B.content near_boards.new ++ map B.content far_boards.new)
-        (map D.connections near_doors.old ++ map D.connections far_doors.old) (map D.connections near_doors.new ++ map D.connections far_doors.new)
-        (map D.faults near_doors.old ++ map D.faults far_doors.old) (map D.faults near_doors.new ++ map D.faults far_doors.new)
-        (map D.wants near_doors.old ++ map D.wants far_doors.old) (map D.wants near_doors.new ++ map D.wants far_doors.new) result }
+        (map (door_of D.Door) near_doors.old ++ map (door_of D.Door) far_doors.old)
+        (map (door_of D.Door) near_doors.new ++ map (door_of D.Door) far_doors.new) result }
 {
     let (near, far) = join_mut(
         rt,
         &mut || -> PlaceEnd
             requires { IsSync R.row × IsSync G.row × IsSend B.row × IsSend D.row × (length near_boards.now ≡ length near_doors.now) }
             ensures { ArePlaces most (map B.content near_boards.entry.now) (map B.content near_boards.exit.now)
-                (map D.connections near_doors.entry.now) (map D.connections near_doors.exit.now)
-                (map D.faults near_doors.entry.now) (map D.faults near_doors.exit.now)
-                (map D.wants near_doors.entry.now) (map D.wants near_doors.exit.now) result }
+                (map (door_of D.Door) near_doors.entry.now) (map (door_of D.Door) near_doors.exit.now) result }
         {
             serve_places::<R, N, B, D, G>(
                 rt,
@@ -131,9 +128,7 @@ where
         &mut || -> PlaceEnd
             requires { IsSync R.row × IsSync G.row × IsSend B.row × IsSend D.row × (length far_boards.now ≡ length far_doors.now) }
             ensures { ArePlaces most (map B.content far_boards.entry.now) (map B.content far_boards.exit.now)
-                (map D.connections far_doors.entry.now) (map D.connections far_doors.exit.now)
-                (map D.faults far_doors.entry.now) (map D.faults far_doors.exit.now)
-                (map D.wants far_doors.entry.now) (map D.wants far_doors.exit.now) result }
+                (map (door_of D.Door) far_doors.entry.now) (map (door_of D.Door) far_doors.exit.now) result }
         {
             serve_places::<R, N, B, D, G>(
                 rt,
@@ -167,8 +162,8 @@ fn serve_first<
 ) -> PlaceEnd
     requires same { length boards.old ≡ length doors.old }
     requires few { length boards.old < 2 }
-    ensures { ArePlaces most (map B.content boards.old) (map B.content boards.new) (map D.connections doors.old) (map D.connections doors.new)
-        (map D.faults doors.old) (map D.faults doors.new) (map D.wants doors.old) (map D.wants doors.new) result }
+    ensures { ArePlaces most (map B.content boards.old) (map B.content boards.new)
+        (map (door_of D.Door) doors.old) (map (door_of D.Door) doors.new) result }
 {
     if boards.is_empty() {
         return PlaceEnd::Done;

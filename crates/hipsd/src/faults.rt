@@ -38,7 +38,7 @@ pub(crate) fn say_fault<R: Log, S, K, F>(
 }
 
 /// Says which end failed where a copy of the survey at this address ended with this status. Why nobody could be called there was
-/// said when it was tried.
+/// said before.
 pub(crate) fn say_peer_fault<R: Log, F>(rt: &R, status: u8, address: &str, shelf: &FolderShelf<F>) {
     match status {
         INPUT =>

@@ -12,26 +12,25 @@ ghost use Rattle.hipsd_run.specs.declared.command.Command.TheVariants.{Probe as 
 ghost use Rattle.hipsd_run.specs.Command.{texts, Asks, IsCommand};
 
 mod faults;
-mod peer_runtime;
 
 use faults::{say_fault, say_peer_fault};
-use hipsd_run::{Command, address_of, command_for, run, say_version, second_word, words};
+use hipsd_run::{Command, command_for, run, say_version, second_word, words};
 use log::sink::Console;
 use log::{LevelFilter, Log, Logged, error, warn};
 use parent_rule::Steps;
-use peer_runtime::PeerRuntime;
 use std::alloc::AllocError;
 use std::env::VarError;
 use std::io::{BufReader, BufWriter};
-use std::net::{Net, SocketAddr, TcpListener, TcpStream};
 use std::process::ExitCode;
 use std::rt::{Env, Runtime};
 use std::sync::Wait;
 use std::thread::Threads;
-use std::time::Clock;
 use std::{env, io};
 use survey_link::{FolderShelf, OpenGate, Sink, Source, StreamSink, StreamSource};
-use tcp_link::{DialIn, DialOut, Trial, dial, tcp_doors, try_address};
+use tcp_link::{Trial, dial, tcp_doors, try_address};
+
+/// The status where nobody can listen at the address.
+const NO_ADDRESS: u8 = 8;
 
 /// The status where there is no memory for the words or the ends.
 const NO_MEMORY: u8 = 11;
@@ -42,67 +41,79 @@ const DOORS: usize = 64;
 /// The environment variable that names a level of the log.
 const LOG: &str = "HIPSD_LOG";
 
-// What it takes to have the words of the command line, and to call a peer.
-trait Caller: Net<Listener = TcpListener, Stream = TcpStream>
-    + Clock
-    + Env
-    + AllocGlobal
-    + Clone
-    + Drop {}
-
-impl<N> Caller for N
-where
-    N: Net<Listener = TcpListener, Stream = TcpStream> + Clock + Env + AllocGlobal + Clone + Drop,
-{}
-
-// Runs the words, and passes the status on: `mirror` over the connection to its peer, all others over standard input and output.
-// Names are looked up by `net`.
-fn run_words<R, N, S, K>(rt: &R, net: &N, words: &[String], peer: (S, K)) -> io::Result<u8>
+// Runs the words, but for those that ask for a server at an address at which nobody can listen. A logger's own network knows
+// neither names nor paths, so these are looked up by `net`.
+fn start<R>(rt: &R, net: &HostRuntime, words: &[String]) -> io::Result<u8>
 where
     R: Runtime + AllocGlobal + Threads + Wait + Log + Send + Sync + Clone + Drop,
-    R: Net<Listener = TcpListener, Stream = TcpStream>,
     R::Reader: Drop,
-    N: Net,
-    S: Source + Drop,
-    K: Sink + Drop,
+{
+    match command_for(words, DOORS) {
+        Some(Command::Serve { .. }) => {
+            say_version(rt);
+            if can_listen(rt, net, second_word(words)) {
+                run_words(rt, net, words)
+            } else {
+                Ok(NO_ADDRESS)
+            }
+        }
+        _ => run_words(rt, net, words),
+    }
+}
+
+// Whether one can listen at the address. The log gets why nobody can.
+fn can_listen<R: Log>(rt: &R, net: &HostRuntime, address: &str) -> bool {
+    match try_address(net, address) {
+        Trial::Free => true,
+        Trial::Taken(refusal) => {
+            error!(rt; "can't listen at {address}: {refusal}");
+            false
+        }
+        Trial::Nowhere(refusal) => {
+            error!(rt; "can't listen at {address:?}: {refusal}. ADDRESS is an IP address or a host's name, with a port, as 127.0.0.1:8080, or the path of a Unix socket, with a /");
+            false
+        }
+    }
+}
+
+// Runs the words, and passes the status on: `mirror` over a connection to its peer, all others over standard input and output.
+fn run_words<R>(rt: &R, net: &HostRuntime, words: &[String]) -> io::Result<u8>
+where
+    R: Runtime + AllocGlobal + Threads + Wait + Log + Send + Sync + Clone + Drop,
+    R::Reader: Drop,
     ensures usage { ¬ IsCommand (texts words.now) → IfOk result (λ status. (status ≡ 1) ⊎ (status ≡ 6)) }
     ensures usage_only { IfOk result (λ status. status ≡ 1 → ¬ IsCommand (texts words.now)) }
     ensures probe_range { (asked : AskedProbe) → Asks (texts words.now) (ProbeCommand asked)
         → cell_count asked.order ≤ asked.npix → IfOk result (λ status. status ≡ 13) }
 {
     match command_for(words, DOORS) {
-        Some(Command::Mirror) => run_with_peer(rt, net, words, peer),
+        Some(Command::Mirror) => run_with_peer(rt, net, words),
         _ => run_with_streams(rt, net, words),
     }
 }
 
-// Runs the words over a connection to a peer.
-fn run_with_peer<R, N, S, K>(rt: &R, net: &N, words: &[String], peer: (S, K)) -> io::Result<u8>
+// Runs the words over a connection to the peer that they name.
+fn run_with_peer<R>(rt: &R, net: &HostRuntime, words: &[String]) -> io::Result<u8>
 where
     R: Runtime + AllocGlobal + Threads + Wait + Log + Send + Sync + Clone + Drop,
-    R: Net<Listener = TcpListener, Stream = TcpStream>,
-    N: Net,
-    S: Source + Drop,
-    K: Sink + Drop,
     ensures usage { ¬ IsCommand (texts words.now) → IfOk result (λ status. (status ≡ 1) ⊎ (status ≡ 6)) }
     ensures usage_only { IfOk result (λ status. status ≡ 1 → ¬ IsCommand (texts words.now)) }
     ensures probe_range { (asked : AskedProbe) → Asks (texts words.now) (ProbeCommand asked)
         → cell_count asked.order ≤ asked.npix → IfOk result (λ status. status ≡ 13) }
 {
-    let (mut source, mut sink) = peer;
+    let address = second_word(words);
+    let (mut source, mut sink) = dial(rt, net, address)?;
     let mut shelf = FolderShelf::here(rt.clone()?);
     let status = run_over(rt, net, words, &mut source, &mut sink, &mut shelf)?;
-    say_peer_fault(rt, status, second_word(words), &shelf);
+    say_peer_fault(rt, status, address, &shelf);
     Ok(status)
 }
 
 // Runs the words over standard input and output.
-fn run_with_streams<R, N>(rt: &R, net: &N, words: &[String]) -> io::Result<u8>
+fn run_with_streams<R>(rt: &R, net: &HostRuntime, words: &[String]) -> io::Result<u8>
 where
     R: Runtime + AllocGlobal + Threads + Wait + Log + Send + Sync + Clone + Drop,
-    R: Net<Listener = TcpListener, Stream = TcpStream>,
     R::Reader: Drop,
-    N: Net,
     ensures usage { ¬ IsCommand (texts words.now) → IfOk result (λ status. (status ≡ 1) ⊎ (status ≡ 6)) }
     ensures usage_only { IfOk result (λ status. status ≡ 1 → ¬ IsCommand (texts words.now)) }
     ensures probe_range { (asked : AskedProbe) → Asks (texts words.now) (ProbeCommand asked)
@@ -118,9 +129,9 @@ where
 }
 
 // Runs the words over these ends and doors of their address, and answers the status.
-fn run_over<R, N, S, K>(
+fn run_over<R, S, K>(
     rt: &R,
-    net: &N,
+    net: &HostRuntime,
     words: &[String],
     source: &mut S,
     sink: &mut K,
@@ -128,8 +139,6 @@ fn run_over<R, N, S, K>(
 ) -> Result<u8, AllocError>
 where
     R: Runtime + AllocGlobal + Threads + Wait + Log + Send + Sync + Clone + Drop,
-    R: Net<Listener = TcpListener, Stream = TcpStream>,
-    N: Net,
     S: Source,
     K: Sink,
     ensures usage { ¬ IsCommand (texts words.now) → IfOk result (λ status. (status ≡ 1) ⊎ (status ≡ 6)) }
@@ -137,54 +146,12 @@ where
     ensures probe_range { (asked : AskedProbe) → Asks (texts words.now) (ProbeCommand asked)
         → cell_count asked.order ≤ asked.npix → IfOk result (λ status. status ≡ 13) }
 {
-    let address = address_of(rt.alloc(), words, try_place(rt, net, words))?;
-    let mut doors = tcp_doors(rt, address.as_str(), DOORS)?;
+    let mut doors = tcp_doors(rt, net, second_word(words), DOORS)?;
     let gate = OpenGate::new();
     let mut steps = Steps::new();
     Ok(run(
         rt, words, source, sink, shelf, &mut doors, &gate, &mut steps,
     ))
-}
-
-// The place of a server's address, which is tried before the survey is loaded.
-fn try_place<R: Log, N: Net>(rt: &R, net: &N, words: &[String]) -> Option<SocketAddr> {
-    match command_for(words, DOORS) {
-        Some(Command::Serve { .. }) => {
-            say_version(rt);
-            place_of(rt, net, second_word(words))
-        }
-        _ => None,
-    }
-}
-
-// The place of an address, where it has one. The log gets why nobody can listen there; whoever serves the survey tries again.
-fn place_of<R: Log, N: Net>(rt: &R, net: &N, address: &str) -> Option<SocketAddr> {
-    match try_address(net, address) {
-        Trial::Free(place) => Some(place),
-        Trial::Taken(place, refusal) => {
-            warn!(rt; "can't listen at {place} yet: {refusal}. It is tried again once the survey is loaded");
-            Some(place)
-        }
-        Trial::Nowhere(refusal) => {
-            error!(rt; "can't listen at {address:?}: {refusal}. ADDRESS is an IP address or a host's name, with a port, as 127.0.0.1:8080");
-            None
-        }
-    }
-}
-
-// What a peer sends, and what it is sent.
-type PeerEnds<N, L> = (DialIn<PeerRuntime<N, L>>, DialOut<PeerRuntime<N, L>>);
-
-// The words of the command line, and a connection to the peer that they may name, which nobody has called yet. Why it can't be
-// called `log` is told.
-fn read_line<N: Caller, L: Clone + Drop>(
-    net: &N,
-    log: &L,
-) -> io::Result<(Vec<String>, PeerEnds<N, L>)> {
-    let words = words(net.alloc(), env::args(net))?;
-    let runtime = PeerRuntime::new(net.clone()?, log.clone()?);
-    let peer = dial(&runtime, second_word(&words))?;
-    Ok((words, peer))
 }
 
 // The exit status of a run: the run's own, and 11 where there was no memory for the words or the ends.
@@ -221,8 +188,8 @@ fn say_level<R: AllocGlobal + Env + Log>(rt: &R) {
 fn main(rt: HostRuntime) -> ExitCode {
     let logged = Logged::new(rt, log_level(&rt), Console(rt));
     say_level(&logged);
-    exit_code(match read_line(&rt, &logged) {
-        Ok((words, peer)) => run_words(&logged, &rt, &words, peer),
+    exit_code(match words(rt.alloc(), env::args(&rt)) {
+        Ok(words) => start(&logged, &rt, &words),
         Err(error) => Err(error),
     })
 }

@@ -5,7 +5,7 @@ use Rattle.std.specs.declared.alloc.Global.{Global}
 use Rattle.std.specs.Io.KnownBytes.{Appends, IsAtEnd}
 use Rattle.healpix_nested.specs.Cells.{cell_count}
 use Rattle.survey_link.specs.Link.{Rises, AppendsPrefix}
-use Rattle.survey_link.specs.Door.{Connection, Connections}
+use Rattle.survey_link.specs.Door.{Connection}
 use Rattle.survey_link.specs.Shelf.{ShelfFiles}
 use Rattle.survey_link.specs.declared.source.Source.{Ghosts as SourceTells}
 use Rattle.survey_link.specs.declared.sink.Sink.{Ghosts as SinkTells}
@@ -15,7 +15,7 @@ use Rattle.leaf_probe.specs.Merging.{steps_after}
 use Rattle.leaf_probe.specs.Reading.{ReadsToTheEnd}
 use Rattle.leaf_probe.specs.declared.asked.Probe.{Probe}
 use Rattle.hips_http.specs.Moment.{connection_of}
-use Rattle.hips_place.specs.Place.{SomeRises}
+use Rattle.hips_place.specs.Place.{DoorContent, SomeRises}
 use Rattle.survey_commands.specs.Survey.{RunsExport, RunsVerify}
 use Rattle.survey_commands.specs.Session.{RunsSession}
 use Rattle.survey_commands.specs.Make.{RunsMake}
@@ -35,12 +35,12 @@ pub record Telling (S K H D : Type 0) : Type 1 where
   pub source : SourceTells S
   pub sink : SinkTells K
   pub shelf : ShelfTells H
-  pub connections : D → Option Connections
+  pub door : D → DoorContent
   pub faults : D → ℕ
 
-abbrev pub telling : {S K H D : Type 0} → SourceTells S → SinkTells K → ShelfTells H → (D → Option Connections) → (D → ℕ) → Telling S K H D
-telling source sink shelf connections faults =
-    record { source = source; sink = sink; shelf = shelf; connections = connections; faults = faults }
+abbrev pub telling : {S K H D : Type 0} → SourceTells S → SinkTells K → ShelfTells H → (D → DoorContent) → (D → ℕ) → Telling S K H D
+telling source sink shelf door faults =
+    record { source = source; sink = sink; shelf = shelf; door = door; faults = faults }
 
 -- the ends at one moment, and how many steps were taken by then
 pub record Ends (S K H D : Type 0) : Type 0 where
@@ -90,7 +90,7 @@ pub record DoesSession {S K H D : Type 0} (tells : Telling S K H D) (old new : E
   pub unread : (status ≡ 2) ⊎ (status ≡ 3) → new.source ≡ old.source
 
 pub record DoesServe {S K H D : Type 0} (connections places : ℕ) (tells : Telling S K H D) (old new : Ends S K H D) (status : ℕ) : Type 0 where
-  pub run : RunsServe (files_in tells old) connections (map tells.connections (take places old.doors.items)) (map tells.connections (take places new.doors.items))
+  pub run : RunsServe (files_in tells old) connections (map tells.door (take places old.doors.items)) (map tells.door (take places new.doors.items))
       status (held_in tells old) (held_in tells new) (handed_in tells old) (handed_in tells new)
   pub beyond : drop places new.doors.items ≡ drop places old.doors.items
 

@@ -9,7 +9,7 @@ static COMMANDS: [(&str, &str, &str); 9] = [
     (
         "serve",
         " ADDRESS CONNECTIONS PLACES",
-        "an IP address or a host's name with a port, 1 to 65536 connections at each place, 1 to 64 places",
+        "an IP address or a host's name with a port, or the path of a Unix socket, with a /; 1 to 65536 connections at each place, 1 to 64 places",
     ),
     ("session", "", "no other word"),
     ("export", "", "no other word"),
@@ -28,7 +28,7 @@ static COMMANDS: [(&str, &str, &str); 9] = [
     (
         "mirror",
         " ADDRESS",
-        "an IP address or a host's name with a port",
+        "an IP address or a host's name with a port, or the path of a Unix socket, with a /",
     ),
     (
         "probe",

@@ -16,7 +16,7 @@ ghost use Rattle.survey_commands.specs.Survey.{RunsExport, RunsVerify};
 ghost use Rattle.hips_http.specs.Moment.{connection_of};
 ghost use Rattle.survey_commands.specs.Session.{RunsSession};
 ghost use Rattle.survey_commands.specs.Make.{RunsMake};
-ghost use Rattle.hips_place.specs.Place.{SomeRises};
+ghost use Rattle.hips_place.specs.Place.{SomeRises, door_of};
 ghost use Rattle.survey_commands.specs.Serve.{RunsServe};
 ghost use Rattle.survey_commands.specs.Past.{RunsPast, RunsPastOver, FlushesPast};
 ghost use Rattle.survey_commands.specs.Mirror.{RunsMirror, copying_of};
@@ -161,7 +161,7 @@ where
 
     // The connections of doors, at once.
     ensures serve { (connections : ℕ) (places : ℕ) → Asks (texts words.now) (Serve connections places) → places ≤ length doors.old.items
-        → RunsServe (H.files shelf.old) connections (map D.connections (take places doors.old.items)) (map D.connections (take places doors.new.items))
+        → RunsServe (H.files shelf.old) connections (map (door_of D.Door) (take places doors.old.items)) (map (door_of D.Door) (take places doors.new.items))
         result (K.held sink.old) (K.held sink.new) (K.flushed sink.old) (K.flushed sink.new) }
     ensures serve_beyond { (connections : ℕ) (places : ℕ) → Asks (texts words.now) (Serve connections places)
         → drop places doors.new.items ≡ drop places doors.old.items }
@@ -213,7 +213,7 @@ where
     G: Gate + Sync,
     requires in_range { IsInRange command }
     requires fits { doors_of command ≤ length doors.old.items }
-    ensures { Runs command (telling S.Source K.Sink H.Shelf D.connections D.faults)
+    ensures { Runs command (telling S.Source K.Sink H.Shelf (door_of D.Door) D.faults)
         (ends_of source.old sink.old shelf.old doors.old steps.old) (ends_of source.new sink.new shelf.new doors.new steps.new) result }
 {
     match command {

@@ -1,7 +1,10 @@
 //! A shelf over the folder that the test runs in; all that it writes lies below the folder `shelf`, or in the file `twice`.
 use crate::forms::{holds, lacks};
+use log::span::Spans;
+use log::{Log, Record, kv};
 use std::alloc::{Allocator, Global};
 use std::cell::Cell;
+use std::fmt::Display;
 use std::fs::{Metadata, OpenOptions};
 use std::io::ErrorKind;
 use std::rt::Files;
@@ -41,7 +44,7 @@ faults - 0
 says - nothing
 unreadable shelf/a -
 faults - 1
-says - can't read shelf/a: Is a directory (os error 21)
+says - can't read shelf/a: it is no regular file
 unwritable shelf/a x
 faults - 2
 says - can't move the whole file to shelf/a: Is a directory (os error 21)
@@ -49,11 +52,19 @@ gone shelf/a.unfinished -
 unwritable shelf/a/b/c x
 faults - 3
 says - can't make the folder shelf/a/b: File exists (os error 17)
+linked shelf/l a
+unreadable shelf/l/b -
+says - can't enter shelf/l: it is a link, and no folder of a survey lies behind one
+unwritable shelf/l/c x
+unremoved shelf/l/b -
+unlisted - -
+faults - 7
+removed shelf/l -
 unreadable shelf/e.unfinished -
 unwritable shelf/e.unfinished x
 unwritable ../shelf-x x
 unreadable shelf/../shelf/a/b -
-faults - 7
+faults - 11
 says - can't read shelf/../shelf/a/b: no file of a survey may lie there
 holds shelf/a/b one
 listed - 1
@@ -80,7 +91,7 @@ fn says<R>(alloc: Global, shelf: &FolderShelf<R>, text: &str) -> bool {
 }
 
 // Whether the step goes as its word says.
-fn goes<R: Files + AllocGlobal + Clone + Drop>(
+fn goes<R: Files + AllocGlobal + Clone + Drop + Log>(
     rt: &R,
     shelf: &mut FolderShelf<R>,
     word: &str,
@@ -98,6 +109,9 @@ fn goes<R: Files + AllocGlobal + Clone + Drop>(
         "says" => says(alloc, shelf, text),
         "unreadable" => shelf.get(alloc, path).is_err(),
         "unwritable" => shelf.put(path, text.as_bytes()).is_err(),
+        "unremoved" => shelf.remove(path).is_err(),
+        "unlisted" => shelf.list(alloc).is_err(),
+        "linked" => rt.symlink(text, path).is_ok(),
         "left" => fs::write(rt, path, text).is_ok(),
         "gone" => matches!(fs::exists(rt, path), Ok(false)),
         _ => false,
@@ -143,17 +157,17 @@ no [a/b.unfinished]
 no [.unfinished]
 ";
 
-// A runtime that refuses the first opening of a file by an error of this kind, and counts them.
+// A runtime that refuses the first look behind a link by an error of this kind, and counts them.
 #[derive(Drop)]
-struct Opens<'a, R> {
+struct Looks<'a, R> {
     rt: &'a R,
     refusal: ErrorKind,
     count: Cell<u32>,
 }
 
-impl<'a, R> Opens<'a, R> {
-    fn new(rt: &'a R, refusal: ErrorKind) -> Opens<'a, R> {
-        Opens {
+impl<'a, R> Looks<'a, R> {
+    fn new(rt: &'a R, refusal: ErrorKind) -> Looks<'a, R> {
+        Looks {
             rt,
             refusal,
             count: Cell::new(0),
@@ -161,7 +175,7 @@ impl<'a, R> Opens<'a, R> {
     }
 }
 
-impl<'a, R: Alloc> Alloc for Opens<'a, R> {
+impl<'a, R: Alloc> Alloc for Looks<'a, R> {
     type A = R::A;
 
     fn alloc(&self) -> R::A {
@@ -169,16 +183,12 @@ impl<'a, R: Alloc> Alloc for Opens<'a, R> {
     }
 }
 
-impl<'a, R: Files> Files for Opens<'a, R> {
+impl<'a, R: Files> Files for Looks<'a, R> {
     type File = R::File;
 
     type Dir = R::Dir;
 
     fn open_file(&self, how: &OpenOptions, path: &str) -> io::Result<R::File> {
-        self.count.set(self.count.get().saturating_add(1));
-        if self.count.get() == 1 {
-            return Err(self.refusal.into());
-        }
         self.rt.open_file(how, path)
     }
 
@@ -187,6 +197,10 @@ impl<'a, R: Files> Files for Opens<'a, R> {
     }
 
     fn metadata(&self, path: &str) -> io::Result<Metadata> {
+        self.count.set(self.count.get().saturating_add(1));
+        if self.count.get() == 1 {
+            return Err(self.refusal.into());
+        }
         self.rt.metadata(path)
     }
 
@@ -219,24 +233,42 @@ impl<'a, R: Files> Files for Opens<'a, R> {
     }
 }
 
-// What a shelf answers to `get` where the first opening is refused by an error of this kind, and how many there were.
-fn answer_of<R: Files + AllocGlobal>(
+impl<'a, R: Log> Log for Looks<'a, R> {
+    fn enabled(&self, metadata: &log::Metadata<'_>) -> bool {
+        self.rt.enabled(metadata)
+    }
+
+    fn log<D: Display, K: kv::Source, S: Spans>(&self, message: &Record<'_, D, K, S>) {
+        self.rt.log(message);
+    }
+
+    fn flush(&self) {
+        self.rt.flush();
+    }
+
+    fn target(&self) -> &str {
+        self.rt.target()
+    }
+}
+
+// What a shelf answers to `get` where the first look is refused by an error of this kind, and how many there were.
+fn answer_of<R: Files + AllocGlobal + Log>(
     rt: &R,
     refusal: ErrorKind,
     path: &str,
 ) -> (&'static str, u32) {
-    let opens = Opens::new(rt, refusal);
-    let answer = match FolderShelf::here(&opens).get(rt.alloc(), path) {
+    let looks = Looks::new(rt, refusal);
+    let answer = match FolderShelf::here(&looks).get(rt.alloc(), path) {
         Ok(Some(_)) => "there",
         Ok(None) => "absent",
         Err(LinkFault::OutOfMemory) => "out of memory",
         Err(LinkFault::Failed) => "failed",
     };
-    (answer, opens.count.get())
+    (answer, looks.count.get())
 }
 
 // Whether the shelf looks for a file with that path, which it doesn't find. Where it doesn't look it fails.
-fn is_looked_for<R: Files + AllocGlobal>(rt: &R, path: &str) -> Option<bool> {
+fn is_looked_for<R: Files + AllocGlobal + Log>(rt: &R, path: &str) -> Option<bool> {
     match answer_of(rt, ErrorKind::NotFound, path) {
         ("absent", 1) => Some(true),
         ("failed", 0) => Some(false),
@@ -256,7 +288,7 @@ fn paths_that_stay_in_the_folder(rt: HostRuntime) {
     assert!(rt; is_looked_for(&rt, "a\0b") == Some(false));
 }
 
-// Each kind of error by which the first opening is refused, what the shelf answers, and how often it opens the file.
+// Each kind of error by which the first look is refused, what the shelf answers, and how often it looks.
 static REFUSALS: [(ErrorKind, &str, u32); 4] = [
     (ErrorKind::Interrupted, "there", 2),
     (ErrorKind::NotFound, "absent", 1),
@@ -268,8 +300,8 @@ static REFUSALS: [(ErrorKind, &str, u32); 4] = [
 fn an_interrupted_call_is_made_again(rt: HostRuntime) -> Result<(), Fail> {
     fs::write(&rt, "twice", "two")?;
     for (refusal, answer, count) in &REFUSALS {
-        let (given, opened) = answer_of(&rt, *refusal, "twice");
-        assert!(rt; given == *answer && opened == *count, "{answer}");
+        let (given, looked) = answer_of(&rt, *refusal, "twice");
+        assert!(rt; given == *answer && looked == *count, "{answer}");
     }
     fs::remove_file(&rt, "twice")?;
     Ok(())

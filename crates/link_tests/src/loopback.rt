@@ -1,16 +1,17 @@
-//! Connections of `tcp_link` over the loopback device.
+//! Connections of `tcp_link` over the loopback device, and over Unix sockets in the folder that the test runs in.
 use log::span::Spans;
 use log::{LevelFilter, Log, Logged, Metadata, Record, kv};
 use std::alloc::{AllocError, Global};
 use std::cell::Cell;
 use std::fmt::Display;
 use std::io::{ErrorKind, Read, Write};
-use std::net::{Net, TcpListener, TcpStream};
+use std::net::{Net, SocketAddr, TcpListener, TcpStream};
 use std::process::Abort;
+use std::rt::Files;
 use std::sync::Wait;
 use std::test::Fail;
 use std::time::{Clock, Duration, Instant};
-use std::{io, thread};
+use std::{fs, io, thread};
 use survey_link::{Door, DoorFault, Failed, Sink, Source, write_all_parts, write_whole};
 use tcp_link::again::again;
 use tcp_link::{
@@ -22,6 +23,7 @@ static FREE: &str = "127.0.0.1:0";
 
 // What a door and its checks need of the runtime.
 trait Outside: Net<Listener = TcpListener, Stream = TcpStream>
+    + Files
     + Wait
     + Clock
     + Log
@@ -33,6 +35,7 @@ trait Outside: Net<Listener = TcpListener, Stream = TcpStream>
 impl<R> Outside for R
 where
     R: Net<Listener = TcpListener, Stream = TcpStream>
+        + Files
         + Wait
         + Clock
         + Log
@@ -50,9 +53,17 @@ struct Met<R> {
     output: TcpOut<R>,
 }
 
+// Where the door listens.
+fn place_of<R: Outside>(door: &mut TcpDoor<R, R>) -> Result<SocketAddr, Fail> {
+    match door.listen()? {
+        Some(place) => Ok(place),
+        None => Err(Fail::new("no place")),
+    }
+}
+
 // The connection of a client that has just come to the door.
-fn meet<R: Outside>(rt: &R, door: &mut TcpDoor<R>) -> Result<Met<R>, Fail> {
-    let client = TcpStream::connect(rt, door.listen()?)?;
+fn meet<R: Outside>(rt: &R, door: &mut TcpDoor<R, R>) -> Result<Met<R>, Fail> {
+    let client = TcpStream::connect(rt, place_of(door)?)?;
     match door.accept()? {
         Some((input, output)) => Ok(Met {
             client,
@@ -98,7 +109,7 @@ fn check_reply<R: AllocGlobal + Abort>(
 }
 
 // Gives the connection back, and answers the client.
-fn end<R: Outside>(door: &mut TcpDoor<R>, met: Met<R>) -> TcpStream {
+fn end<R: Outside>(door: &mut TcpDoor<R, R>, met: Met<R>) -> TcpStream {
     let Met {
         client,
         input,
@@ -110,11 +121,11 @@ fn end<R: Outside>(door: &mut TcpDoor<R>, met: Met<R>) -> TcpStream {
 
 #[test]
 fn a_reply_goes_back(rt: HostRuntime) -> Result<(), Fail> {
-    let mut doors = tcp_doors(&rt, FREE, 2)?;
+    let mut doors = tcp_doors(&rt, &rt, FREE, 2)?;
     assert_eq!(rt; doors.len(), 2);
     // the second door takes what comes to the first one's listener
-    let place = doors[0].listen()?;
-    assert!(rt; doors[1].listen()? == place);
+    let place = place_of(&mut doors[0])?;
+    assert!(rt; place_of(&mut doors[1])? == place);
     let mut met = meet(&rt, &mut doors[1])?;
     check_heard(&rt, &mut met)?;
     check_reply(&rt, &mut end(&mut doors[1], met), "one two three")?;
@@ -132,7 +143,7 @@ fn say_too_much<R: Outside>(met: &mut Met<R>) -> Result<(), Fail> {
 
 #[test]
 fn a_reply_is_read_to_its_end(rt: HostRuntime) -> Result<(), Fail> {
-    let mut doors = tcp_doors(&rt, FREE, 1)?;
+    let mut doors = tcp_doors(&rt, &rt, FREE, 1)?;
     let mut met = meet(&rt, &mut doors[0])?;
     say_too_much(&mut met)?;
     check_reply(&rt, &mut end(&mut doors[0], met), "too long")
@@ -152,6 +163,7 @@ fn patience(pace: u64) -> Patience {
         rest: Duration::from_millis(100),
         turn: Duration::from_millis(300),
         pace,
+        end: Duration::from_millis(100),
     }
 }
 
@@ -184,7 +196,7 @@ fn send_pieces<R: Outside>(rt: &R, met: &mut Met<R>) -> Result<u32, Fail> {
 
 #[test]
 fn a_client_that_drips_gives_its_place_back(rt: HostRuntime) -> Result<(), Fail> {
-    let mut doors = patient_doors(&rt, FREE, 1, patience(0))?;
+    let mut doors = patient_doors(&rt, &rt, FREE, 1, patience(0))?;
     let mut met = meet(&rt, &mut doors[0])?;
     assert!(rt; hear_pieces(&rt, &mut met, b"a")? < TIMES);
     assert!(rt; send_pieces(&rt, &mut met)? < TIMES);
@@ -193,7 +205,7 @@ fn a_client_that_drips_gives_its_place_back(rt: HostRuntime) -> Result<(), Fail>
 
 #[test]
 fn a_slow_client_is_served(rt: HostRuntime) -> Result<(), Fail> {
-    let mut doors = patient_doors(&rt, FREE, 1, patience(4096))?;
+    let mut doors = patient_doors(&rt, &rt, FREE, 1, patience(4096))?;
     let mut met = meet(&rt, &mut doors[0])?;
     assert!(rt; hear_pieces(&rt, &mut met, &[b'a'; 4096])? == TIMES);
     assert!(rt; send_pieces(&rt, &mut met)? == TIMES);
@@ -215,7 +227,7 @@ fn check_silence<R: Outside>(rt: &R, met: &mut Met<R>) -> Result<(), Fail> {
 
 #[test]
 fn a_silent_client_gives_its_place_back(rt: HostRuntime) -> Result<(), Fail> {
-    let mut doors = patient_doors(&rt, FREE, 1, patience(0))?;
+    let mut doors = patient_doors(&rt, &rt, FREE, 1, patience(0))?;
     // in the middle of a body, and between two requests
     check_silence(&rt, &mut meet(&rt, &mut doors[0])?)?;
     // in the middle of a reply
@@ -228,7 +240,7 @@ fn a_silent_client_gives_its_place_back(rt: HostRuntime) -> Result<(), Fail> {
 // A connection whose client said something, was replied to, and has gone without reading that.
 fn left_behind<R: Outside>(
     rt: &R,
-    door: &mut TcpDoor<R>,
+    door: &mut TcpDoor<R, R>,
     said: &[u8],
     replied: &[u8],
 ) -> Result<(TcpIn<R>, TcpOut<R>), Fail> {
@@ -245,7 +257,7 @@ fn left_behind<R: Outside>(
 
 #[test]
 fn a_client_goes_away(rt: HostRuntime) -> Result<(), Fail> {
-    let mut doors = tcp_doors(&rt, FREE, 1)?;
+    let mut doors = tcp_doors(&rt, &rt, FREE, 1)?;
     // in the middle of a body
     let (mut input, mut output) = left_behind(&rt, &mut doors[0], b"abc", b"")?;
     assert_eq!(rt; read_some(&mut input), Some(3));
@@ -276,7 +288,7 @@ fn check_said<R: Outside, S: Source>(
 // What the caller has said comes to the door, and then both ends are heard.
 fn check_called<R: Outside>(
     rt: &R,
-    door: &mut TcpDoor<R>,
+    door: &mut TcpDoor<R, R>,
     input: &mut TcpIn<R>,
     output: &mut TcpOut<R>,
 ) -> Result<(), Fail> {
@@ -292,11 +304,59 @@ fn check_called<R: Outside>(
 
 #[test]
 fn a_call_goes_through(rt: HostRuntime) -> Result<(), Fail> {
-    let mut doors = tcp_doors(&rt, FREE, 1)?;
-    let address = format!(in rt.alloc(); "{}", doors[0].listen()?)?;
-    let (mut input, mut output) = dial(&rt, address.as_str())?;
+    let mut doors = tcp_doors(&rt, &rt, FREE, 1)?;
+    let address = format!(in rt.alloc(); "{}", place_of(&mut doors[0])?)?;
+    let (mut input, mut output) = dial(&rt, &rt, address.as_str())?;
     write_whole(&mut output, b"first")?;
     check_called(&rt, &mut doors[0], &mut input, &mut output)
+}
+
+#[test]
+fn a_call_goes_through_a_unix_socket(rt: HostRuntime) -> Result<(), Fail> {
+    let path = "./call";
+    let _ = fs::remove_file(&rt, path);
+    // the second time in place of the socket that the first server left
+    for _ in 0..2 {
+        let mut doors = tcp_doors(&rt, &rt, path, 1)?;
+        assert!(rt; doors[0].listen()?.is_none());
+        let (mut input, mut output) = dial(&rt, &rt, path)?;
+        write_whole(&mut output, b"first")?;
+        check_called(&rt, &mut doors[0], &mut input, &mut output)?;
+    }
+    fs::remove_file(&rt, path)?;
+    Ok(())
+}
+
+// A client that says nothing, then some bytes of a body, and takes nothing of its reply.
+fn check_deadlines<R: Outside>(
+    rt: &R,
+    door: &mut TcpDoor<R, R>,
+    client: &mut TcpOut<R>,
+) -> Result<(), Fail> {
+    match door.accept()? {
+        Some((mut input, mut output)) => {
+            assert_eq!(rt; read_some(&mut input), None);
+            write_whole(client, b"abc")?;
+            assert_eq!(rt; read_some(&mut input), Some(3));
+            assert_eq!(rt; read_some(&mut input), None);
+            assert!(rt; send_much(&mut output).is_err());
+            Ok(())
+        }
+        None => Err(Fail::new("no connection")),
+    }
+}
+
+#[test]
+fn a_unix_socket_has_the_same_deadlines(rt: HostRuntime) -> Result<(), Fail> {
+    let path = "./silent";
+    let _ = fs::remove_file(&rt, path);
+    let mut doors = patient_doors(&rt, &rt, path, 1, patience(0))?;
+    doors[0].listen()?;
+    let (_input, mut output) = dial(&rt, &rt, path)?;
+    check_deadlines(&rt, &mut doors[0], &mut output)?;
+    assert_eq!(rt; doors[0].faults(), 0);
+    fs::remove_file(&rt, path)?;
+    Ok(())
 }
 
 #[test]
@@ -304,7 +364,7 @@ fn nobody_listens(rt: HostRuntime) -> Result<(), Fail> {
     let other = TcpListener::bind(&rt, FREE)?;
     let address = format!(in rt.alloc(); "{}", other.local_addr()?)?;
     drop(other);
-    let (mut input, mut output) = dial(&rt, address.as_str())?;
+    let (mut input, mut output) = dial(&rt, &rt, address.as_str())?;
     for _ in 0..2 {
         assert_eq!(rt; read_some(&mut input), None);
         assert!(rt; write_whole(&mut output, b"hello").is_err());
@@ -313,7 +373,7 @@ fn nobody_listens(rt: HostRuntime) -> Result<(), Fail> {
 }
 
 // The text of what the door was refused.
-fn refusal_of<R>(alloc: Global, door: &TcpDoor<R>) -> Result<String, AllocError> {
+fn refusal_of<R>(alloc: Global, door: &TcpDoor<R, R>) -> Result<String, AllocError> {
     match door.refusal() {
         Some(refusal) => format!(in alloc; "{refusal}"),
         None => Ok(String::new(alloc)),
@@ -321,7 +381,7 @@ fn refusal_of<R>(alloc: Global, door: &TcpDoor<R>) -> Result<String, AllocError>
 }
 
 fn check_refused<R: Outside>(rt: &R, address: &str) -> Result<(), Fail> {
-    let mut doors = tcp_doors(rt, address, 2)?;
+    let mut doors = tcp_doors(rt, rt, address, 2)?;
     assert!(rt; matches!(doors[0].accept(), Err(DoorFault::Failed)));
     assert!(rt; matches!(doors[0].listen(), Err(DoorFault::Failed)));
     assert_eq!(rt; doors[0].faults(), 2);
@@ -335,7 +395,7 @@ fn check_refused<R: Outside>(rt: &R, address: &str) -> Result<(), Fail> {
 
 // A client comes to the address, and the server closes the connection.
 fn check_closed<R: Outside>(rt: &R, address: &str) -> Result<(), Fail> {
-    let mut doors = tcp_doors(rt, address, 1)?;
+    let mut doors = tcp_doors(rt, rt, address, 1)?;
     let met = meet(rt, &mut doors[0])?;
     let mut client = end(&mut doors[0], met);
     assert_eq!(rt; client.read(&mut [0; 8])?, 0);
@@ -386,8 +446,8 @@ impl Log for Scarce<'_> {
 }
 
 // The accept of a door that has no memory for the connection lets the client go, and is no fault.
-fn check_wanted<R: Outside>(rt: &R, door: &mut TcpDoor<R>) -> Result<(), Fail> {
-    let mut client = TcpStream::connect(rt, door.listen()?)?;
+fn check_wanted<R: Outside>(rt: &R, door: &mut TcpDoor<R, R>) -> Result<(), Fail> {
+    let mut client = TcpStream::connect(rt, place_of(door)?)?;
     assert!(rt; matches!(door.accept(), Err(DoorFault::OutOfMemory)));
     assert_eq!(rt; door.faults(), 0);
     assert_eq!(rt;
@@ -400,9 +460,9 @@ fn check_wanted<R: Outside>(rt: &R, door: &mut TcpDoor<R>) -> Result<(), Fail> {
 
 #[test]
 fn an_accept_finds_no_memory(rt: HostRuntime) -> Result<(), Fail> {
-    let copies = Cell::new(1);
+    let copies = Cell::new(2);
     let scarce = Logged::new(rt, LevelFilter::Off, Scarce { copies: &copies });
-    let mut doors = tcp_doors(&scarce, FREE, 1)?;
+    let mut doors = tcp_doors(&scarce, &scarce, FREE, 1)?;
     check_wanted(&scarce, &mut doors[0])?;
     copies.set(1);
     let mut met = meet(&scarce, &mut doors[0])?;
@@ -412,7 +472,7 @@ fn an_accept_finds_no_memory(rt: HostRuntime) -> Result<(), Fail> {
 #[test]
 fn what_is_no_address(rt: HostRuntime) -> Result<(), Fail> {
     for address in ["", "127.0.0.1", "127.0.0.1:65536"] {
-        let mut doors = tcp_doors(&rt, address, 1)?;
+        let mut doors = tcp_doors(&rt, &rt, address, 1)?;
         assert!(rt;
             matches!(doors[0].accept(), Err(DoorFault::Failed)),
             "{address}"
@@ -430,8 +490,8 @@ fn what_is_no_address(rt: HostRuntime) -> Result<(), Fail> {
 fn doors_in_threads_share_a_listener(rt: HostRuntime) -> Result<(), Fail> {
     let places = thread::map_vec(
         &rt,
-        tcp_doors(&rt, FREE, 4)?,
-        &|mut door| door.listen().ok(),
+        tcp_doors(&rt, &rt, FREE, 4)?,
+        &|mut door| door.listen().ok().flatten(),
     )?;
     assert_eq!(rt; places.len(), 4);
     assert!(rt; places[0].is_some());
@@ -463,11 +523,34 @@ fn an_accept_is_made_again(rt: HostRuntime) {
 
 #[test]
 fn an_address_is_tried(rt: HostRuntime) -> Result<(), Fail> {
-    assert!(rt; matches!(try_address(&rt, FREE), Trial::Free(_)));
-    let mut doors = tcp_doors(&rt, FREE, 1)?;
-    let place = doors[0].listen()?;
-    let address = format!(in rt.alloc(); "{place}")?;
-    assert!(rt; matches!(try_address(&rt, address.as_str()), Trial::Taken(..)));
-    assert!(rt; matches!(try_address(&rt, "127.0.0.1"), Trial::Nowhere(_)));
+    assert!(rt; matches!(try_address(&rt, FREE), Trial::Free));
+    let mut doors = tcp_doors(&rt, &rt, FREE, 1)?;
+    let address = format!(in rt.alloc(); "{}", place_of(&mut doors[0])?)?;
+    assert!(rt; matches!(try_address(&rt, address.as_str()), Trial::Taken(_)));
+    for address in ["127.0.0.1", "127.0.0.1:65536"] {
+        assert!(rt;
+            matches!(try_address(&rt, address), Trial::Nowhere(_)),
+            "{address}"
+        );
+    }
+    Ok(())
+}
+
+#[test]
+fn a_path_is_tried(rt: HostRuntime) -> Result<(), Fail> {
+    let path = "./tried";
+    let _ = fs::remove_file(&rt, path);
+    assert!(rt; matches!(try_address(&rt, path), Trial::Free));
+    let mut doors = tcp_doors(&rt, &rt, path, 1)?;
+    doors[0].listen()?;
+    assert!(rt; matches!(try_address(&rt, path), Trial::Taken(_)));
+    drop(doors);
+    // what a dead server left is removed, and a file stays
+    assert!(rt; fs::exists(&rt, path)?);
+    assert!(rt; matches!(try_address(&rt, path), Trial::Free));
+    assert!(rt; !fs::exists(&rt, path)?);
+    fs::write(&rt, path, "text")?;
+    assert!(rt; matches!(try_address(&rt, path), Trial::Taken(_)));
+    fs::remove_file(&rt, path)?;
     Ok(())
 }

@@ -45,8 +45,8 @@ pub(crate) fn read_head(text: &[u8]) -> Option<ReplyHead>
     })
 }
 
-// Where the parts of the head stand, where the text is exactly one head.
-fn parse_head(text: &[u8], spans: &mut [HeaderSpan]) -> Option<ResponseSpans>
+/// Where the parts of the head stand, where the text is exactly one head.
+pub(crate) fn parse_head(text: &[u8], spans: &mut [HeaderSpan]) -> Option<ResponseSpans>
     requires { length spans.old ≡ 64 }
     ensures parsed { IfSome result (λ parsed. IsParsed text.now spans.new parsed) }
     ensures every { (head : ResponseHead) → IsHeadOf text.now head → IfSome result (λ parsed. IsResponseAt text.now spans.new parsed head) × IsSome result }
@@ -65,8 +65,8 @@ fn parse_head(text: &[u8], spans: &mut [HeaderSpan]) -> Option<ResponseSpans>
     }
 }
 
-// The length that the one Content-Length field states.
-fn stated_length(fields: &Fields<'_>) -> Option<usize>
+/// The length that the one Content-Length field states.
+pub(crate) fn stated_length(fields: &Fields<'_>) -> Option<usize>
     ensures stated { result ≡ stated_length fields.now }
     ensures most { IfSome result (λ length. length ≤ most_body) }
 {
@@ -76,8 +76,8 @@ fn stated_length(fields: &Fields<'_>) -> Option<usize>
     }
 }
 
-// The number that the one Survey-Prefix field states.
-fn stated_prefix(fields: &Fields<'_>) -> Option<u32>
+/// The number that the one Survey-Prefix field states.
+pub(crate) fn stated_prefix(fields: &Fields<'_>) -> Option<u32>
     ensures { result ≡ stated_prefix fields.now }
 {
     match fields.values(b"survey-prefix").as_slice() {

@@ -6,6 +6,7 @@
 
 mod ask;
 mod due;
+mod fault;
 mod head;
 pub mod laws;
 mod peer;
@@ -13,5 +14,6 @@ mod reading;
 
 pub use ask::Ask;
 pub use due::Due;
+pub use fault::ReplyFault;
 pub use peer::{Peer, Received};
 pub use reading::Stop;

@@ -5,6 +5,7 @@ ghost use Rattle.http_frame.specs.Next.{most_head};
 
 use crate::ask::{Ask, send};
 use crate::due::Due;
+use crate::fault::{ReplyFault, fault_of};
 use crate::reading::{Stop, read_reply};
 use http_frame::MAX_HEAD;
 use std::alloc::{AllocError, Global};
@@ -87,12 +88,18 @@ impl<S: Source, K: Sink> Peer<'_, '_, '_, S, K> {
         &self.received.body
     }
 
+    /// The first condition that the reply fails that `ask` has just answered by `Wrong`, where this was due. It is for the log
+    /// alone.
+    pub fn fault(&self, due: Due) -> ReplyFault<'_> {
+        fault_of(self.received.inbox.held(), due)
+    }
+
     /// Sends a request, flushes it, and reads its reply, in whatever pieces its bytes come: what came behind it stays held. It
     /// answers the reply's Survey-Prefix.
     ///
     /// # Errors
     ///
-    /// `Wrong` exactly where the reply isn't in form; `Cut` exactly where the input ends within it, before that is known;
+    /// `Wrong` if and only if the reply is malformed; `Cut` if and only if the input ends within it, before that is known;
     /// `ReadFault` and `WriteFault` only where that end's count of faults rose; `OutOfMemory`.
     pub fn ask(&mut self, ask: &Ask, due: Due) -> Result<Option<u32>, Stop>
         requires { HasOrder ask.now }

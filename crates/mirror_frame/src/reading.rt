@@ -17,7 +17,7 @@ use survey_link::{Failed, Inbox, Source};
 /// Why a request has no reply.
 #[derive(Clone, Copy, Debug, PartialEq, Eq)]
 pub enum Stop {
-    /// The reply isn't in form.
+    /// The reply is malformed.
     Wrong,
     /// The input ended within the reply.
     Cut,

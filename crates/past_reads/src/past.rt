@@ -137,7 +137,7 @@ impl Past {
     ///
     /// # Errors
     ///
-    /// `TooNew` with the number of edits exactly where there are fewer than `k`; `Split` exactly where the first `k` edits split
+    /// `TooNew` with the number of edits if and only if there are fewer than `k`; `Split` if and only if the first `k` edits split
     /// a batch; `OutOfMemory` where there is no memory for the generation. Then everything is as it was.
     #[tactic(auto, using(crate::proofs::PastLemmas::goes_on))]
     pub fn at<R: Threads + Sync + Clock + Log, G: Gate + Sync>(

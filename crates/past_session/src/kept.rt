@@ -91,7 +91,7 @@ impl Session {
         })
     }
 
-    /// Accepts a batch by its body, and answers what is to be told of it: how many edits there are then, or why it is refused,
+    /// Accepts a batch by its body, and answers what is written of it: how many edits there are then, or why it is refused,
     /// and nothing is accepted. The steps rise by at most one for each tile in it.
     ///
     /// # Errors
@@ -135,7 +135,7 @@ impl Session {
     }
 }
 
-// What is told of a body whose entry `at` has this fault.
+// What is written of a body whose entry `at` has this fault.
 fn refused_entry(alloc: Global, at: u32, fault: EntryFault) -> Result<String, Halt>
     ensures told { IfOk result (λ text. text.bytes.items ≡ codes "refused " ++ decimal at ++ codes " " ++ entry_fault_text fault ++ line_feed ∷ []) }
     ensures stop { OnErr result (result ≡ Err Halt.OutOfMemory) }

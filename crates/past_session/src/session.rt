@@ -36,7 +36,7 @@ const MOST_RECORDS: u64 = 65_536;
 /// `batch LENGTH` with that many bytes of the body of a batch behind it, at most `batch_room`, or a line `read K PATH`, K below
 /// 2^32; a line has at most 128 bytes with its line feed, numbers are in plain decimals.
 ///
-/// A batch is accepted, and told by the number of edits then, or refused as a whole. A read is answered with the file at the
+/// A batch is accepted, and answered by the number of edits then, or refused as a whole. A read is answered with the file at the
 /// path of the survey after its first K edits. At most `cache` generations are held, from 1 to 8; besides them and the opening
 /// one nothing but the edits and one record. A read of as many edits as the last one takes no step, and none makes the opening
 /// generation again.

@@ -1,5 +1,6 @@
-//! Tests of what makes pixels: `healpix_nested` (`cells`), `parent_rule` (`rule`), `pyramid_model` (`pyramids`), `tile_pixels` (`tiles`, `merges`, `kernels`), `rebuild_worker`
-//! (`levels`) and `allsky_mosaic` (`mosaics`).
+//! Tests of what makes pixels: `healpix_nested` (`cells`), `parent_rule` (`rule`), `pyramid_model` (`pyramids`), `tile_pixels`
+//! (`tiles`, `merges`, `kernels`), `rebuild_worker` (`levels`), `allsky_mosaic` (`mosaics`) and `leaf_probe` (`probes`,
+//! `merged_leaves`).
 //!
 //! They stand over the finished crates, in a crate of their own: in each it would be proved a second time.
 #![tactic(auto)]
@@ -11,9 +12,13 @@ mod kernels;
 #[cfg(test)]
 mod levels;
 #[cfg(test)]
+mod merged_leaves;
+#[cfg(test)]
 mod merges;
 #[cfg(test)]
 mod mosaics;
+#[cfg(test)]
+mod probes;
 #[cfg(test)]
 mod pyramids;
 #[cfg(test)]

@@ -1,10 +1,9 @@
 //! The words of a command line, as tables. A row has a blank between two words.
 use crate::texts::field;
-use hipsd_run::{address_of, read_command, words};
+use hipsd_run::{read_command, second_word, words};
 use std::alloc::Global;
 use std::env;
 use std::io::{self, ErrorKind};
-use std::net::SocketAddr;
 use std::test::Fail;
 
 // The words of a row.
@@ -103,25 +102,12 @@ fn refuses_what_is_no_row_of_the_table(rt: HostRuntime) -> Result<(), Fail> {
     Ok(())
 }
 
-// Whether that is the address.
-fn is_address(
-    alloc: Global,
-    words: &[String],
-    place: Option<SocketAddr>,
-    wanted: &str,
-) -> Result<bool, Fail> {
-    Ok(address_of(alloc, words, place)?.as_str() == wanted)
-}
-
-// Whether the words are those behind the program's name, and the address is the second of them, or the place that was found
-// for it.
-fn flushes(alloc: Global, words: &[String]) -> Result<bool, Fail> {
-    let place = "127.0.0.1:81".parse::<SocketAddr>()?;
+// Whether the words are those behind the program's name, and the address is the second of them.
+fn are_its_words(alloc: Global, words: &[String]) -> Result<bool, Fail> {
     Ok(
         words.join(alloc, "|")?.as_str() == "mirror|peer:80"
-            && is_address(alloc, words, None, "peer:80")?
-            && is_address(alloc, words, Some(place), "127.0.0.1:81")?
-            && is_address(alloc, words.get(..1).unwrap_or(words), None, "")?,
+            && second_word(words) == "peer:80"
+            && second_word(words.get(..1).unwrap_or(words)) == "",
     )
 }
 
@@ -129,7 +115,7 @@ fn flushes(alloc: Global, words: &[String]) -> Result<bool, Fail> {
 fn words_are_handed_on(rt: HostRuntime) -> Result<(), Fail> {
     let given = list(rt.alloc(), "hipsd mirror peer:80")?;
     let words = words(rt.alloc(), Ok(given.into_iter()))?;
-    assert!(rt; flushes(rt.alloc(), &words)?);
+    assert!(rt; are_its_words(rt.alloc(), &words)?);
     Ok(())
 }
 

@@ -4,20 +4,23 @@ ghost use Rattle.std.specs.Result.{result_err};
 ghost use Rattle.shelf_io.specs.Opening.{count_refusal};
 
 use crate::refusal::LoadRefusal;
+use crate::words::say_too_many;
 use edit_journal::{MOST_CHARGE, leaf_charge};
+use log::Log;
 use pyramid_model::Shape;
 
-/// Judges how many leaves there are.
+/// Judges how many leaves there are. The log gets how many bytes they need, where these are too many.
 ///
 /// # Errors
 ///
 /// `TooMany` exactly where their charge exceeds 2^29 bytes.
-pub(crate) fn judge_count(shape: Shape, count: usize) -> Result<(), LoadRefusal>
+pub(crate) fn judge_count<R: Log>(rt: &R, shape: Shape, count: usize) -> Result<(), LoadRefusal>
     ensures { result_err result ≡ count_refusal shape count }
 {
     let leaves = count as u64;
     let charge = leaves.saturating_mul(leaf_charge(shape));
     if charge > MOST_CHARGE {
+        say_too_many(rt, leaves, charge);
         return Err(LoadRefusal::TooMany { leaves });
     }
     Ok(())

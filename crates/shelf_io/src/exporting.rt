@@ -10,6 +10,7 @@ ghost use Rattle.shelf_io.specs.Survey.{Replaces, OthersStay};
 ghost use Rattle.shelf_io.specs.Writing.{without_paths, with_path, with_paths};
 
 use crate::buffer::buffer;
+use crate::differences::{Differences, say_strays};
 use crate::progress::Progress;
 use crate::spelling::spelled;
 use crate::strays::shelf_strays;
@@ -24,7 +25,8 @@ use tile_path::Path;
 
 /// Makes the survey's files on the shelf those of the generation, and answers how many these are. Every path that a survey can
 /// have and this one doesn't have is removed; no other path is touched. A file that is right already is read and not written.
-/// How many files are done is logged, at most once a second, and at the end how many were written and removed.
+/// Which are removed is logged before; then how many files are done, at most once a second, and at the end how many were written
+/// and removed.
 ///
 /// # Errors
 ///
@@ -43,21 +45,27 @@ pub fn export<R: Clock + Log, H: Shelf>(
     ensures never_falls { H.faults shelf.old ≤ H.faults shelf.new }
 {
     let strays = shelf_strays(alloc, shelf, generation)?;
-    remove_all(alloc, shelf, &strays)?;
+    remove_all(rt, alloc, shelf, &strays)?;
     let written = write_all(rt, alloc, shelf, generation)?;
     let count = generation.file_count();
     say_written(rt, written, count, strays.len());
     Ok(count)
 }
 
-// Removes these paths.
-fn remove_all<H: Shelf>(alloc: Global, shelf: &mut H, paths: &[Path]) -> Result<(), LinkFault>
+// Says which paths these are, and removes them.
+fn remove_all<R: Log, H: Shelf>(
+    rt: &R,
+    alloc: Global,
+    shelf: &mut H,
+    paths: &[Path],
+) -> Result<(), LinkFault>
     requires { All IsPath paths.now }
     ensures removed { OnOk result (H.files shelf.new ≡ without_paths paths.now (H.files shelf.old)) }
     ensures others { OthersStay (H.files shelf.old) (H.files shelf.new) }
     ensures failed { IsErrOf result LinkFault.Failed → Rises (H.faults shelf.old) (H.faults shelf.new) }
     ensures never_falls { H.faults shelf.old ≤ H.faults shelf.new }
 {
+    say_strays(rt, paths);
     for path in paths {
         let text = spelled(alloc, path)?;
         shelf.remove(&text)?;
@@ -111,7 +119,8 @@ fn settle_file<H: Shelf>(
     ensures failed { IsErrOf result LinkFault.Failed → Rises (H.faults shelf.old) (H.faults shelf.new) }
     ensures never_falls { H.faults shelf.old ≤ H.faults shelf.new }
 {
-    if has_file(alloc, shelf, generation, path, room)? {
+    let mut differences = Differences::new();
+    if has_file(alloc, shelf, generation, path, room, &mut differences)? {
         return Ok(false);
     }
     write_file(alloc, shelf, generation, path, room)?;

@@ -7,6 +7,7 @@
 mod buffer;
 mod charge;
 mod description;
+mod differences;
 mod exporting;
 mod leaves;
 mod listing;
@@ -17,6 +18,7 @@ mod progress;
 mod refusal;
 mod spelling;
 mod strays;
+mod tile_words;
 mod verdict;
 mod verifying;
 mod words;

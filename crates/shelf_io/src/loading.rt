@@ -96,7 +96,7 @@ fn read_survey<R: Clock + Log, H: Shelf>(
     let conf = read_conf(rt, alloc, shelf)?;
     let shape = conf.shape();
     let numbers = shelf_leaves(rt, alloc, shelf, shape.top)?;
-    judge_count(shape, numbers.len())?;
+    judge_count(rt, shape, numbers.len())?;
     let leaves = read_leaves(rt, alloc, shelf, &conf, &numbers, steps)?;
     Ok(Survey { conf, leaves })
 }

@@ -1,18 +1,38 @@
 //! Files that look like leaves and are none.
+use crate::differences::order_of;
 use log::{Log, warn};
 use std::alloc::Global;
 use tile_path::Path;
 
-/// Says how many of the files look like leaves of order `top` and are none, and names one of them.
+/// Says how many of the files look like leaves of order `top` and are none, and names one of them. Where no leaf is there, it
+/// says which order would have the deepest tiles as leaves.
 pub(crate) fn say_no_leaves<R: Log>(rt: &R, paths: &[String], top: u8) {
     if let Some(path) = paths.iter().find(|path| is_misplaced(path.as_str())) {
         let count = misplaced(paths);
         say_misplaced(rt, count, path.as_str(), top);
     }
-    if let Some(path) = paths.iter().find(|path| is_above(path.as_str(), top)) {
+    if tiles_of(paths, top) == 0 {
+        say_other_order(rt, paths, top);
+    } else if let Some(path) = paths.iter().find(|path| is_above(path.as_str(), top)) {
         let count = above(paths, top);
         say_above(rt, count, path.as_str(), top);
     }
+}
+
+// Says which order would have the deepest tiles as leaves, where there are any.
+fn say_other_order<R: Log>(rt: &R, paths: &[String], top: u8) {
+    for order in (3..12_u8).rev() {
+        let count = tiles_of(paths, order);
+        if count > 0 {
+            warn!(rt; "no tile is of order {top}, that of the leaves: with hips_order = {order} in survey.conf the {count} tiles of order {order} would be the leaves");
+            return;
+        }
+    }
+}
+
+fn tiles_of(paths: &[String], order: u8) -> usize {
+    let found = paths.iter().filter(|path| is_tile_of(path.as_str(), order));
+    found.count()
 }
 
 fn misplaced(paths: &[String]) -> usize {
@@ -50,15 +70,14 @@ fn has_name_of_tile(path: &str) -> bool {
 
 // Whether the file is a tile of an order above `top`.
 fn is_above(path: &str, top: u8) -> bool {
-    match Path::read(path.as_bytes()) {
-        Some(path) => is_tile_above(path, top),
-        None => false,
-    }
+    order_at(path).is_some_and(|order| order > top)
 }
 
-fn is_tile_above(path: Path, top: u8) -> bool {
-    match path {
-        Path::Tile(cell) => cell.order() > top,
-        _ => false,
-    }
+fn is_tile_of(path: &str, order: u8) -> bool {
+    order_at(path) == Some(order)
+}
+
+// The order of the tile at a path.
+fn order_at(path: &str) -> Option<u8> {
+    Path::read(path.as_bytes()).and_then(order_of)
 }

@@ -10,6 +10,7 @@ ghost use Rattle.shelf_io.specs.Comparing.{agrees_at, first_after as spec_first_
 ghost use Rattle.shelf_io.specs.Survey.{IsVerdict, CountsFiles};
 
 use crate::buffer::{FRONT_LEN, buffer};
+use crate::differences::Differences;
 use crate::order::{first_after, first_path};
 use crate::progress::Progress;
 use crate::spelling::spelled;
@@ -23,7 +24,8 @@ use survey_link::{LinkFault, Shelf};
 use tile_path::Path;
 
 /// Compares the paths of the shelf that a survey can have with the files of the generation: `Same` exactly where they are the
-/// same, and else the first path, by the bytes of its spelling, at which they differ. The shelf stays as it is.
+/// same, and else the first path, by the bytes of its spelling, at which they differ. The shelf stays as it is. How many files are
+/// missing, differ, and aren't of the survey is logged.
 ///
 /// # Errors
 ///
@@ -43,7 +45,17 @@ pub fn verify<R: Clock + Log, H: Shelf>(
 {
     let count = generation.file_count();
     let strays = shelf_strays(alloc, shelf, generation)?;
-    match first_difference(rt, alloc, shelf, generation, first_path(&strays))? {
+    let mut differences = Differences::new();
+    let first = first_difference(
+        rt,
+        alloc,
+        shelf,
+        generation,
+        first_path(&strays),
+        &mut differences,
+    )?;
+    differences.say(rt, &strays);
+    match first {
         Some(path) => Ok(Verdict::Differs(path)),
         None => Ok(Verdict::Same(count)),
     }
@@ -57,6 +69,7 @@ fn first_difference<R: Clock + Log, H: Shelf>(
     shelf: &mut H,
     generation: &Generation,
     mut first: Option<Path>,
+    differences: &mut Differences,
 ) -> Result<Option<Path>, LinkFault>
     requires { IfSome first IsPath }
     ensures path { IfOk result (λ path. IfSome path IsPath) }
@@ -70,20 +83,21 @@ fn first_difference<R: Clock + Log, H: Shelf>(
     let mut progress = Progress::begin(rt, "files compared", generation.file_count());
     for i in 0..generation.file_count() {
         let path = generation.path(i).unwrap();
-        let agree = has_file(alloc, shelf, generation, &path, &mut front)?;
+        let agree = has_file(alloc, shelf, generation, &path, &mut front, differences)?;
         first = first_after(first, path, agree);
         progress.part_done(rt);
     }
     Ok(first)
 }
 
-/// Whether the shelf has at the path what the generation has.
+/// Whether the shelf has at the path what the generation has. If not, the differences get one more.
 pub(crate) fn has_file<H: Shelf>(
     alloc: Global,
     shelf: &mut H,
     generation: &Generation,
     path: &Path,
     front: &mut [u8],
+    differences: &mut Differences,
 ) -> Result<bool, LinkFault>
     requires { 2880 ≤ length front.old }
     ensures agrees { IfOk result (λ agrees. IfSome (H.files shelf.old) (λ files.
@@ -94,8 +108,8 @@ pub(crate) fn has_file<H: Shelf>(
 {
     let text = spelled(alloc, path)?;
     match shelf.get(alloc, &text)? {
-        Some(bytes) => Ok(is_file(generation, path, &bytes, front)),
-        None => Ok(generation.file_parts(path, front).is_none()),
+        Some(bytes) => Ok(differences.found(is_file(generation, path, &bytes, front))),
+        None => Ok(differences.absent(generation.file_parts(path, front).is_none())),
     }
 }
 

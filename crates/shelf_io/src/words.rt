@@ -1,4 +1,6 @@
 //! What is said to the log of a survey's files.
+use crate::tile_words::TileWords;
+use edit_journal::MOST_CHARGE;
 use fits_tile::TileFault;
 use healpix_nested::Cell;
 use log::{Log, error, info, warn};
@@ -32,12 +34,19 @@ pub(crate) fn say_likely_keys<R: Log>(rt: &R, conf: &Conf) {
 pub(crate) fn say_tile_fault<R: Log>(rt: &R, leaf: Cell, file: &[u8], fault: TileFault) {
     let path = Path::Tile(leaf);
     let bytes = file.len();
-    error!(rt; "{path} is no tile of this survey ({fault}); it has {bytes} bytes and looks like {}", look_of(file));
+    let words = TileWords::new(file, fault);
+    error!(rt; "{path} is no tile of this survey ({fault}: {words}); it has {bytes} bytes and looks like {}", look_of(file));
+}
+
+/// Says how many bytes the leaves need, and how many they may.
+pub(crate) fn say_too_many<R: Log>(rt: &R, leaves: u64, charge: u64) {
+    error!(rt; "the {leaves} leaves need {charge} bytes, and {MOST_CHARGE} are allowed");
 }
 
 /// Says how many files of a survey were written, of all that it has, and how many others were removed.
 pub(crate) fn say_written<R: Log>(rt: &R, written: u64, count: u64, removed: usize) {
-    info!(rt; "{written} of {count} files written, the others were right; {removed} removed");
+    let same = count.saturating_sub(written);
+    info!(rt; "{written} of {count} files written, {same} were the same; {removed} removed");
 }
 
 // What a file is by its first bytes.

@@ -1,13 +1,13 @@
 -- What `serve` does: it opens the shelf, and serves the connections of many doors at once, over boards of that survey.
-use Rattle.std.specs.Prelude.{◌≡◌, ◌⊎◌, ℕ, ◌≤◌, List, [], Option, Result, Ok, Err}
-use Rattle.survey_link.specs.Door.{Connections}
+use Rattle.std.specs.Prelude.{◌≡◌, ℕ, ◌≤◌, List, [], Option, Result, Ok, Err}
 use Rattle.survey_link.specs.Shelf.{ShelfFiles}
 use Rattle.shelf_io.specs.Opening.{OpenedSurvey}
 use Rattle.shelf_io.specs.declared.refusal.LoadRefusal.{LoadRefusal}
 use Rattle.survey_core.specs.State.{StateContent}
 use Rattle.hips_place.specs.declared.place.PlaceEnd.{PlaceEnd}
 use Rattle.hips_place.specs.declared.place.PlaceEnd.TheVariants.{Done, Failed, OutOfMemory}
-use Rattle.hips_place.specs.Place.{ServesDoors}
+use Rattle.hips_place.specs.declared.doors.ServeRefusal.{ServeRefusal}
+use Rattle.hips_place.specs.Place.{DoorContent, ServesAs}
 use Rattle.survey_commands.specs.Survey.{SaysWhy, IsSilent}
 use Rattle.survey_commands.specs.Session.{OpensAs, OpensNot}
 
@@ -33,23 +33,26 @@ place_status Done = 0
 place_status Failed = 8
 place_status OutOfMemory = 11
 
+-- that of places that ended so; 11 where the survey wasn't opened, or its boards couldn't meet
+abbrev pub serve_status : Result PlaceEnd ServeRefusal → ℕ
+serve_status (Ok end) = place_status end
+serve_status (Err refusal) = 11
+
 -- ---- the run
 
--- the doors of the survey were served, up to so many connections of each, and the status is that of how their places ended; or
--- there was no memory to open the survey, or for its boards to meet
-abbrev pub Serves : OpenedSurvey → ℕ → List (Option Connections) → List (Option Connections) → ℕ → Type 0
-Serves survey most doors doors' status =
-    ((end : PlaceEnd) × ServesDoors survey.conf survey.leaves most doors doors' end × (status ≡ place_status end)) ⊎ (status ≡ 11)
+-- the doors of the survey were served, up to so many connections of each, and the status is that of it
+abbrev pub Serves : OpenedSurvey → ℕ → List DoorContent → List DoorContent → ℕ → Type 0
+Serves survey most doors doors' status = (served : Result PlaceEnd ServeRefusal) × ServesAs survey.conf survey.leaves most doors doors' served × (status ≡ serve_status served)
 
 -- `serve`, over the files and these doors: the survey that the files open as is served, and nothing is written; or they open as
 -- none, which is said, and the doors stay
-abbrev pub ServeOf : Option ShelfFiles → ℕ → List (Option Connections) → List (Option Connections) → ℕ → Option (List ℕ) → Option (List ℕ) → Option (List ℕ) → Option (List ℕ)
+abbrev pub ServeOf : Option ShelfFiles → ℕ → List DoorContent → List DoorContent → ℕ → Option (List ℕ) → Option (List ℕ) → Option (List ℕ) → Option (List ℕ)
     → Result OpenedSurvey LoadRefusal → Type 0
 ServeOf found most doors doors' status held held' handed handed' (Ok survey) =
     OpensAs found survey × Serves survey most doors doors' status × IsSilent held held' handed handed'
 ServeOf found most doors doors' status held held' handed handed' (Err refusal) =
     OpensNot found refusal × (doors' ≡ doors) × SaysWhy refusal status held held' handed handed'
 
-abbrev pub RunsServe : Option ShelfFiles → ℕ → List (Option Connections) → List (Option Connections) → ℕ → Option (List ℕ) → Option (List ℕ) → Option (List ℕ) → Option (List ℕ) → Type 0
+abbrev pub RunsServe : Option ShelfFiles → ℕ → List DoorContent → List DoorContent → ℕ → Option (List ℕ) → Option (List ℕ) → Option (List ℕ) → Option (List ℕ) → Type 0
 RunsServe found most doors doors' status held held' handed handed' =
     (opened : Result OpenedSurvey LoadRefusal) × ServeOf found most doors doors' status held held' handed handed' opened

@@ -13,7 +13,7 @@ use std::time::Clock;
 use survey_link::{Gate, Shelf, Sink, Source};
 
 /// Copies one published state of a peer's survey onto the shelf, and answers the status. The peer is asked over the sink, and
-/// its replies come from the source. The log gets how many files there are; `mirror` says why there is no copy.
+/// its replies come from the source. It logs how many files there are; `mirror` logs why there is no copy.
 ///
 /// | Status | Where |
 /// |---|---|
@@ -21,7 +21,7 @@ use survey_link::{Gate, Shelf, Sink, Source};
 /// | 4 | the input ends within a reply |
 /// | 5, 6, 7 | the source's, the sink's, the shelf's count of faults rose |
 /// | 11 | there was no memory |
-/// | 21 | a reply isn't in form |
+/// | 21 | a reply is malformed |
 /// | 22, 23, 25 | what was sent as the properties, as the coverage, as a leaf is refused |
 /// | 24 | there are more than 65,000 leaves, or they are charged with more than 2^29 bytes |
 /// | 26 | the properties, or else the mosaic, isn't that of the leaves |
@@ -84,7 +84,7 @@ fn refusal_status(refusal: &MirrorRefusal) -> u8
     }
 }
 
-// Says how many files the copy has.
+// Logs how many files the copy has.
 fn say_copied<R: Log>(rt: &R, count: u64) {
-    info!(rt; "{count} files are those of the copy");
+    info!(rt; "the folder has the copy: {count} files");
 }

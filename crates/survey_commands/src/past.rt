@@ -24,7 +24,7 @@ use std::time::Clock;
 use survey_link::{Gate, Shelf, Sink, Source};
 
 /// Opens the shelf, answers the records of the source about past states of its survey, of which up to `cache` are held, and
-/// answers the status. The log gets what is wrong with the input.
+/// answers the status. It logs what is wrong with the input.
 ///
 /// | Status | Where |
 /// |---|---|
@@ -158,15 +158,15 @@ fn past_status(end: PastEnd) -> u8
     }
 }
 
-// Says what is wrong with an input that ended so.
+// Logs what is wrong with an input that ended so.
 fn say_end<R: Log>(rt: &R, end: PastEnd) {
     match end {
         PastEnd::BadLine { at } => {
-            error!(rt; "record {at}, counted from 0, has no line of a record: \"batch LENGTH\" or \"read K PATH\", up to 128 bytes with its line feed, numbers in plain decimals, K below 2^32, LENGTH up to that of the longest batch of this survey");
+            error!(rt; "record {at}, counted from 0, is malformed: its line must be \"batch LENGTH\" or \"read K PATH\", up to 128 bytes with its line feed, numbers in plain decimals, K below 2^32, LENGTH up to that of the longest batch of this survey");
         }
         PastEnd::Cut => error!(rt; "the input ends within a record"),
         PastEnd::Spent =>
-            error!(rt; "the input goes on after 65536 records, of which one run takes no more"),
+            error!(rt; "the input goes on after 65536 records; one run takes no more"),
         _ => {}
     }
 }

@@ -1,17 +1,17 @@
 //! The command `serve`: the connections of many doors at once, over one survey.
 ghost use Rattle.std.specs.Prelude.{◌≡◌, ◌≢◌, ◌⊎◌, ◌<◌, ◌≤◌, [], map, length, take, drop};
 ghost use Rattle.survey_link.specs.Link.{Rises};
-ghost use Rattle.hips_place.specs.Place.{SomeRises};
+ghost use Rattle.hips_place.specs.Place.{SomeRises, door_of};
 ghost use Rattle.shelf_io.specs.Opening.{OpenedSurvey};
-ghost use Rattle.survey_commands.specs.Serve.{IsServe, state_of, Serves, RunsServe, place_status};
+ghost use Rattle.survey_commands.specs.Serve.{IsServe, state_of, Serves, RunsServe, serve_status};
 
 use crate::refusing::say_why;
 use crate::session::open_state;
 use generation::Generation;
-use hips_place::{PlaceEnd, serve_doors};
+use hips_http::say_room;
+use hips_place::{PlaceEnd, ServeRefusal, serve_doors};
 use log::{Log, error, info};
 use parent_rule::Steps;
-use std::alloc::AllocError;
 use std::sync::Wait;
 use std::thread::Threads;
 use std::time::{Clock, Instant};
@@ -27,7 +27,7 @@ use survey_link::{Door, Gate, Shelf, Sink};
 /// | 2, 3 | the shelf isn't opened, for its description or for its leaves; a line says why, and no connection is taken |
 /// | 6, 7 | the sink's, the shelf's count of faults rose |
 /// | 8 | a door's count of faults rose; the other places went on to their ends |
-/// | 11 | there was no memory |
+/// | 11 | there was no memory, and no door's count of faults rose: to open the survey, or at a place; or for the places' boards to meet |
 pub fn run_serve<R, K, H, D, G>(
     rt: &R,
     connections: u32,
@@ -48,7 +48,7 @@ where
     G: Gate + Sync,
     requires asked { IsServe connections places }
     requires there { places ≤ length doors.old }
-    ensures run { RunsServe (H.files shelf.old) connections (map D.connections (take places doors.old)) (map D.connections (take places doors.new)) result
+    ensures run { RunsServe (H.files shelf.old) connections (map (door_of D.Door) (take places doors.old)) (map (door_of D.Door) (take places doors.new)) result
         (K.held sink.old) (K.held sink.new) (K.flushed sink.old) (K.flushed sink.new) }
     ensures beyond { drop places doors.new ≡ drop places doors.old }
     ensures closed { (result ≡ 2) ⊎ ((result ≡ 3) ⊎ (result ≡ 7)) → doors.new ≡ doors.old }
@@ -65,6 +65,7 @@ where
     match open_state(rt, shelf, gate, steps) {
         Ok(state) => {
             say_loaded(rt, state.generation(), begun);
+            say_room(rt, &state);
             serve_state(rt, state, connections, gate, served)
         }
         Err(refusal) => say_why(rt.alloc(), sink, &refusal),
@@ -92,30 +93,29 @@ where
     requires some { 0 < length doors.old }
     requires most { length doors.old ≤ 64 }
     ensures served { (survey : OpenedSurvey) → state ≡ state_of survey
-        → Serves survey connections (map D.connections doors.old) (map D.connections doors.new) result }
+        → Serves survey connections (map (door_of D.Door) doors.old) (map (door_of D.Door) doors.new) result }
     ensures status { (result ≡ 0) ⊎ ((result ≡ 8) ⊎ (result ≡ 11)) }
     ensures door_fault { result ≡ 8 → SomeRises (map D.faults doors.old) (map D.faults doors.new) }
 {
     info!(rt; "{} places, up to {connections} connections at each", doors.len());
-    match serve_doors(rt, rt.alloc(), state, connections, gate, doors) {
+    let served = serve_doors(rt, rt.alloc(), state, connections, gate, doors);
+    match &served {
         Ok(end) => {
             info!(rt; "all places have ended: {end:?}. Edits that weren't copied from here are gone now");
-            place_status(end)
         }
-        Err(AllocError) => {
-            error!(rt; "there was no memory to serve the survey");
-            11
-        }
+        Err(refusal) => error!(rt; "out of memory: {refusal}"),
     }
+    serve_status(served)
 }
 
-// The status of places that ended so.
-fn place_status(end: PlaceEnd) -> u8
-    ensures { result ≡ place_status end }
+// The status of doors that were served so, or why they weren't.
+fn serve_status(served: Result<PlaceEnd, ServeRefusal>) -> u8
+    ensures { result ≡ serve_status served }
 {
-    match end {
-        PlaceEnd::Done => 0,
-        PlaceEnd::Failed => 8,
-        PlaceEnd::OutOfMemory => 11,
+    match served {
+        Ok(PlaceEnd::Done) => 0,
+        Ok(PlaceEnd::Failed) => 8,
+        Ok(PlaceEnd::OutOfMemory) => 11,
+        Err(_) => 11,
     }
 }

@@ -7,9 +7,13 @@ use std::fmt;
 // The greatest number of bytes that are shown of a line that is no pair.
 const MOST_SHOWN: usize = 80;
 
+// What is said of pixels that are real numbers.
+const FLOATING_POINT: &str =
+    "it is 8, 16, 32 or 64; floating-point tiles have to be made again, by HipsGen with hips_pixel_bitpix=16 or 32";
+
 /// A fault of a description in words: its line, the key, the value, and what is allowed, as in
-/// `line 5, hips_order = 12: an order is 3 to 11`. Of a line that is no key with a value its first 80 bytes are shown. All but
-/// printable ASCII is shown as `\xff` and the like.
+/// `line 5, hips_order = 12: an order is 3 to 11`; or all keys that are missing. Of a line that is no key with a value its first 80
+/// bytes are shown. All but printable ASCII is shown as `\xff` and the like.
 #[derive(Clone, Copy)]
 pub struct FaultWords<'a> {
     text: &'a [u8],
@@ -41,16 +45,50 @@ impl<'a> fmt::Display for FaultWords<'a> {
         match self.fault.kind {
             ConfKind::Twice => f.write_str("the key stands in an earlier line"),
             ConfKind::Unknown => fmt_unknown(key, f),
-            _ => f.write_str(Key::of(key).map_or("not allowed", allowed)),
+            _ => fmt_allowed(key, value, f),
         }
     }
 }
 
-// Which required key is missing.
+// Which values the key of a line takes, where it doesn't take this one.
+fn fmt_allowed<W: fmt::Write>(key: &[u8], value: &[u8], f: &mut fmt::Formatter<W>) -> fmt::Result {
+    match Key::of(key) {
+        Some(Key::SurveyBitpix) if value.starts_with(b"-") => f.write_str(FLOATING_POINT),
+        Some(key) => f.write_str(allowed(key)),
+        None => f.write_str("not allowed"),
+    }
+}
+
+// Which required keys are missing, and which keys may be meant for them.
 fn fmt_missing<W: fmt::Write>(text: &[u8], f: &mut fmt::Formatter<W>) -> fmt::Result {
-    match missing(text) {
-        Some(key) => write!(f, "{} is missing", key.name().escape_ascii()),
-        None => f.write_str("a required key is missing"),
+    let mut is_first = true;
+    for key in KNOWN.iter().copied() {
+        if key.is_required() && !has_line_for(text, key) {
+            f.write_str(if is_first { "missing: " } else { ", " })?;
+            write!(f, "{}", key.name().escape_ascii())?;
+            fmt_meant(text, key, f)?;
+            is_first = false;
+        }
+    }
+    Ok(())
+}
+
+// Which key of the text may be meant for this one.
+fn fmt_meant<W: fmt::Write>(text: &[u8], key: Key, f: &mut fmt::Formatter<W>) -> fmt::Result {
+    for line in text.split(|byte| *byte == b'\n') {
+        if let Some(meant) = key_for(content(line), key) {
+            return write!(f, " (did you mean it by {}?)", meant.escape_ascii());
+        }
+    }
+    Ok(())
+}
+
+// The key that is written in a line, where it may be meant for this one.
+fn key_for(written: &[u8], key: Key) -> Option<&[u8]> {
+    let (meant, _) = pair(written)?;
+    match likely_key(meant) {
+        Some(known) if known == key.name() && !is_skipped(written) => Some(meant),
+        _ => None,
     }
 }
 
@@ -131,14 +169,6 @@ fn is_one_letter(one: &[u8], other: &[u8]) -> bool {
 fn written_at(text: &[u8], line: u64) -> Option<&[u8]> {
     let at = usize::try_from(line.checked_sub(1)?).ok()?;
     text.split(|byte| *byte == b'\n').nth(at).map(content)
-}
-
-// The first required key that no line has.
-fn missing(text: &[u8]) -> Option<Key> {
-    KNOWN
-        .iter()
-        .copied()
-        .find(|key| key.is_required() && !has_line_for(text, *key))
 }
 
 // Whether a line has the key.

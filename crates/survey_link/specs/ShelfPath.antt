@@ -1,6 +1,6 @@
 -- The paths of a shelf over a folder. A pathname is names with `/` between; in each folder `.` is the folder itself and `..`
 -- the one above it, and no name is empty or has a NUL (POSIX.1-2017, 3.170 Filename and 4.13 Pathname Resolution).
-use Rattle.std.specs.Prelude.{ℕ, Bool, not, ◌&&◌, ◌==◌, List, ◌++◌, codes}
+use Rattle.std.specs.Prelude.{ℕ, ◌^◌, Bool, not, ◌&&◌, ◌==◌, List, ◌++◌, codes}
 use Rattle.std.specs.List.{list_any, list_all, slice_split, ends_with}
 use Rattle.std.specs.Cmp.Lexicographic.{pointwise}
 
@@ -34,3 +34,7 @@ is_left_over path = ends_with (◌==◌) path unfinished_mark
 -- the path of a file on the shelf: it stays in the folder, names the file in one way alone, and isn't that of an unfinished one
 abbrev pub is_shelf_path : List ℕ → Bool
 is_shelf_path path = stays_in_folder path && not (has_nul path) && not (is_left_over path)
+
+-- so many bytes has the longest file that a survey may have
+abbrev pub longest_file : ℕ
+longest_file = 2 ^ 29

@@ -13,6 +13,7 @@ pub(crate) enum FileCall {
     Read,
     List,
     Look,
+    Enter,
     Put,
 }
 
@@ -27,6 +28,7 @@ impl fmt::Display for FileCall {
             FileCall::Read => "read",
             FileCall::List => "list",
             FileCall::Look => "look at",
+            FileCall::Enter => "enter",
             FileCall::Put => "put",
         })
     }

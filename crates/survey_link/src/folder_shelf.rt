@@ -1,9 +1,9 @@
 //! The shelf over the current folder.
-ghost use Rattle.std.specs.Prelude.{◌≡◌, ◌≤◌, ◌↔◌, IsNone, None, Bool, true, false, All, Err, string_bytes, IfOk, OnOk, OnErr, IsErrOf};
+ghost use Rattle.std.specs.Prelude.{◌≡◌, ◌≤◌, ◌↔◌, IsNone, None, Bool, true, false, All, Err, string_bytes, vec_len, IfOk, IfSome, OnOk, OnErr, IsErrOf};
 ghost use Rattle.survey_link.specs.Link.{next_count};
 ghost use Rattle.survey_link.specs.Folder.{IsPut};
 ghost use Rattle.survey_link.specs.Shelf.{OthersStay};
-ghost use Rattle.survey_link.specs.ShelfPath.{is_left_over, is_shelf_path, unfinished};
+ghost use Rattle.survey_link.specs.ShelfPath.{is_left_over, is_shelf_path, longest_file, unfinished};
 
 use crate::failed_call::{FailedCall, FileCall};
 use crate::faults::LinkFault;
@@ -12,6 +12,7 @@ use crate::folder::{Folder, put_by_way_of};
 use crate::here::Here;
 use crate::shelf::Shelf;
 use crate::shelf_path::{is_shelf_path, unfinished};
+use log::Log;
 use std::alloc::Global;
 use std::io;
 use std::io::ErrorKind;
@@ -20,13 +21,16 @@ use std::rt::Files;
 
 /// A shelf over the regular files below the current folder, by their paths with `/` between names. It tells nothing of them.
 ///
-/// Links are followed, as the standard library does. A file is written beside the old one and renamed once it is whole, so
-/// that whoever looks sees whole files; what a stop in the middle leaves isn't listed, and the next `put` there clears it.
+/// A link counts as the regular file that it leads to; `put` and `remove` take the link itself away. A link to a folder is a
+/// fault: nothing is listed, read, written or removed behind one. Whether one stands on the way is looked up before each call,
+/// not in the same one. A file is written beside the old one and renamed once it is whole, so that whoever looks sees whole
+/// files; what a stop in the middle leaves isn't listed, and the next `put` there clears it.
 ///
-/// What it answers as `Failed` counts as a fault: also a name that isn't UTF-8, a folder in place of a file, and a path that
-/// no file on the shelf may have, since it would leave the folder, spell a path otherwise than listed, or is a left-over's.
-/// An interrupted call is made again and counts as none, nor does want of memory. The last call that failed is kept, for whoever
-/// wants to say it.
+/// What it answers as `Failed` counts as a fault: also a name that isn't UTF-8; to `get` what is no regular file, as a folder
+/// or a pipe, or has more than 2^29 bytes; and a path that no file on the shelf may have, since it would leave the folder,
+/// spell a path otherwise than listed, or is a left-over's. An interrupted call is made again and counts as none, nor does
+/// running out of memory. `last_fault` is the last call that failed. The first listing logs how many entries have a tile's name
+/// and are no files.
 #[derive(Drop)]
 pub struct FolderShelf<R> {
     alloc: Global,
@@ -139,7 +143,7 @@ fn put_at<F: Folder>(
     }
 }
 
-impl<R: Files + AllocGlobal + Clone + Drop> Shelf for FolderShelf<R> {
+impl<R: Files + AllocGlobal + Clone + Drop + Log> Shelf for FolderShelf<R> {
     ghost files = { λ _. None };
 
     ghost faults = { λ s. s.faults };
@@ -157,6 +161,7 @@ impl<R: Files + AllocGlobal + Clone + Drop> Shelf for FolderShelf<R> {
 
     fn get(&mut self, alloc: Global, path: &str) -> Result<Option<Vec<u8>>, LinkFault>
         ensures outside { is_shelf_path path.now ≡ false → IsErrOf result LinkFault.Failed }
+        ensures length { IfOk result (λ found. IfSome found (λ bytes. vec_len bytes ≤ longest_file)) }
         ensures sound { OnOk result (self.new ≡ self.old) }
         ensures failed { IsErrOf result LinkFault.Failed → self.new.faults ≡ next_count self.old.faults }
         ensures out_of_memory { IsErrOf result LinkFault.OutOfMemory → self.new ≡ self.old }

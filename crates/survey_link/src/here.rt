@@ -1,34 +1,44 @@
 //! The current folder, through the calls of the standard library.
-ghost use Rattle.std.specs.Prelude.{◌≡◌, None, IfOk, All, Bool, false, string_bytes};
-ghost use Rattle.survey_link.specs.ShelfPath.{is_left_over};
+ghost use Rattle.std.specs.Prelude.{◌≡◌, ◌≤◌, None, IfOk, IfSome, All, Bool, false, string_bytes, vec_len};
+ghost use Rattle.survey_link.specs.ShelfPath.{is_left_over, longest_file};
 
 use crate::failed_call::{FailedCall, FileCall};
 use crate::file_fault::{FileFault, Meaning, found, gone, meaning_of};
 use crate::folder::Folder;
+use crate::listing::{Kind, Listing, keep};
 use crate::shelf_path::is_left_over;
 use crate::sink::write_whole;
 use crate::stream::StreamSink;
+use log::Log;
 use std::alloc::{AllocError, Global};
-use std::fs::{File, Metadata, OpenOptions};
+use std::fs::{File, OpenOptions};
 use std::io::{ErrorKind, Read};
 use std::rt::Files;
 use std::{fs, io};
 
-/// The current folder. It tells nothing of its files.
+// No file of a survey has more bytes.
+const LONGEST_FILE: usize = 1 << 29;
+
+/// The current folder. It tells nothing of its files, and has none behind a link of a folder.
 #[derive(Drop)]
 pub(crate) struct Here<R> {
     alloc: Global,
     runtime: R,
+    has_listed: bool,
 }
 
 impl<R> Here<R> {
     /// The current folder; what is said of a failed call is kept in memory of the allocator.
     pub(crate) fn new(alloc: Global, runtime: R) -> Here<R> {
-        Here { alloc, runtime }
+        Here {
+            alloc,
+            runtime,
+            has_listed: false,
+        }
     }
 
-    // Makes a call again while it is interrupted.
-    fn again<T, F: Fn() -> io::Result<T> + Drop>(
+    // Makes a call, and judges what it answers.
+    fn ask<T, F: Fn() -> io::Result<T> + Drop>(
         &self,
         call: FileCall,
         path: &str,
@@ -36,22 +46,45 @@ impl<R> Here<R> {
     ) -> Result<T, FileFault>
         requires { F.IsAlwaysCallable make }
     {
-        for _ in 0..u64::MAX {
-            match make() {
-                Ok(value) => return Ok(value),
-                Err(error) => match meaning_of(error.kind()) {
-                    Meaning::Interrupted => {}
-                    Meaning::Absent => return Err(FileFault::Absent),
-                    Meaning::OutOfMemory => return Err(FileFault::OutOfMemory),
-                    Meaning::Failed => return Err(self.failed(call, path, error)),
-                },
-            }
+        match again(make) {
+            Ok(value) => Ok(value),
+            Err(error) => match meaning_of(error.kind()) {
+                Meaning::Absent => Err(FileFault::Absent),
+                Meaning::OutOfMemory => Err(FileFault::OutOfMemory),
+                Meaning::Interrupted | Meaning::Failed => Err(self.failed(call, path, error)),
+            },
         }
-        Err(self.failed(call, path, io::Error::from(ErrorKind::Interrupted)))
+    }
+
+    // Makes a call to which also an absent file or folder is a fault.
+    fn demand<T, F: Fn() -> io::Result<T> + Drop>(
+        &self,
+        call: FileCall,
+        path: &str,
+        make: F,
+    ) -> Result<T, FileFault>
+        requires { F.IsAlwaysCallable make }
+    {
+        match again(make) {
+            Ok(value) => Ok(value),
+            Err(error) => match meaning_of(error.kind()) {
+                Meaning::OutOfMemory => Err(FileFault::OutOfMemory),
+                _ => Err(self.failed(call, path, error)),
+            },
+        }
     }
 
     fn failed(&self, call: FileCall, path: &str, error: io::Error) -> FileFault {
         FileFault::Failed(FailedCall::new(self.alloc, call, path, error))
+    }
+
+    // A link stands where a folder has to.
+    fn linked(&self, folder: &str) -> FileFault {
+        let error = io::Error::new(
+            ErrorKind::InvalidInput,
+            "it is a link, and no folder of a survey lies behind one",
+        );
+        self.failed(FileCall::Enter, folder, error)
     }
 }
 
@@ -59,16 +92,17 @@ impl<R: Files> Folder for Here<R> {
     ghost files = { λ _. None };
 
     fn make_way(&mut self, path: &str) -> Result<(), FileFault> {
+        self.check_way(path)?;
         match path.rsplit_once('/') {
             None => Ok(()),
-            Some((folder, _)) => self.again(FileCall::MakeFolder, folder, || {
+            Some((folder, _)) => self.demand(FileCall::MakeFolder, folder, || {
                 fs::create_dir_all(&self.runtime, folder)
             }),
         }
     }
 
     fn write_new(&mut self, path: &str, bytes: &[u8]) -> Result<(), FileFault> {
-        let file = self.again(FileCall::Create, path, || create_new(&self.runtime, path))?;
+        let file = self.demand(FileCall::Create, path, || create_new(&self.runtime, path))?;
         let mut sink = StreamSink::new(file);
         match write_whole(&mut sink, bytes) {
             Ok(()) => Ok(()),
@@ -77,11 +111,12 @@ impl<R: Files> Folder for Here<R> {
     }
 
     fn rename(&mut self, from: &str, to: &str) -> Result<(), FileFault> {
-        self.again(FileCall::Rename, to, || fs::rename(&self.runtime, from, to))
+        self.demand(FileCall::Rename, to, || fs::rename(&self.runtime, from, to))
     }
 
     fn remove(&mut self, path: &str) -> Result<(), FileFault> {
-        gone(self.again(
+        self.check_way(path)?;
+        gone(self.ask(
             FileCall::Remove,
             path,
             || fs::remove_file(&self.runtime, path),
@@ -90,54 +125,90 @@ impl<R: Files> Folder for Here<R> {
 }
 
 impl<R: Files> Here<R> {
-    /// The bytes of a file; `None` where it isn't there.
-    pub(crate) fn read(&self, alloc: Global, path: &str) -> Result<Option<Vec<u8>>, FileFault> {
-        found(self.again(
-            FileCall::Read,
-            path,
-            || read_whole(&self.runtime, alloc, path),
-        ))
+    /// The bytes of a regular file, of which there are at most so many; `None` where nothing stands at the path.
+    pub(crate) fn read(&self, alloc: Global, path: &str) -> Result<Option<Vec<u8>>, FileFault>
+        ensures { IfOk result (λ found. IfSome found (λ bytes. vec_len bytes ≤ longest_file)) }
+    {
+        self.check_way(path)?;
+        let read = || read_file(&self.runtime, alloc, path);
+        match found(self.ask(FileCall::Read, path, read))? {
+            Some(bytes) if bytes.len() > LONGEST_FILE => Err(self.failed(
+                FileCall::Read,
+                path,
+                too_long(),
+            )),
+            found => Ok(found),
+        }
     }
 
-    // What stands at a path that a folder lists; a link that leads nowhere, and what is gone, is neither file nor folder.
+    // Refuses a path that leads through a link.
+    fn check_way(&self, path: &str) -> Result<(), FileFault> {
+        let mut rest = path;
+        for _ in 0..path.len() {
+            match rest.rsplit_once('/') {
+                None => return Ok(()),
+                Some((folder, _)) => {
+                    self.check_folder(folder)?;
+                    rest = folder;
+                }
+            }
+        }
+        Ok(())
+    }
+
+    // Refuses a folder that is a link.
+    fn check_folder(&self, folder: &str) -> Result<(), FileFault> {
+        let look = || fs::symlink_metadata(&self.runtime, folder);
+        match found(self.ask(FileCall::Look, folder, look))? {
+            Some(metadata) if metadata.is_symlink() => Err(self.linked(folder)),
+            _ => Ok(()),
+        }
+    }
+
+    // What stands at a path that a folder lists.
     fn kind_at(&self, path: &str) -> Result<Kind, FileFault> {
-        let look = || fs::metadata(&self.runtime, path);
-        match found(self.again(FileCall::Look, path, look))? {
-            Some(metadata) => Ok(kind_of(&metadata)),
+        let look = || fs::symlink_metadata(&self.runtime, path);
+        match found(self.ask(FileCall::Look, path, look))? {
+            Some(metadata) if metadata.is_symlink() => self.kind_behind(path),
+            Some(metadata) => Ok(Kind::of(&metadata)),
             None => Ok(Kind::Neither),
         }
     }
 
-    // Adds a path to the files or the folders.
-    fn add(&self, listing: &mut Listing, path: String) -> Result<(), FileFault> {
-        match self.kind_at(path.as_str())? {
-            Kind::File => keep(&mut listing.files, path),
-            Kind::Folder => keep(&mut listing.folders, path),
-            Kind::Neither => Ok(()),
+    // What stands behind a link, which may be a file's alone.
+    fn kind_behind(&self, link: &str) -> Result<Kind, FileFault> {
+        let look = || fs::metadata(&self.runtime, link);
+        match found(self.ask(FileCall::Look, link, look))? {
+            Some(metadata) if metadata.is_dir() => Err(self.linked(link)),
+            Some(metadata) => Ok(Kind::of(&metadata)),
+            None => Ok(Kind::Neither),
         }
     }
 }
 
-impl<R: Files + AllocGlobal + Clone + Drop> Here<R> {
-    /// The paths of all regular files below the folder, without left-overs.
-    pub(crate) fn paths(&self, alloc: Global) -> Result<Vec<String>, FileFault>
+impl<R: Files + AllocGlobal + Clone + Drop + Log> Here<R> {
+    /// The paths of all regular files below the folder, without left-overs. The first time the log gets how many entries have a
+    /// tile's name and are no files.
+    pub(crate) fn paths(&mut self, alloc: Global) -> Result<Vec<String>, FileFault>
         ensures { IfOk result (λ paths. All (λ path. is_left_over (string_bytes path) ≡ false) paths.items) }
     {
-        let mut paths = self.files_below(alloc)?;
+        let listing = self.entries_below(alloc)?;
+        if !self.has_listed {
+            listing.say_odd(&self.runtime);
+        }
+        self.has_listed = true;
+        let mut paths = listing.files;
         paths.retain(|path| !is_left_over(path.as_str()));
         Ok(paths)
     }
 
-    // The deepest folder that is still to be read comes first, so that a loop of links ends soon.
-    fn files_below(&self, alloc: Global) -> Result<Vec<String>, FileFault> {
-        let mut listing = Listing {
-            files: Vec::new(alloc),
-            folders: Vec::new(alloc),
-        };
+    // The deepest folder that is still to be read comes first.
+    fn entries_below(&self, alloc: Global) -> Result<Listing, FileFault> {
+        let mut listing = Listing::new(alloc);
         keep(&mut listing.folders, String::new(alloc))?;
         for _ in 0..u64::MAX {
             match listing.folders.pop() {
-                None => return Ok(listing.files),
+                None => return Ok(listing),
                 Some(folder) => self.list(alloc, folder.as_str(), &mut listing)?,
             }
         }
@@ -145,15 +216,33 @@ impl<R: Files + AllocGlobal + Clone + Drop> Here<R> {
         Err(self.failed(FileCall::List, ".", error))
     }
 
-    // Adds what lies right in the folder; the current one has no name. Links are followed.
+    // Adds what lies right in the folder; the current one has no name.
     fn list(&self, alloc: Global, folder: &str, listing: &mut Listing) -> Result<(), FileFault> {
         let shown = if folder.is_empty() { "." } else { folder };
         let list = || paths_in(&self.runtime, alloc, folder);
-        for path in self.again(FileCall::List, shown, list)? {
-            self.add(listing, path)?;
+        for path in self.demand(FileCall::List, shown, list)? {
+            let kind = self.kind_at(path.as_str())?;
+            listing.add(path, kind)?;
         }
         Ok(())
     }
+}
+
+// Makes a call again while it is interrupted.
+fn again<T, F: Fn() -> io::Result<T> + Drop>(make: F) -> io::Result<T>
+    requires { F.IsAlwaysCallable make }
+{
+    for _ in 0..u64::MAX {
+        match make() {
+            Ok(value) => return Ok(value),
+            Err(error) => {
+                if error.kind() != ErrorKind::Interrupted {
+                    return Err(error);
+                }
+            }
+        }
+    }
+    Err(io::Error::from(ErrorKind::Interrupted))
 }
 
 // What a write was refused by.
@@ -164,13 +253,6 @@ fn last_error<W>(sink: &StreamSink<W>) -> io::Error {
     }
 }
 
-fn keep(paths: &mut Vec<String>, path: String) -> Result<(), FileFault> {
-    match paths.push(path) {
-        Ok(()) => Ok(()),
-        Err(_) => Err(FileFault::OutOfMemory),
-    }
-}
-
 fn create_new<R: Files>(files: &R, path: &str) -> io::Result<R::File> {
     OpenOptions::new()
         .write(true)
@@ -178,18 +260,28 @@ fn create_new<R: Files>(files: &R, path: &str) -> io::Result<R::File> {
         .open(files, path)
 }
 
-fn read_whole<R: Files>(files: &R, alloc: Global, path: &str) -> io::Result<Vec<u8>> {
-    let mut file = File::open(files, path)?;
+// The bytes of a regular file, no more of them than show that they are too many. What stands there is looked at before it is
+// opened, since opening a pipe waits for a writer.
+fn read_file<R: Files>(files: &R, alloc: Global, path: &str) -> io::Result<Vec<u8>> {
+    let metadata = fs::metadata(files, path)?;
+    if !metadata.is_file() {
+        return Err(io::Error::other("it is no regular file"));
+    }
+    if metadata.len() > LONGEST_FILE as u64 {
+        return Err(too_long());
+    }
     let mut bytes = Vec::new(alloc);
-    file.read_to_end(&mut bytes)?;
+    File::open(files, path)?
+        .take(LONGEST_FILE as u64 + 1)
+        .read_to_end(&mut bytes)?;
     Ok(bytes)
 }
 
-// The paths of files, and of the folders that are still to be read.
-#[derive(Drop)]
-struct Listing {
-    files: Vec<String>,
-    folders: Vec<String>,
+fn too_long() -> io::Error {
+    io::Error::new(
+        ErrorKind::FileTooLarge,
+        "it has more than 536870912 bytes, as no file of a survey has",
+    )
 }
 
 // The paths of all that lies right in the folder; the current one has no name.
@@ -214,22 +306,4 @@ fn path_in(alloc: Global, folder: &str, name: &str) -> Result<String, AllocError
     }
     path.push_str(name)?;
     Ok(path)
-}
-
-// What a listing takes a path for.
-#[derive(Clone, Copy)]
-enum Kind {
-    File,
-    Folder,
-    Neither,
-}
-
-fn kind_of(metadata: &Metadata) -> Kind {
-    if metadata.is_file() {
-        Kind::File
-    } else if metadata.is_dir() {
-        Kind::Folder
-    } else {
-        Kind::Neither
-    }
 }

@@ -14,6 +14,7 @@ mod folder_shelf;
 mod gate;
 mod here;
 mod inbox;
+mod listing;
 mod mem_door;
 mod mem_shelf;
 mod mem_sink;

@@ -5,7 +5,9 @@ ghost use Rattle.tcp_link.specs.Tcp.{passes};
 
 use crate::again::again;
 use crate::shortage::Shortage;
+use crate::stream::{Listener, Stream};
 use log::{Log, error, info};
+use std::fs::Files;
 use std::io;
 use std::io::ErrorKind;
 use std::net::{Net, SocketAddr, TcpListener, TcpStream};
@@ -18,7 +20,7 @@ pub(crate) struct Listening {
     address: String,
     // Whether a refusal to bind it was said.
     binding: Mutex<bool>,
-    listener: OnceLock<TcpListener>,
+    listener: OnceLock<Listener>,
     shortage: Shortage,
 }
 
@@ -41,8 +43,8 @@ impl Listening {
     pub(crate) fn accept<R: Wait + Clock + Log>(
         &self,
         rt: &R,
-        listener: &TcpListener,
-    ) -> io::Result<(TcpStream, SocketAddr)>
+        listener: &Listener,
+    ) -> io::Result<(Stream, Option<SocketAddr>)>
         ensures lasts { IfErr result (λ error. passes (error_kind error) ≡ false) }
     {
         let mut begun = None;
@@ -61,9 +63,10 @@ impl Listening {
 
     /// The listener, which the first call binds. Where that is refused the next call tries again. The log gets where it
     /// listens, and the first refusal.
-    pub(crate) fn listener<R>(&self, rt: &R) -> io::Result<&TcpListener>
+    pub(crate) fn listener<R, N>(&self, rt: &R, net: &N) -> io::Result<&Listener>
     where
-        R: Net<Listener = TcpListener, Stream = TcpStream> + Wait + Log,
+        R: Wait + Log,
+        N: Net<Listener = TcpListener, Stream = TcpStream> + Files,
     {
         if let Some(listener) = self.listener.get() {
             return Ok(listener);
@@ -72,16 +75,15 @@ impl Listening {
         if let Some(listener) = self.listener.get() {
             return Ok(listener);
         }
-        match TcpListener::bind(rt, self.address.as_str()) {
+        let address = self.address.as_str();
+        match Listener::bind(net, address) {
             Ok(listener) => {
-                if let Ok(place) = listener.local_addr() {
-                    info!(rt; "listening at {place}");
-                }
+                say_place(rt, address, &listener);
                 Ok(self.listener.get_or_init(rt, move || listener))
             }
             Err(error) => {
                 if !*is_said {
-                    say_refused(rt, self.address.as_str(), error);
+                    error!(rt; "can't listen at {address}: {error}");
                     *is_said = true;
                 }
                 Err(error)
@@ -90,12 +92,10 @@ impl Listening {
     }
 }
 
-// Says why one can't listen at the address. A runtime that logs looks no names up.
-fn say_refused<R: Log>(rt: &R, address: &str, error: io::Error) {
-    match error.kind() {
-        ErrorKind::Unsupported => {
-            error!(rt; "can't listen at {address}: it is no IP address with a port, and no name is looked up now");
-        }
-        _ => error!(rt; "can't listen at {address}: {error}"),
+// Says where it listens.
+fn say_place<R: Log>(rt: &R, address: &str, listener: &Listener) {
+    match listener.place() {
+        Ok(Some(place)) => info!(rt; "listening at {place}"),
+        _ => info!(rt; "listening at {address}"),
     }
 }

@@ -11,21 +11,25 @@ use std::time::Duration;
 /// the accept.
 #[derive(Clone, Copy)]
 pub struct Patience {
-    /// How long a connection may rest until a turn begins, and how long it may take to end once it was given back.
+    /// How long a connection may rest until a turn begins.
     pub rest: Duration,
     /// How long a request may take from its first byte on, and a reply, beside what its bytes add.
     pub turn: Duration,
     /// How many bytes that came or were taken add a second; none do where it is 0.
     pub pace: u64,
+    /// How long a connection may take to end once it was given back.
+    pub end: Duration,
 }
 
 impl Patience {
-    /// That of a server's doors: 10 seconds of rest, and for a request or a reply 30 and one for each 64 KiB.
+    /// That of a server's doors: 30 seconds of rest, in which a copy can make its files between two requests; for a request or a
+    /// reply 30, and one for each 64 KiB; and 10 to end.
     pub fn usual() -> Patience {
         Patience {
-            rest: Duration::from_secs(10),
+            rest: Duration::from_secs(30),
             turn: Duration::from_secs(30),
             pace: 65_536,
+            end: Duration::from_secs(10),
         }
     }
 }

@@ -7,10 +7,12 @@ use crate::connection::Connection;
 use crate::listening::Listening;
 use crate::patience::Patience;
 use crate::refusal::Refusal;
+use crate::stream::{Listener, Stream};
 use crate::tcp_in::TcpIn;
 use crate::tcp_out::TcpOut;
 use log::{Log, debug};
 use std::alloc::AllocError;
+use std::fs::Files;
 use std::io;
 use std::marker::Model;
 use std::net::{Net, SocketAddr, TcpListener, TcpStream};
@@ -18,7 +20,7 @@ use std::sync::{Arc, Wait};
 use std::time::Clock;
 use survey_link::{Door, DoorFault};
 
-/// A door of an address over TCP. It tells nothing of its connections.
+/// A door of an address, over TCP or a Unix socket. It tells nothing of its connections.
 ///
 /// The doors of one address share a listener, which the first call that needs it binds. What it answers as `Failed` counts as
 /// a fault: that the system refuses to listen, to accept, or to split a stream into its halves. An accept that the system
@@ -27,10 +29,11 @@ use survey_link::{Door, DoorFault};
 /// a count of its own; its client is let go. A connection that is given back is closed.
 ///
 /// The log gets each connection's client, with the place of the door among those of its address and the connection's number
-/// at it, both from 1 on.
+/// at it, both from 1 on. A Unix socket doesn't tell its clients apart.
 #[derive(Drop)]
-pub struct TcpDoor<R> {
+pub struct TcpDoor<R, N> {
     runtime: R,
+    net: N,
     listening: Arc<Listening>,
     patience: Patience,
     place: usize,
@@ -41,7 +44,7 @@ pub struct TcpDoor<R> {
     refusal: Option<Refusal>,
 }
 
-impl<R> Model for TcpDoor<R> {
+impl<R, N> Model for TcpDoor<R, N> {
     ghost use Rattle.tcp_link.specs.Tcp.{DoorState};
 
     ghost Value = { DoorState };
@@ -49,21 +52,26 @@ impl<R> Model for TcpDoor<R> {
     ghost view = { λ a. record { faults = a.faults; wants = a.wants; refusal = a.refusal } };
 }
 
-/// So many doors of an address, an IP address or a host's name with `:` and a port. Nothing is bound yet.
+/// So many doors of an address: an IP address or a host's name with `:` and a port, or the path of a Unix socket, with a `/`.
+/// Nothing is bound yet. A socket that a dead server left at the path is then replaced.
 ///
-/// Each keeps a copy of the runtime, which gives the network and the leave to wait, since no call of a door is passed one.
+/// Each keeps a copy of `rt`, which gives the leave to wait, and of `net`, since no call of a door is passed one.
 ///
 /// # Errors
 ///
 /// `AllocError` where there is no memory.
-pub fn tcp_doors<R: AllocGlobal + Clone + Drop>(
+pub fn tcp_doors<R, N>(
     rt: &R,
+    net: &N,
     address: &str,
     count: usize,
-) -> Result<Vec<TcpDoor<R>>, AllocError>
+) -> Result<Vec<TcpDoor<R, N>>, AllocError>
+where
+    R: AllocGlobal + Clone + Drop,
+    N: Clone + Drop,
     ensures { IfOk result (λ doors. doors.items ≡ replicate count (record { faults = 0; wants = 0; refusal = None })) }
 {
-    patient_doors(rt, address, count, Patience::usual())
+    patient_doors(rt, net, address, count, Patience::usual())
 }
 
 /// As `tcp_doors`, of doors whose clients may take so long.
@@ -71,12 +79,16 @@ pub fn tcp_doors<R: AllocGlobal + Clone + Drop>(
 /// # Errors
 ///
 /// As for `tcp_doors`.
-pub fn patient_doors<R: AllocGlobal + Clone + Drop>(
+pub fn patient_doors<R, N>(
     rt: &R,
+    net: &N,
     address: &str,
     count: usize,
     patience: Patience,
-) -> Result<Vec<TcpDoor<R>>, AllocError>
+) -> Result<Vec<TcpDoor<R, N>>, AllocError>
+where
+    R: AllocGlobal + Clone + Drop,
+    N: Clone + Drop,
     ensures { IfOk result (λ doors. doors.items ≡ replicate count (record { faults = 0; wants = 0; refusal = None })) }
 {
     let alloc = rt.alloc();
@@ -85,6 +97,7 @@ pub fn patient_doors<R: AllocGlobal + Clone + Drop>(
     for at in 0..count {
         doors.push(TcpDoor {
             runtime: rt.clone()?,
+            net: net.clone()?,
             listening: Arc::try_clone(&listening)?,
             patience,
             place: at + 1,
@@ -97,7 +110,7 @@ pub fn patient_doors<R: AllocGlobal + Clone + Drop>(
     Ok(doors)
 }
 
-impl<R> TcpDoor<R> {
+impl<R, N> TcpDoor<R, N> {
     /// What the door was last refused; `None` exactly where it was never refused anything.
     pub fn refusal(&self) -> Option<Refusal>
         ensures { result ≡ self.now.refusal }
@@ -127,23 +140,18 @@ impl<R> TcpDoor<R> {
     }
 }
 
-impl<R> TcpDoor<R>
+impl<R, N> TcpDoor<R, N>
 where
-    R: Net<Listener = TcpListener, Stream = TcpStream>
-        + Wait
-        + Clock
-        + Log
-        + AllocGlobal
-        + Clone
-        + Drop,
+    R: Wait + Clock + Log + AllocGlobal + Clone + Drop,
+    N: Net<Listener = TcpListener, Stream = TcpStream> + Files + Clone + Drop,
 {
     /// Listens, where no door of the address does yet, and answers where: at the port that the system chose, if it was asked
-    /// for port 0.
+    /// for port 0; `None` at the path of a Unix socket.
     ///
     /// # Errors
     ///
     /// `DoorFault::Failed` only where the count of faults rose.
-    pub fn listen(&mut self) -> Result<SocketAddr, DoorFault>
+    pub fn listen(&mut self) -> Result<Option<SocketAddr>, DoorFault>
         ensures sound { OnOk result (self.new ≡ self.old) }
         ensures failed { OnErr result ((self.new.faults ≡ next_count self.old.faults) × (self.new.wants ≡ self.old.wants)) }
         ensures only { IfErr result (λ fault. fault ≡ DoorFault.Failed) }
@@ -156,18 +164,18 @@ where
     }
 
     // Where it listens.
-    fn place(&self) -> Result<SocketAddr, Refusal>
+    fn place(&self) -> Result<Option<SocketAddr>, Refusal>
         ensures cause { IfErr result (λ refusal. StopsListening (Some refusal)) }
     {
         let listener = self.listener()?;
-        listener.local_addr().map_err(Refusal::Listen)
+        listener.place().map_err(Refusal::Listen)
     }
 
-    fn listener(&self) -> Result<&TcpListener, Refusal>
+    fn listener(&self) -> Result<&Listener, Refusal>
         ensures cause { IfErr result (λ refusal. StopsListening (Some refusal)) }
     {
         self.listening
-            .listener(&self.runtime)
+            .listener(&self.runtime, &self.net)
             .map_err(Refusal::Listen)
     }
 
@@ -186,33 +194,32 @@ where
     }
 
     // Says whose the next connection is.
-    fn say_client(&self, client: SocketAddr) {
+    fn say_client(&self, client: Option<SocketAddr>) {
         let number = self.taken.saturating_add(1);
         let connection = self.runtime.span("connection");
         let rt = connection.with("place", self.place).with("number", number);
-        debug!(rt; target: "client", "{client}");
+        match client {
+            Some(client) => debug!(rt; target: "client", "{client}"),
+            None => debug!(rt; target: "client", "unix"),
+        }
     }
 
     // The halves of a stream.
-    fn halves(&self, stream: TcpStream) -> io::Result<(TcpIn<R>, TcpOut<R>)>
+    fn halves(&self, stream: Stream) -> io::Result<(TcpIn<R>, TcpOut<R>)>
         ensures fresh { IfOk result (λ halves. (halves.0 ≡ 0) × (halves.1 ≡ 0)) }
     {
-        let connection = Connection::accepted(self.runtime.clone()?, self.patience, stream)?;
+        stream.prepare(self.patience)?;
+        let connection = Connection::new(self.runtime.clone()?, self.patience, Some(stream));
         let connection = Arc::new(self.runtime.alloc(), connection)?;
         let output = TcpOut::new(Arc::try_clone(&connection)?);
         Ok((TcpIn::new(connection), output))
     }
 }
 
-impl<R> Door for TcpDoor<R>
+impl<R, N> Door for TcpDoor<R, N>
 where
-    R: Net<Listener = TcpListener, Stream = TcpStream>
-        + Wait
-        + Clock
-        + Log
-        + AllocGlobal
-        + Clone
-        + Drop,
+    R: Wait + Clock + Log + AllocGlobal + Clone + Drop,
+    N: Net<Listener = TcpListener, Stream = TcpStream> + Files + Clone + Drop,
 {
     type In = TcpIn<R>;
 

@@ -5,11 +5,9 @@ ghost use Rattle.survey_link.specs.Link.{next_count};
 use crate::connection::Connection;
 use crate::patience::Patience;
 use crate::watch::Watch;
-use log::Log;
 use std::io;
-use std::io::{ErrorKind, Read};
+use std::io::ErrorKind;
 use std::marker::Model;
-use std::net::{Net, TcpListener, TcpStream};
 use std::sync::Arc;
 use std::time::{Clock, Duration};
 use survey_link::{Failed, Source};
@@ -51,10 +49,7 @@ impl<R> TcpIn<R> {
     }
 }
 
-impl<R> TcpIn<R>
-where
-    R: Net<Listener = TcpListener, Stream = TcpStream> + Clock + Log,
-{
+impl<R: Clock> TcpIn<R> {
     // Reads before the rest, or the request, has taken too long.
     fn read_in_time(&mut self, buf: &mut [u8]) -> io::Result<usize>
         ensures count { IfOk result (λ m. m ≤ length buf.old) }
@@ -81,8 +76,7 @@ where
     {
         for _ in 0..u64::MAX {
             self.set_timeout(base)?;
-            let mut stream = self.connection.stream()?;
-            match stream.read(buf) {
+            match self.connection.stream()?.read(buf) {
                 Ok(count) => return Ok(count),
                 Err(error) => {
                     if !self.watch.goes_on(error.kind()) {
@@ -100,16 +94,13 @@ where
         let connection = &*self.connection;
         let pace = connection.patience.pace;
         match self.watch.timeout(&connection.runtime, base, pace)? {
-            Some(timeout) => connection.stream()?.set_read_timeout(Some(timeout)),
+            Some(timeout) => connection.stream()?.set_read_timeout(timeout),
             None => Ok(()),
         }
     }
 }
 
-impl<R> Source for TcpIn<R>
-where
-    R: Net<Listener = TcpListener, Stream = TcpStream> + Clock + Log,
-{
+impl<R: Clock> Source for TcpIn<R> {
     ghost left = { λ _. None };
 
     ghost readings = { λ _. None };

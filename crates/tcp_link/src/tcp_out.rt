@@ -6,11 +6,9 @@ ghost use Rattle.survey_link.specs.Link.{next_count, parts_bytes};
 use crate::connection::Connection;
 use crate::patience::Patience;
 use crate::watch::Watch;
-use log::Log;
 use std::io;
-use std::io::{ErrorKind, IoSlice, Read};
+use std::io::{ErrorKind, IoSlice};
 use std::marker::Model;
-use std::net::{Net, Shutdown, TcpListener, TcpStream};
 use std::sync::Arc;
 use std::time::{Clock, Duration};
 use survey_link::{Failed, Sink};
@@ -50,10 +48,7 @@ impl<R> TcpOut<R> {
     }
 }
 
-impl<R> TcpOut<R>
-where
-    R: Net<Listener = TcpListener, Stream = TcpStream> + Clock + Log,
-{
+impl<R: Clock> TcpOut<R> {
     /// Ends the reply, and drops what the peer still sends until it closes its side too: where bytes are left unread the
     /// system resets the connection, and the peer may lose the reply (RFC 9112, section 9.6).
     pub(crate) fn end(&self) {
@@ -92,24 +87,21 @@ where
         let connection = &*self.connection;
         let Patience { turn, pace, .. } = connection.patience;
         match self.watch.timeout(&connection.runtime, turn, pace)? {
-            Some(timeout) => connection.stream()?.set_write_timeout(Some(timeout)),
+            Some(timeout) => connection.stream()?.set_write_timeout(timeout),
             None => Ok(()),
         }
     }
 }
 
-// Reads what the peer still sends, for no longer than a connection may rest.
-fn linger<R>(connection: &Connection<R>) -> io::Result<()>
-where
-    R: Net<Listener = TcpListener, Stream = TcpStream> + Clock + Log,
-{
-    let mut stream = connection.stream()?;
-    stream.shutdown(Shutdown::Write)?;
-    stream.set_read_timeout(Some(Duration::from_millis(LINGER)))?;
+// Reads what the peer still sends, for no longer than a connection may take to end.
+fn linger<R: Clock>(connection: &Connection<R>) -> io::Result<()> {
+    let stream = connection.stream()?;
+    stream.end_writing()?;
+    stream.set_read_timeout(Duration::from_millis(LINGER))?;
     let mut watch = Watch::new(Duration::ZERO);
     let mut buf = [0; 16_384];
     for _ in 0..LINGERING_READS {
-        watch.timeout(&connection.runtime, connection.patience.rest, 0)?;
+        watch.timeout(&connection.runtime, connection.patience.end, 0)?;
         if stream.read(&mut buf)? == 0 {
             break;
         }
@@ -117,10 +109,7 @@ where
     Ok(())
 }
 
-impl<R> Sink for TcpOut<R>
-where
-    R: Net<Listener = TcpListener, Stream = TcpStream> + Clock + Log,
-{
+impl<R: Clock> Sink for TcpOut<R> {
     ghost held = { λ _. None };
 
     ghost flushed = { λ _. None };

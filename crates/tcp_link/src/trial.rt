@@ -1,24 +1,26 @@
 //! An address that is tried before anybody listens at it.
-use std::io;
+use crate::stream::{bind_path, is_path};
+use std::fs::Files;
 use std::io::ErrorKind;
-use std::net::{Net, SocketAddr, ToSocketAddrs};
+use std::net::{Net, ToSocketAddrs};
+use std::{fs, io};
 
 /// What the trial of an address found.
 #[derive(Clone, Copy, Debug)]
 pub enum Trial {
-    /// One could listen at this place of the address.
-    Free(SocketAddr),
-    /// One couldn't listen at any of its places: the first of them, and what it was refused for.
-    Taken(SocketAddr, io::Error),
+    /// One could listen there.
+    Free,
+    /// One couldn't listen there: what the last place of it was refused for.
+    Taken(io::Error),
     /// The text is no address, or its name has no place.
     Nowhere(io::Error),
 }
 
-/// Tries each place of an address, an IP address or a host's name with `:` and a port, until one can be listened at, and lets
-/// that go again.
-///
-/// A logger's own network looks no names up, so `net` may be the one below it.
-pub fn try_address<N: Net>(net: &N, address: &str) -> Trial {
+/// Tries whether one could listen at an address, as the doors of that address would, and lets it go again.
+pub fn try_address<N: Net + Files>(net: &N, address: &str) -> Trial {
+    if is_path(address) {
+        return try_path(net, address);
+    }
     let places = match address.to_socket_addrs(net) {
         Ok(places) => places,
         Err(error) => return Trial::Nowhere(error),
@@ -26,17 +28,20 @@ pub fn try_address<N: Net>(net: &N, address: &str) -> Trial {
     let mut found = Trial::Nowhere(ErrorKind::AddrNotAvailable.into());
     for place in places {
         match net.bind(place) {
-            Ok(_listener) => return Trial::Free(place),
-            Err(error) => found = earlier(found, place, error),
+            Ok(_listener) => return Trial::Free,
+            Err(error) => found = Trial::Taken(error),
         }
     }
     found
 }
 
-// What was found, where one place more was refused.
-fn earlier(found: Trial, place: SocketAddr, error: io::Error) -> Trial {
-    match found {
-        Trial::Taken(..) => found,
-        _ => Trial::Taken(place, error),
+// The same of a path.
+fn try_path<N: Net + Files>(net: &N, path: &str) -> Trial {
+    match bind_path(net, path) {
+        Ok(_listener) => {
+            let _ = fs::remove_file(net, path);
+            Trial::Free
+        }
+        Err(error) => Trial::Taken(error),
     }
 }

@@ -7,7 +7,7 @@ use Rattle.parent_rule.specs.Combined.{combined, square_at}
 use Rattle.parent_rule.specs.CombinedLaws.{combined-number}
 use Rattle.parent_rule.specs.Depth.{IsNumber}
 use Rattle.parent_rule.specs.declared.combine.Combine.{Combine}
-use Rattle.tile_pixels.proofs.Quadrants.{same_four}
+use Rattle.tile_pixels.specs.QuadrantLaws.{same_four}
 use Rattle.tile_pixels.proofs.TwoRows.{All-four}
 
 slice_get-set_other : (out : List ℤ) (i k : ℕ) (v : ℤ) → k ≢ i → k < length out → slice_get (set out i v) k ≡ slice_get out k

@@ -1,14 +1,16 @@
 -- The bytes of the tile above, half by half and line by line.
-use Rattle.std.proofs.Common.{◌≡◌, ℕ, ◌+◌, ◌-◌, ◌*◌, ◌/◌, ◌^◌, ◌≤◌, List, [], ◌++◌, length, Option, sym, ap, ap₂, ◌∙◌, add-one, append_assoc, append-nil, subst}
+use Rattle.std.proofs.Common.{arith, ◌≡◌, ℕ, ◌+◌, ◌-◌, ◌*◌, ◌^◌, ◌≤◌, List, [], ◌++◌, length, Option, sym, ap, ap₂, ◌∙◌, add-one, append_assoc, append-nil, subst}
 use Rattle.std.specs.Prelude.{ℤ, All, IsTrue}
 use Rattle.std.proofs.lemmas.List.FromFn.{length-map-range_with_len}
 use Rattle.std.proofs.lemmas.List.Elements.{All-nil, All-append}
+use Rattle.healpix_nested.specs.PlaceLaws.{square_of_side}
+use Rattle.tile_pixels.proofs.TwoRows.{two_halves}
 use Rattle.parent_rule.specs.Depth.{PixelDepth, is_bitpix, IsNumber}
 use Rattle.tile_pixels.specs.Stored.{numbers_from, stored_bytes}
 use Rattle.tile_pixels.specs.Lines.{half_row, half_rows}
 use Rattle.tile_pixels.specs.Merge.{FourTiles, merged}
-use Rattle.tile_pixels.specs.StoredLaws.{numbers_from-stored_bytes, length-stored_bytes, stored_bytes-append}
-use Rattle.tile_pixels.proofs.Quadrants.{halves-merged}
+use Rattle.tile_pixels.specs.StoredLaws.{numbers_from-stored_bytes, stored_bytes-append}
+use Rattle.tile_pixels.specs.QuadrantLaws.{halves-merged}
 
 -- no lines
 pub bytes_of_none : (bits : ℕ) (items : List ℕ) (depth : PixelDepth) (n : ℕ) (left right : Option (List ℤ)) → items ≡ items ++ stored_bytes bits (half_rows depth n left right 0)
@@ -77,13 +79,14 @@ numbers-merged depth n tiles start mid raw h =
     subst (λ (ns : List ℤ). All (IsNumber depth.bitpix) ns) (halves-merged depth n tiles h.least_n h.greatest_n)
     (All-append (IsNumber depth.bitpix) _ _ h.lower_numbers h.upper_numbers)
 
--- how many they are, and the numbers that they hold
-pub length-raw : (depth : PixelDepth) (n : ℕ) (tiles : FourTiles) (start mid raw : List ℕ) → Halves depth n tiles start mid raw → length raw ≡ 4 ^ n * (depth.bitpix / 8)
-length-raw depth n tiles start mid raw h =
-    ap (λ bs. length bs) (raw-merged depth n tiles start mid raw h)
-    ∙ length-stored_bytes depth.bitpix (merged depth n tiles) h.known
-    ∙ ap (λ k. k * (depth.bitpix / 8)) (length-merged depth n tiles)
+-- how many bytes two halves are
+pub length_of_halves : (n width start mid all : ℕ) → 1 ≤ n → start ≡ 0 → mid ≡ start + 2 ^ (n - 1) * (2 * (2 ^ (n - 1) * width)) → all ≡ mid + 2 ^ (n - 1) * (2 * (2 ^ (n - 1) * width)) → all ≡ 4 ^ n * width
+length_of_halves n width start mid all some none lower upper =
+    let square : 2 ^ n * 2 ^ n ≡ 4 ^ n = square_of_side n in
+    let two : 2 * 2 ^ (n - 1) ≡ 2 ^ n = two_halves n some in
+    rw (← square, ← two) (omega arith)
 
+-- the numbers that they hold
 pub numbers_from-raw : (depth : PixelDepth) (n : ℕ) (tiles : FourTiles) (start mid raw : List ℕ) → Halves depth n tiles start mid raw → numbers_from depth.bitpix (4 ^ n) raw ≡ merged depth n tiles
 numbers_from-raw depth n tiles start mid raw h =
     ap₂ (λ (k : ℕ) (bs : List ℕ). numbers_from depth.bitpix k bs) (sym (length-merged depth n tiles)) (raw-merged depth n tiles start mid raw h)

@@ -1,9 +1,8 @@
 pub mod Rows
 pub mod Tiles
 pub mod Lines
-pub mod Quadrants
-pub mod Pyramid
 pub mod TwoRows
 pub mod Halves
+pub mod Kept
 pub mod RowAbove
 pub mod HalvedRow

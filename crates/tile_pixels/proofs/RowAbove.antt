@@ -8,7 +8,7 @@ use Rattle.parent_rule.specs.Combined.{combined}
 use Rattle.parent_rule.specs.declared.combine.Combine.{Combine}
 use Rattle.tile_pixels.specs.Stored.{number_bytes, stored_at, stored_bytes}
 use Rattle.tile_pixels.specs.Lines.{row_above}
-use Rattle.tile_pixels.proofs.Quadrants.{same_four}
+use Rattle.tile_pixels.specs.QuadrantLaws.{same_four}
 use Rattle.tile_pixels.specs.StoredLaws.{AreBytes, stored_bytes-nil}
 use Rattle.byteorder.specs.Endian.{little_number}
 use Rattle.tile_pixels.proofs.Rows.{stored_more}

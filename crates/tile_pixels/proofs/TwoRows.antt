@@ -14,7 +14,7 @@ use Rattle.tile_pixels.specs.Stored.{numbers_from, stored_at}
 use Rattle.tile_pixels.specs.StoredLaws.{get_or-numbers_from}
 use Rattle.tile_pixels.specs.Tile.{PixelTile, HasShape, pixel_in}
 use Rattle.tile_pixels.specs.Lines.{number_in, number_over, half_row, row_above}
-use Rattle.tile_pixels.proofs.Quadrants.{same_four}
+use Rattle.tile_pixels.specs.QuadrantLaws.{same_four}
 use Rattle.tile_pixels.proofs.RowAbove.{length-row_above, get_or-row_above}
 
 -- a tile has twice as many columns as a half line

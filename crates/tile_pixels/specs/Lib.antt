@@ -3,4 +3,7 @@ pub mod StoredLaws
 pub mod Tile
 pub mod Lines
 pub mod Merge
+pub mod Quadrants
+pub mod QuadrantLaws
+pub mod MergeLaws
 pub mod Block

@@ -1,15 +1,17 @@
 //! The tile above four tiles.
-ghost use Rattle.std.specs.Prelude.{◌≡◌, ℕ, ◌-◌, ◌*◌, ◌/◌, ◌^◌, ◌<◌, ◌≤◌, List, ◌++◌, length, All, IfOk, option_map};
+ghost use Rattle.std.specs.Prelude.{◌≡◌, ℕ, ◌+◌, ◌-◌, ◌*◌, ◌/◌, ◌^◌, ◌<◌, ◌≤◌, List, ℤ, Option, ◌++◌, length, All, IfOk, option_map};
 ghost use Rattle.std.specs.Option.{ForSome};
 ghost use Rattle.parent_rule.specs.Depth.{IsNumber};
 ghost use Rattle.pyramid_model.specs.Shape.{PyramidShape, LeafMap};
 ghost use Rattle.pyramid_model.specs.Tile.{pixels};
 ghost use Rattle.tile_pixels.specs.Lines.{half_row, half_rows};
-ghost use Rattle.tile_pixels.specs.Merge.{merged, ShowsChildren};
+ghost use Rattle.tile_pixels.specs.Merge.{FourTiles, merged, ShowsChildren};
+ghost use Rattle.tile_pixels.specs.Quadrants.{AreOver, Fits, IsOver};
 ghost use Rattle.tile_pixels.specs.Stored.{stored_bytes};
 ghost use Rattle.tile_pixels.specs.Tile.{HasShape};
 
 use crate::above::store_row_above;
+use crate::quadrant::{Quadrant, Quadrants};
 use crate::row::write_row;
 use crate::tile::Tile;
 use parent_rule::{Depth, Permit};
@@ -59,15 +61,52 @@ impl Tile {
             })
             → IfOk result (λ tile. tile.numbers ≡ pixels shape leaves k p) }
     {
+        let quadrants = Quadrants {
+            first: Quadrant::Merged(c0),
+            second: Quadrant::Merged(c1),
+            third: Quadrant::Merged(c2),
+            fourth: Quadrant::Merged(c3),
+        };
+        Tile::merge_quadrants(alloc, permit, depth, n, quadrants)
+    }
+
+    /// The tile above four tiles, as `merge` makes it, where some quadrants may be kept: those of a tile that was merged
+    /// over the same child. The permit is spent also by a refusal.
+    ///
+    /// # Errors
+    ///
+    /// `AllocError` where there is no memory for the new tile.
+    pub fn merge_quadrants(
+        alloc: Global,
+        permit: Permit,
+        depth: Depth,
+        n: u8,
+        quadrants: Quadrants<'_>,
+    ) -> Result<Tile, AllocError>
+        requires least_n { 1 ≤ n }
+        requires greatest_n { n ≤ 9 }
+        requires first { Fits depth n quadrants.first }
+        requires second { Fits depth n quadrants.second }
+        requires third { Fits depth n quadrants.third }
+        requires fourth { Fits depth n quadrants.fourth }
+        ensures tile { IfOk result (λ tile. (tiles : FourTiles) → AreOver depth n tiles quadrants.entry
+            → tile ≡ record { depth = depth; n = n; numbers = merged depth n tiles }) }
+    {
         permit.spend();
+        let Quadrants {
+            first,
+            second,
+            third,
+            fourth,
+        } = quadrants;
         let half = half_side(n);
         let mut numbers = [0; 1280];
         let mut bytes = [0; 2048];
         let numbers = &mut numbers[..5 * half];
         let bytes = &mut bytes[..half * depth.bytes()];
         let mut raw = Vec::with_capacity(alloc, bytes.len() * 4 * half)?;
-        append_rows(depth, n, c1, c3, numbers, bytes, &mut raw)?;
-        append_rows(depth, n, c0, c2, numbers, bytes, &mut raw)?;
+        append_rows(depth, n, second, fourth, numbers, bytes, &mut raw)?;
+        append_rows(depth, n, first, third, numbers, bytes, &mut raw)?;
         Ok(Tile::of_raw(raw, depth, n))
     }
 }
@@ -84,26 +123,27 @@ fn half_side(n: u8) -> usize
     2usize.pow(u32::from(n - 1))
 }
 
-// Appends half of the lines of the tile above, bottom line first: those over two children side by side.
+// Appends half of the lines of the tile above, bottom line first: those of two quadrants side by side.
 fn append_rows(
     depth: Depth,
     n: u8,
-    left: Option<&Tile>,
-    right: Option<&Tile>,
+    left: Quadrant<'_>,
+    right: Quadrant<'_>,
     numbers: &mut [i64],
     bytes: &mut [u8],
     raw: &mut Vec<u8>,
 ) -> Result<(), AllocError>
     requires least_n { 1 ≤ n }
     requires greatest_n { n ≤ 9 }
-    requires left { ForSome left (λ t. HasShape t.now depth n) }
-    requires right { ForSome right (λ t. HasShape t.now depth n) }
+    requires left { Fits depth n left }
+    requires right { Fits depth n right }
     requires numbers { length numbers.old ≡ 5 * 2 ^ (n - 1) }
     requires bytes { length bytes.old ≡ 2 ^ (n - 1) * (depth.bitpix / 8) }
-    ensures bytes { IfOk result (λ _. raw.new.items ≡ raw.old.items ++ stored_bytes depth.bitpix
-        (half_rows depth n (option_map (λ t. t.now.numbers) left.entry) (option_map (λ t. t.now.numbers) right.entry) (2 ^ (n - 1)))) }
-    ensures range { IfOk result (λ _. All (IsNumber depth.bitpix)
-        (half_rows depth n (option_map (λ t. t.now.numbers) left.entry) (option_map (λ t. t.now.numbers) right.entry) (2 ^ (n - 1)))) }
+    ensures length { IfOk result (λ _. length raw.new.items ≡ length raw.old.items + 2 ^ (n - 1) * (2 * (2 ^ (n - 1) * (depth.bitpix / 8)))) }
+    ensures bytes { IfOk result (λ _. (l r : Option (List ℤ)) → IsOver depth n l left.entry → IsOver depth n r right.entry
+        → raw.new.items ≡ raw.old.items ++ stored_bytes depth.bitpix (half_rows depth n l r (2 ^ (n - 1)))) }
+    ensures range { IfOk result (λ _. (l r : Option (List ℤ)) → IsOver depth n l left.entry → IsOver depth n r right.entry
+        → All (IsNumber depth.bitpix) (half_rows depth n l r (2 ^ (n - 1)))) }
 {
     let half = half_side(n);
     for line in 0..half {
@@ -113,11 +153,11 @@ fn append_rows(
     Ok(())
 }
 
-// Appends the row above rows `2 * row` and `2 * row + 1` of a child.
+// Appends a line of a quadrant, counted from 0 at the quadrant's top.
 fn append_row(
     depth: Depth,
     n: u8,
-    child: Option<&Tile>,
+    quadrant: Quadrant<'_>,
     row: usize,
     numbers: &mut [i64],
     bytes: &mut [u8],
@@ -125,15 +165,22 @@ fn append_row(
 ) -> Result<(), AllocError>
     requires least_n { 1 ≤ n }
     requires greatest_n { n ≤ 9 }
-    requires child { ForSome child (λ t. HasShape t.now depth n) }
+    requires quadrant { Fits depth n quadrant }
     requires row { row < 2 ^ (n - 1) }
     requires numbers { length numbers.old ≡ 5 * 2 ^ (n - 1) }
     requires bytes { length bytes.old ≡ 2 ^ (n - 1) * (depth.bitpix / 8) }
-    ensures bytes { IfOk result (λ _. raw.new.items ≡ raw.old.items ++ stored_bytes depth.bitpix (half_row depth n (option_map (λ t. t.now.numbers) child.entry) row)) }
-    ensures range { All (IsNumber depth.bitpix) (half_row depth n (option_map (λ t. t.now.numbers) child.entry) row) }
+    ensures length { IfOk result (λ _. length raw.new.items ≡ length raw.old.items + 2 ^ (n - 1) * (depth.bitpix / 8)) }
+    ensures bytes { IfOk result (λ _. (child : Option (List ℤ)) → IsOver depth n child quadrant.entry
+        → raw.new.items ≡ raw.old.items ++ stored_bytes depth.bitpix (half_row depth n child row)) }
+    ensures range { (child : Option (List ℤ)) → IsOver depth n child quadrant.entry → All (IsNumber depth.bitpix) (half_row depth n child row) }
 {
-    store_half_row(depth, n, child, row, numbers, bytes);
-    raw.extend_from_slice(bytes)
+    match quadrant {
+        Quadrant::Kept(tile, i) => return raw.extend_from_slice(tile.quadrant_line(i, row)),
+        Quadrant::Merged(child) => {
+            store_half_row(depth, n, child, row, numbers, bytes);
+            return raw.extend_from_slice(bytes);
+        }
+    }
 }
 
 // Stores the row above rows `2 * row` and `2 * row + 1` of a child: blank where it isn't given.

@@ -1,11 +1,10 @@
-use Rattle.std.proofs.Common.{◌≡◌, ◌<◌, List, [], ◌∷◌, length, drop, refl, ap, sym, ◌∙◌, arith}
+use Rattle.std.proofs.Common.{subst, ◌≡◌, ◌<◌, List, [], ◌∷◌, length, drop, refl, ap, sym, ◌∙◌, arith}
 use Rattle.std.specs.Prelude.{slice_get, slice_set, slice_index_or, Some}
 use Rattle.std.specs.Arc.{arc_value}
 use Rattle.std.specs.declared.sync.Arc.{Arc}
 use Rattle.std.specs.declared.alloc.Global.{Global}
 use Rattle.hips_catalog.specs.Rows.{Source}
-use Rattle.hips_catalog.specs.Tiles.{sources, rows_at}
-use Rattle.hips_catalog.proofs.Listed.{Changed, change, taken_rows, taken_length, still_within}
+use Rattle.hips_catalog.specs.Tiles.{sources, rows_at, HasNewRows}
 use Rattle.hips_catalog.proofs.tile.exchange.Goals as goal
 
 first_set : (rows : List (Arc Source Global)) (row : Arc Source Global) → 0 < length rows → sources (slice_set rows 0 row) ≡ arc_value row ∷ drop 1 (sources rows)
@@ -21,31 +20,28 @@ some_rows ss rows e h = omega (arith, e, h)
 
 pub exchange-first-requires : goal.exchange-first-requires
 exchange-first-requires c =
-    some_rows (rows_at c.args.tiles.now c.args.cell.order c.args.cell.npix) c.swap.new.item.rows
-    (taken_length c.args.tiles.now c.args.at c.args.cell c.swap.new.item c.swap.new.item c.requires.listed c.requires.there c.swap.ensures.item) c.requires.some
+    some_rows (rows_at c.args.tiles.now c.args.cell.order c.args.cell.npix) c.lift-tile.result.rows
+    c.lift-tile.ensures.count c.requires.some
 
-pub swap-requires-2 : goal.swap-requires-2
-swap-requires-2 c = still_within c.args.tiles.now c.swap.new.self c.args.at c.args.cell _ c.requires.there c.swap.ensures.items
-
-done : (c : goal.Joined-tile-2) → Changed c.args.tiles.now c.swap-2.new.self c.args.cell (sources c.exchange-first.new.self)
+done : (c : goal.Joined-tile-2) → HasNewRows c.args.cell (sources c.exchange-first.new.self) c.args.tiles.now c.swap.new.self
 done c =
-    change c.args.tiles.now c.swap.new.self c.swap-2.new.self c.args.at c.args.cell _ c.swap.new.item (record { cell = c.swap.new.item.cell; rows = c.exchange-first.new.self }) c.swap.new.item
-    c.requires.listed c.requires.there c.swap.ensures.item c.swap.ensures.items refl c.swap-2.ensures.items
+    subst (λ tiles. HasNewRows c.args.cell (sources c.exchange-first.new.self) c.args.tiles.now tiles) (sym c.swap.ensures.items)
+    (c.lift-tile.ensures.back (record { cell = c.lift-tile.result.cell; rows = c.exchange-first.new.self }) refl)
 
 pub returns-clause-rows : goal.returns-clause-rows
 returns-clause-rows c =
     (done c).rows_are ∙ ap sources c.exchange-first.ensures.items
-    ∙ first_set c.swap.new.item.rows c.args.row
-    (some_rows (rows_at c.args.tiles.now c.args.cell.order c.args.cell.npix) c.swap.new.item.rows
-    (taken_length c.args.tiles.now c.args.at c.args.cell c.swap.new.item c.swap.new.item c.requires.listed c.requires.there c.swap.ensures.item) c.requires.some)
-    ∙ ap (λ ys. arc_value c.args.row ∷ drop 1 ys) (sym (taken_rows c.args.tiles.now c.args.at c.args.cell c.swap.new.item c.swap.new.item c.requires.listed c.requires.there c.swap.ensures.item))
+    ∙ first_set c.lift-tile.result.rows c.args.row
+    (some_rows (rows_at c.args.tiles.now c.args.cell.order c.args.cell.npix) c.lift-tile.result.rows
+    c.lift-tile.ensures.count c.requires.some)
+    ∙ ap (λ ys. arc_value c.args.row ∷ drop 1 ys) (sym c.lift-tile.ensures.rows)
 
 pub returns-clause-first : goal.returns-clause-first
 returns-clause-first c =
-    first_out c.swap.new.item.rows c.exchange-first.result
-    (some_rows (rows_at c.args.tiles.now c.args.cell.order c.args.cell.npix) c.swap.new.item.rows
-    (taken_length c.args.tiles.now c.args.at c.args.cell c.swap.new.item c.swap.new.item c.requires.listed c.requires.there c.swap.ensures.item) c.requires.some) c.exchange-first.ensures.item
-    ∙ ap (λ ys. slice_get ys 0) (sym (taken_rows c.args.tiles.now c.args.at c.args.cell c.swap.new.item c.swap.new.item c.requires.listed c.requires.there c.swap.ensures.item))
+    first_out c.lift-tile.result.rows c.exchange-first.result
+    (some_rows (rows_at c.args.tiles.now c.args.cell.order c.args.cell.npix) c.lift-tile.result.rows
+    c.lift-tile.ensures.count c.requires.some) c.exchange-first.ensures.item
+    ∙ ap (λ ys. slice_get ys 0) (sym c.lift-tile.ensures.rows)
 
 pub returns-clause-others : goal.returns-clause-others
 returns-clause-others c = (done c).others

@@ -4,10 +4,10 @@ use Rattle.std.specs.Arc.{arc_value}
 use Rattle.std.specs.List.{insert}
 use Rattle.balanced_list.specs.Search.{leading}
 use Rattle.hips_catalog.specs.Rows.{Source, is_better, placed}
-use Rattle.hips_catalog.specs.Tiles.{sources, rows_at}
+use Rattle.hips_catalog.specs.Tiles.{sources, rows_at, HasNewRows}
 use Rattle.hips_catalog.proofs.Places.{insert_placed}
 use Rattle.hips_catalog.proofs.Full.{placed_length, insert_last, take_some, still_full}
-use Rattle.hips_catalog.proofs.Listed.{Changed, change, taken_rows, taken_length, still_within, leading_within}
+use Rattle.hips_catalog.proofs.Listed.{leading_within}
 use Rattle.hips_catalog.proofs.tile.offer_to.Goals as goal
 
 at_end : (x : Source) (ss : List Source) (i n : ℕ) → i ≡ leading (λ s. is_better s x) ss → i ≡ n → length ss ≤ n → (take n (placed x ss) ≡ ss) × (slice_get (placed x ss) n ≡ Some x)
@@ -28,35 +28,26 @@ returns-then-i-room-clause-out c =
 
 pub put_among-last-requires-clause-place : goal.put_among-last-requires-clause-place
 put_among-last-requires-clause-place c =
-    c.requires.place ∙ ap (leading (λ s. is_better s (arc_value c.args.row))) (taken_rows c.args.tiles.now c.args.at c.args.cell c.swap.new.item c.swap.new.item c.requires.listed c.requires.there c.swap.ensures.item)
+    c.requires.place ∙ ap (leading (λ s. is_better s (arc_value c.args.row))) c.lift-tile.ensures.rows
 
 pub put_among-last-requires-clause-room : goal.put_among-last-requires-clause-room
 put_among-last-requires-clause-room c =
-    subst (λ ys. length ys ≤ c.args.room) (taken_rows c.args.tiles.now c.args.at c.args.cell c.swap.new.item c.swap.new.item c.requires.listed c.requires.there c.swap.ensures.item) c.requires.room
+    subst (λ ys. length ys ≤ c.args.room) c.lift-tile.ensures.rows c.requires.room
 
-pub put_among-last-requires-clause-fits : goal.put_among-last-requires-clause-fits
-put_among-last-requires-clause-fits c =
-    let e = taken_length c.args.tiles.now c.args.at c.args.cell c.swap.new.item c.swap.new.item c.requires.listed c.requires.there c.swap.ensures.item in
-    let h : length (rows_at c.args.tiles.now c.args.cell.order c.args.cell.npix) + 1 < 18446744073709551616 = c.requires.fits in
-    omega (arith, e, h)
-
-pub swap-requires-2 : goal.swap-requires-2
-swap-requires-2 c = still_within c.args.tiles.now c.swap.new.self c.args.at c.args.cell _ c.requires.there c.swap.ensures.items
-
-done : (c : goal.Joined-tile-2) → Changed c.args.tiles.now c.swap-2.new.self c.args.cell (sources c.put_among-last.new.rows)
+done : (c : goal.Joined-tile-2) → HasNewRows c.args.cell (sources c.put_among-last.new.rows) c.args.tiles.now c.swap.new.self
 done c =
-    change c.args.tiles.now c.swap.new.self c.swap-2.new.self c.args.at c.args.cell _ c.swap.new.item (record { cell = c.swap.new.item.cell; rows = c.put_among-last.new.rows }) c.swap.new.item
-    c.requires.listed c.requires.there c.swap.ensures.item c.swap.ensures.items refl c.swap-2.ensures.items
+    subst (λ tiles. HasNewRows c.args.cell (sources c.put_among-last.new.rows) c.args.tiles.now tiles) (sym c.swap.ensures.items)
+    (c.lift-tile.ensures.back (record { cell = c.lift-tile.result.cell; rows = c.put_among-last.new.rows }) refl)
 
 pub returns-clause-rows : goal.returns-clause-rows
 returns-clause-rows c =
     (done c).rows_are ∙ c.put_among-last.ensures.rows
-    ∙ ap (λ ys. take c.args.room (placed (arc_value c.args.row) ys)) (sym (taken_rows c.args.tiles.now c.args.at c.args.cell c.swap.new.item c.swap.new.item c.requires.listed c.requires.there c.swap.ensures.item))
+    ∙ ap (λ ys. take c.args.room (placed (arc_value c.args.row) ys)) (sym c.lift-tile.ensures.rows)
 
 pub returns-clause-out : goal.returns-clause-out
 returns-clause-out c =
     c.put_among-last.ensures.out
-    ∙ ap (λ ys. slice_get (placed (arc_value c.args.row) ys) c.args.room) (sym (taken_rows c.args.tiles.now c.args.at c.args.cell c.swap.new.item c.swap.new.item c.requires.listed c.requires.there c.swap.ensures.item))
+    ∙ ap (λ ys. slice_get (placed (arc_value c.args.row) ys) c.args.room) (sym c.lift-tile.ensures.rows)
 
 pub returns-clause-others : goal.returns-clause-others
 returns-clause-others c = (done c).others
@@ -71,5 +62,5 @@ some_placed x ss after n h e =
 
 pub returns-clause-full : goal.returns-clause-full
 returns-clause-full c =
-    still_full c.args.tiles.now c.swap-2.new.self c.args.cell.order c.args.cell.npix (done c).cells (done c).others
-    (some_placed (arc_value c.args.row) (sources c.swap.new.item.rows) _ c.args.room c.requires.some ((done c).rows_are ∙ c.put_among-last.ensures.rows))
+    still_full c.args.tiles.now c.swap.new.self c.args.cell.order c.args.cell.npix (done c).cells (done c).others
+    (some_placed (arc_value c.args.row) (sources c.lift-tile.result.rows) _ c.args.room c.requires.some ((done c).rows_are ∙ c.put_among-last.ensures.rows))

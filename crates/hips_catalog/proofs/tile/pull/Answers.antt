@@ -3,12 +3,8 @@ use Rattle.std.specs.Prelude.{slice_get, IsSome}
 use Rattle.std.specs.Arc.{arc_value}
 use Rattle.hips_catalog.specs.Rows.{Source}
 use Rattle.hips_catalog.specs.Tiles.{rows_at}
-use Rattle.hips_catalog.proofs.Listed.{gap_rows}
 use Rattle.hips_catalog.proofs.Full.{insert_some, still_full_two}
 use Rattle.hips_catalog.proofs.tile.pull.Goals as goal
-
-not_within : (ss : List Source) (i : ℕ) → ss ≡ [] → i < length ss → ⊥
-not_within ss i e h = let z : length ss ≡ 0 = ap length e in absurd (omega (arith, z, h))
 
 no_first : (ss : List Source) → ss ≡ [] → IsSome (slice_get ss 0) → ⊥
 no_first ss e h = let g : IsSome {T = Source} (slice_get {X = Source} [] 0) = subst (λ ys. IsSome (slice_get ys 0)) e h in absurd (grind (arith, g))
@@ -23,25 +19,19 @@ deeper j k P e h = let f : j ≡ k = h.0 in absurd (omega (arith, e, f))
 higher : (j k : ℕ) (P : Type 0) → j ≡ k + 1 → ¬ ((k ≡ j) × P)
 higher j k P e h = let f : k ≡ j = h.0 in absurd (omega (arith, e, f))
 
+pub with_place-upper-requires-clause-some : goal.with_place-upper-requires-clause-some
+with_place-upper-requires-clause-some c = let h : c.args.i < length (rows_at c.args.tiles.now c.args.cell.order c.args.cell.npix) = c.requires.place in omega (arith, h)
+
+pub with_place-lower-requires-clause-some : goal.with_place-lower-requires-clause-some
+with_place-lower-requires-clause-some c = has_some (rows_at c.args.tiles.now c.args.child.order c.args.child.npix) c.requires.first
+
 pub exchange-best-requires-clause-some : goal.exchange-best-requires-clause-some
 exchange-best-requires-clause-some c =
     let e = c.take-dead.ensures.others c.args.child.order c.args.child.npix (deeper c.args.child.order c.args.cell.order (c.args.child.npix ≡ c.args.cell.npix) c.requires.orders) in
     subst (λ ys. 0 < length ys) (sym e) (has_some (rows_at c.args.tiles.now c.args.child.order c.args.child.npix) c.requires.first)
 
-pub returns-in-Err-clause-cell : goal.returns-in-Err-clause-cell
-returns-in-Err-clause-cell c z e = absurd (not_within _ c.args.i (gap_rows c.args.tiles.now c.in-Err.field-0 c.args.cell c.requires.listed c.in-Err.ensures.gap) c.requires.place)
-
-pub returns-in-Err-clause-child : goal.returns-in-Err-clause-child
-returns-in-Err-clause-child c = absurd (not_within _ c.args.i (gap_rows c.args.tiles.now c.in-Err.field-0 c.args.cell c.requires.listed c.in-Err.ensures.gap) c.requires.place)
-
-pub returns-in-Err-find-clause-cell : goal.returns-in-Err-find-clause-cell
-returns-in-Err-find-clause-cell c z e = absurd (no_first _ (gap_rows c.args.tiles.now c.in-Err-find.field-0 c.args.child c.requires.listed c.in-Err-find.ensures.gap) c.requires.first)
-
-pub returns-in-Err-find-clause-child : goal.returns-in-Err-find-clause-child
-returns-in-Err-find-clause-child c = absurd (no_first _ (gap_rows c.args.tiles.now c.in-Err-find.field-0 c.args.child c.requires.listed c.in-Err-find.ensures.gap) c.requires.first)
-
-pub returns-in-Ok-find-clause-full : goal.returns-in-Ok-find-clause-full
-returns-in-Ok-find-clause-full c =
+pub returns-clause-full : goal.returns-clause-full
+returns-clause-full c =
     let apart = deeper c.args.child.order c.args.cell.order (c.args.child.npix ≡ c.args.cell.npix) c.requires.orders in
     still_full_two c.args.tiles.now c.put.new.tiles c.args.cell c.args.child
     (c.put.ensures.cells ∙ c.exchange-best.ensures.cells ∙ c.take-dead.ensures.cells)

@@ -1,6 +1,6 @@
 use Rattle.std.proofs.Common.{◌≡◌, inl, inr, [], ◌∷◌, ◌++◌, None, Err, refl, sym, ap, ◌∙◌, arith}
-use Rattle.hips_place.specs.Place.{counts_of}
-use Rattle.hips_place.proofs.PlaceLemmas.{begins_place, one_more, goes_first, goes_more, goes_most, goes_as, place_of, place_as, place_refused, done_wants, wanting_wants, ends_sound, ends_refused}
+use Rattle.hips_place.specs.Place.{door_of}
+use Rattle.hips_place.proofs.PlaceLemmas.{begins_place, one_more, goes_first, goes_more, goes_most, goes_as, place_took, place_refused, ends_sound, ends_refused}
 use Rattle.hips_place.proofs.place.serve_place.Goals as goal
 
 pub loop-count-init : goal.loop-count-init
@@ -40,22 +40,19 @@ pub returns-in-Ok-None-clause-place : goal.returns-in-Ok-None-clause-place
 returns-in-Ok-None-clause-place g c =
     let s = c.loop-count.invariant.0 in
     let none = rw c.in-Ok-None.field-0-is at c.in-Ok-None.ensures.next in
-    let end = c.say_ended.ensures ∙ c.end_of.ensures in
     record {
       owns = s.owns;
       goes = goes_as (g.B.Board.content c.args.board.now) (g.B.Board.content c.loop-count.board) (g.B.Board.content c.serve_next.new.board) c.loop-count.count c.args.most s.owns s.goes none.2 (omega arith);
-      place = λ all. place_as (g.B.Board.content c.args.board.now) (g.B.Board.content c.loop-count.board) (g.B.Board.content c.serve_next.new.board)
-          (g.D.Door.connections c.args.door.now) (g.D.Door.connections c.loop-count.door) (g.D.Door.connections c.serve_next.new.door)
-          (counts_of (g.D.Door.faults c.args.door.now) (g.D.Door.wants c.args.door.now)) (counts_of (g.D.Door.faults c.serve_next.new.door) (g.D.Door.wants c.serve_next.new.door)) c.loop-count.count c.args.most c.loop-count.wanted c.loop-count.frame c.say_ended.result
-          s.owns (s.so_far all) none.2 none.1 (omega arith) (λ is. inr none.0) (λ is sound. inr none.0)
-          (λ is. done_wants c.loop-count.wanted (sym end ∙ is)) (λ is. inr (wanting_wants c.loop-count.wanted (sym end ∙ is)));
+      place = λ all. place_took (g.B.Board.content c.args.board.now) (g.B.Board.content c.loop-count.board) (g.B.Board.content c.serve_next.new.board)
+          (door_of g.D.Door c.args.door.now) (door_of g.D.Door c.serve_next.new.door) (g.D.Door.connections c.loop-count.door) c.loop-count.count c.args.most c.loop-count.wanted c.loop-count.frame c.say_ended.result
+          s.owns (s.so_far all) none.2 none.1 (omega arith) (c.say_ended.ensures ∙ c.end_of.ensures) (inr none.0);
     }
 
 pub returns-in-Ok-None-clause-ends_by : goal.returns-in-Ok-None-clause-ends_by
 returns-in-Ok-None-clause-ends_by g c =
     let s = c.loop-count.invariant.0 in
     let e = c.in-Ok-None.ensures.sound in
-    ends_sound (counts_of (g.D.Door.faults c.args.door.now) (g.D.Door.wants c.args.door.now)) (counts_of (g.D.Door.faults c.serve_next.new.door) (g.D.Door.wants c.serve_next.new.door)) c.loop-count.wanted c.say_ended.result
+    ends_sound (door_of g.D.Door c.args.door.now) (door_of g.D.Door c.serve_next.new.door) c.loop-count.wanted c.say_ended.result
     (c.say_ended.ensures ∙ c.end_of.ensures) (e.0 ∙ s.no_faults) (e.1 ∙ s.no_wants)
 
 pub returns-in-Err-clause-place : goal.returns-in-Err-clause-place
@@ -66,9 +63,8 @@ returns-in-Err-clause-place g c =
       owns = s.owns;
       goes = goes_as (g.B.Board.content c.args.board.now) (g.B.Board.content c.loop-count.board) (g.B.Board.content c.serve_next.new.board) c.loop-count.count c.args.most s.owns s.goes e.kept.1 (omega arith);
       place = λ all. place_refused (g.B.Board.content c.args.board.now) (g.B.Board.content c.loop-count.board) (g.B.Board.content c.serve_next.new.board)
-          (g.D.Door.connections c.args.door.now) (g.D.Door.connections c.loop-count.door) (g.D.Door.connections c.serve_next.new.door)
-          (counts_of (g.D.Door.faults c.args.door.now) (g.D.Door.wants c.args.door.now)) (counts_of (g.D.Door.faults c.serve_next.new.door) (g.D.Door.wants c.serve_next.new.door)) c.loop-count.count c.args.most c.loop-count.wanted c.loop-count.frame c.in-Err.fault c.say_ended-in-Err.result
-          s.owns (s.so_far all) e.kept.1 e.kept.0 (omega arith) (λ is. c.say_ended-in-Err.ensures ∙ c.end_by.ensures.failed is) (λ is. c.say_ended-in-Err.ensures ∙ c.end_by.ensures.wanted is)
+          (door_of g.D.Door c.args.door.now) (door_of g.D.Door c.serve_next.new.door) (g.D.Door.connections c.loop-count.door) c.loop-count.count c.args.most c.loop-count.wanted c.loop-count.frame c.say_ended-in-Err.result
+          s.owns (s.so_far all) e.kept.1 e.kept.0 (omega arith) c.in-Err.fault (λ is. c.say_ended-in-Err.ensures ∙ c.end_by.ensures.failed is) (λ is. c.say_ended-in-Err.ensures ∙ c.end_by.ensures.wanted is)
           (λ is. rw (← s.no_wants) (e.wanted (ap (λ why. Err why) is)).0);
     }
 
@@ -76,7 +72,7 @@ pub returns-in-Err-clause-ends_by : goal.returns-in-Err-clause-ends_by
 returns-in-Err-clause-ends_by g c =
     let s = c.loop-count.invariant.0 in
     let e = c.in-Err.ensures in
-    ends_refused (counts_of (g.D.Door.faults c.args.door.now) (g.D.Door.wants c.args.door.now)) (counts_of (g.D.Door.faults c.serve_next.new.door) (g.D.Door.wants c.serve_next.new.door)) c.in-Err.fault c.say_ended-in-Err.result
+    ends_refused (door_of g.D.Door c.args.door.now) (door_of g.D.Door c.serve_next.new.door) c.in-Err.fault c.say_ended-in-Err.result
     (λ is. c.say_ended-in-Err.ensures ∙ c.end_by.ensures.failed is) (λ is. c.say_ended-in-Err.ensures ∙ c.end_by.ensures.wanted is)
     (λ is. let r = e.failed (ap (λ why. Err why) is) in (rw (← s.no_faults) r.0, r.1 ∙ s.no_wants)) (λ is. let r = e.wanted (ap (λ why. Err why) is) in (rw (← s.no_wants) r.0, r.1 ∙ s.no_faults))
 
@@ -84,18 +80,16 @@ pub returns-clause-place : goal.returns-clause-place
 returns-clause-place g c =
     let s = c.loop-count.invariant.0 in
     let whole : c.loop-count.count ≡ c.args.most = omega arith in
-    let end = c.say_ended-2.ensures ∙ c.end_of-2.ensures in
     record {
       owns = s.owns;
       goes = goes_most (g.B.Board.content c.args.board.now) (g.B.Board.content c.loop-count.board) c.loop-count.count c.args.most s.owns s.goes (omega arith);
-      place = λ all. place_of (g.B.Board.content c.args.board.now) (g.B.Board.content c.loop-count.board) (g.D.Door.connections c.args.door.now) (g.D.Door.connections c.loop-count.door)
-          (counts_of (g.D.Door.faults c.args.door.now) (g.D.Door.wants c.args.door.now)) (counts_of (g.D.Door.faults c.loop-count.door) (g.D.Door.wants c.loop-count.door)) c.loop-count.count c.args.most c.loop-count.wanted c.loop-count.frame c.say_ended-2.result
-          s.owns (s.so_far all) (omega arith) (λ is. inl whole) (λ is sound. inl whole)
-          (λ is. done_wants c.loop-count.wanted (sym end ∙ is)) (λ is. inr (wanting_wants c.loop-count.wanted (sym end ∙ is)));
+      place = λ all. place_took (g.B.Board.content c.args.board.now) (g.B.Board.content c.loop-count.board) (g.B.Board.content c.loop-count.board)
+          (door_of g.D.Door c.args.door.now) (door_of g.D.Door c.loop-count.door) (g.D.Door.connections c.loop-count.door) c.loop-count.count c.args.most c.loop-count.wanted c.loop-count.frame c.say_ended-2.result
+          s.owns (s.so_far all) refl refl (omega arith) (c.say_ended-2.ensures ∙ c.end_of-2.ensures) (inl whole);
     }
 
 pub returns-clause-ends_by : goal.returns-clause-ends_by
 returns-clause-ends_by g c =
     let s = c.loop-count.invariant.0 in
-    ends_sound (counts_of (g.D.Door.faults c.args.door.now) (g.D.Door.wants c.args.door.now)) (counts_of (g.D.Door.faults c.loop-count.door) (g.D.Door.wants c.loop-count.door)) c.loop-count.wanted c.say_ended-2.result
+    ends_sound (door_of g.D.Door c.args.door.now) (door_of g.D.Door c.loop-count.door) c.loop-count.wanted c.say_ended-2.result
     (c.say_ended-2.ensures ∙ c.end_of-2.ensures) s.no_faults s.no_wants

@@ -1,6 +1,6 @@
 use Rattle.std.proofs.Common.{map, take, drop, refl, ap, ◌∙◌}
 use Rattle.std.proofs.Math.Nat.{le_refl}
-use Rattle.hips_place.specs.Place.{SomeRises}
+use Rattle.hips_place.specs.Place.{SomeRises, door_of}
 use Rattle.survey_commands.specs.Serve.{RunsServe}
 use Rattle.hipsd_run.proofs.DoorsLemmas.{written_back, of_doors}
 use Rattle.hipsd_run.proofs.RunsLemmas.{is_used}
@@ -117,8 +117,8 @@ returns-in-Serve g c =
     (record {
       does = record {
         run = of_doors
-            (λ olds news. RunsServe (g.H.Shelf.files c.args.shelf.now) c.in-Serve.connections (map g.D.Door.connections (take c.in-Serve.places olds))
-            (map g.D.Door.connections (take c.in-Serve.places news)) c.run_serve.result (g.K.Sink.held c.args.sink.now) (g.K.Sink.held c.run_serve.new.sink)
+            (λ olds news. RunsServe (g.H.Shelf.files c.args.shelf.now) c.in-Serve.connections (map (door_of g.D.Door) (take c.in-Serve.places olds))
+            (map (door_of g.D.Door) (take c.in-Serve.places news)) c.run_serve.result (g.K.Sink.held c.args.sink.now) (g.K.Sink.held c.run_serve.new.sink)
             (g.K.Sink.flushed c.args.sink.now) (g.K.Sink.flushed c.run_serve.new.sink))
             _ _ _ _ old new done.run;
         beyond = ap (drop c.in-Serve.places) new ∙ done.beyond ∙ ap (drop c.in-Serve.places) old;

@@ -32,10 +32,10 @@ returns-in-Some-clause-verdict g c =
     let told : IfSome (g.H.Shelf.files c.args.shelf.now) (λ fs. Some c.in-Some.path ≡ fold (first_after survey fs) (first_path strays) paths) =
     subst (λ o. IfSome o (λ fs. Some c.in-Some.path ≡ fold (first_after survey fs) (first_path strays) paths)) c.shelf_strays.ensures.kept
     (subst (λ f. IfSome (g.H.Shelf.files c.shelf_strays.new.shelf) (λ fs. Some c.in-Some.path ≡ fold (first_after survey fs) f paths)) begun
-    (subst (λ r. IfSome (g.H.Shelf.files c.shelf_strays.new.shelf) (λ fs. r ≡ fold (first_after survey fs) c.first_path.result paths)) c.in-Some.is c.in_ok-path.ensures.first)) in
+    (subst (λ r. IfSome (g.H.Shelf.files c.shelf_strays.new.shelf) (λ fs. r ≡ fold (first_after survey fs) c.first_path.result paths)) c.in-Some.is c.in_ok-first.ensures.first)) in
     told_first survey (g.H.Shelf.files c.args.shelf.now) paths strays c.in-Some.path
     (λ text some. let at = c.file_count-count.ensures.each text some in (at.0, omega (arith, at.1, c.file_count-count.ensures.paths), at.2))
-    (subst (λ o. IfSome o IsPath) c.in-Some.is c.in_ok-path.ensures.path) c.in_ok-strays.ensures.strays told
+    (subst (λ o. IfSome o IsPath) c.in-Some.is c.in_ok-first.ensures.path) c.in_ok-strays.ensures.strays told
 
 pub returns-clause-verdict : goal.returns-clause-verdict
 returns-clause-verdict g c =
@@ -46,7 +46,7 @@ returns-clause-verdict g c =
     let told : IfSome (g.H.Shelf.files c.args.shelf.now) (λ fs. None ≡ fold (first_after survey fs) (first_path strays) paths) =
     subst (λ o. IfSome o (λ fs. None ≡ fold (first_after survey fs) (first_path strays) paths)) c.shelf_strays.ensures.kept
     (subst (λ f. IfSome (g.H.Shelf.files c.shelf_strays.new.shelf) (λ fs. None ≡ fold (first_after survey fs) f paths)) begun
-    (subst (λ r. IfSome (g.H.Shelf.files c.shelf_strays.new.shelf) (λ fs. r ≡ fold (first_after survey fs) c.first_path.result paths)) c.in-None.is c.in_ok-path.ensures.first)) in
+    (subst (λ r. IfSome (g.H.Shelf.files c.shelf_strays.new.shelf) (λ fs. r ≡ fold (first_after survey fs) c.first_path.result paths)) c.in-None.is c.in_ok-first.ensures.first)) in
     told_none survey (g.H.Shelf.files c.args.shelf.now) paths strays
     (λ text some. let at = c.file_count-count.ensures.each text some in (at.0, omega (arith, at.1, c.file_count-count.ensures.paths), at.2))
     c.in_ok-strays.ensures.strays told

@@ -1,6 +1,6 @@
 use Rattle.std.proofs.Common.{◌≡◌, ◌++◌, length, map, take, Ok, Err, refl, sym, ap, subst, arith}
 use Rattle.survey_core.specs.State.{StateContent}
-use Rattle.hips_place.specs.Place.{SomeRises}
+use Rattle.hips_place.specs.Place.{SomeRises, door_of}
 use Rattle.survey_commands.specs.Serve.{Serves}
 use Rattle.survey_commands.proofs.ServeLemmas.{first_of, rises_among}
 use Rattle.survey_commands.proofs.serve.run_serve.Goals as goal
@@ -18,9 +18,9 @@ returns-in-Ok-clause-run g c =
       Ok opened.0,
       (
         opened.1,
-        subst (λ xs. Serves opened.0 c.args.connections (map g.D.Door.connections xs) (map g.D.Door.connections (take c.args.places (c.serve_state.new.doors ++ split.result.1.now))) c.serve_state.result)
+        subst (λ xs. Serves opened.0 c.args.connections (map (door_of g.D.Door) xs) (map (door_of g.D.Door) (take c.args.places (c.serve_state.new.doors ++ split.result.1.now))) c.serve_state.result)
             split.ensures.front
-            (subst (λ xs. Serves opened.0 c.args.connections (map g.D.Door.connections split.result.0.now) (map g.D.Door.connections xs) c.serve_state.result) (sym new) served),
+            (subst (λ xs. Serves opened.0 c.args.connections (map (door_of g.D.Door) split.result.0.now) (map (door_of g.D.Door) xs) c.serve_state.result) (sym new) served),
         record { kept = refl; flushed = refl },
       ),
     )
@@ -34,5 +34,5 @@ returns-in-Ok-clause-door_fault g c = λ e.
 pub returns-in-Err-clause-run : goal.returns-in-Err-clause-run
 returns-in-Err-clause-run g c = (
   Err c.in-Err.refusal,
-  (c.in-Err.ensures.refused, ap (λ xs. map g.D.Door.connections (take c.args.places xs)) (sym c.split_at_mut-served.ensures.value), c.say_why.ensures.said),
+  (c.in-Err.ensures.refused, ap (λ xs. map (door_of g.D.Door) (take c.args.places xs)) (sym c.split_at_mut-served.ensures.value), c.say_why.ensures.said),
 )

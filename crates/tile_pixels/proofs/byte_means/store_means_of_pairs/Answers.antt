@@ -1,4 +1,4 @@
-use Rattle.std.proofs.Common.{◌≡◌, ◌+◌, ◌*◌, ◌/◌, ◌∙◌, ◌<◌, length, arith, pos}
+use Rattle.std.proofs.Common.{◌≡◌, ◌*◌, ◌/◌, ◌<◌, length, arith, pos}
 use Rattle.parent_rule.specs.declared.combine.Combine.TheVariants.{Mean}
 use Rattle.tile_pixels.proofs.RowAbove.{above_none, above_more, above_all, first_of_word, second_of_word}
 use Rattle.tile_pixels.proofs.Rows.{are_bytes}

@@ -1,5 +1,0 @@
-//! Tests of `http_frame`, over the finished crate: in it they would have it proved a second time.
-#![tactic(auto)]
-
-#[cfg(test)]
-mod tests;

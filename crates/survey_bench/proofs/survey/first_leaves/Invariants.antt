@@ -1,5 +1,0 @@
-use Rattle.edit_journal.specs.Leaves.{FitsLeaves}
-use Rattle.survey_bench.proofs.survey.first_leaves.Given as goal
-
-abbrev pub invariant-loop-i : goal.invariant-loop-i
-invariant-loop-i l = FitsLeaves l.shape l.store
