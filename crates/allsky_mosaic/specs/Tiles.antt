@@ -28,7 +28,7 @@ pub record IsSurvey (depth : PixelDepth) (n : ℕ) (shape : PyramidShape) : Type
   pub n_is : shape.n ≡ n
   pub top : 3 ≤ shape.top
 
--- tile of a cell of order 3: that of the survey's leaf map, there exactly where it exists
+-- tile of a cell of order 3: that of the survey's leaf map, there if and only if it exists
 abbrev pub ShowsCell : PyramidShape → LeafMap → List (ℕ × PixelTile) → ℕ → Type 0
 ShowsCell shape leaves tiles cell = Shows shape leaves 3 cell (option_map (λ tile. tile.numbers) (value_at cell tiles))
 

@@ -16,7 +16,7 @@ use tile_pixels::Tile;
 // to start the threads.
 const PIXELS_OF_THREADS: usize = 1 << 20;
 
-/// The mosaic of the tiles of order 3, as the stored bytes of its image, bottom line first; `None` exactly where there is
+/// The mosaic of the tiles of order 3, as the stored bytes of its image, bottom line first; `None` if and only if there is
 /// no tile. It is `27a` columns wide and `29a` lines high, where `a` is the width of a tile and at most 64; a wider tile is
 /// halved by the depth's way to combine until it has 64. Where the tiles are those of order 3 of a survey, it is the
 /// mosaic of the survey.

@@ -23,7 +23,7 @@ pub enum Call {
     Pin,
     /// The last state seen is held.
     Hold,
-    /// The held state is let go.
+    /// The held state is dropped.
     Release,
 }
 

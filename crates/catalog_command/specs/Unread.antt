@@ -20,6 +20,6 @@ IsFound held left Long = (most_bytes ≤ length held) × (place_of_feed (take mo
 IsFound held left Cut = (0 < length held) × (length held < most_bytes) × (place_of_feed held ≡ None) × IsAtEnd left
 IsFound held left End = (held ≡ []) × IsAtEnd left
 
--- what is left to be used, where it is told, stays
+-- what is left to be used, where the proof can see it, stays
 abbrev pub KeepsUnread : List ℕ → List ℕ → Option (List ℕ) → Option (List ℕ) → Type 0
 KeepsUnread held held' left left' = (rest : List ℕ) → unread held left ≡ Some rest → unread held' left' ≡ Some rest

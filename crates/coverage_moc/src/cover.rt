@@ -109,7 +109,7 @@ impl Cover {
     ///
     /// # Errors
     ///
-    /// `NotCover` exactly where the bytes are not the coverage file of any leaves of that order; `OutOfMemory` where they
+    /// `NotCover` if and only if the bytes are not the coverage file of any leaves of that order; `OutOfMemory` where they
     /// are one, and there is no memory for its rows.
     pub fn decode(alloc: Global, top: u8, bytes: &[u8]) -> Result<Cover, CoverRefusal>
         requires least { 3 ≤ top }

@@ -19,7 +19,7 @@ const MIN_EXP: i128 = -400;
 const MAX_EXP: i128 = 400;
 
 /// A number `mantissa · 10^exp` in normal form: the mantissa has at most 18 digits and is not divisible by 10, and the
-/// exponent is from -400 to 400; or both are 0. So two numbers are equal exactly where their parts are.
+/// exponent is from -400 to 400; or both are 0. So two numbers are equal if and only if their parts are.
 #[derive(Clone, Copy, Debug, PartialEq, Eq, Hash)]
 pub struct Decimal {
     mantissa: i64,

@@ -4,7 +4,7 @@ ghost use Rattle.std.specs.Str.Parse.{starts_with_minus, without_leading_sign};
 ghost use Rattle.decimal_scale.specs.Whole.{plain_value, whole_value};
 
 /// The number below 2^64 that the text is in plain decimals: one or more digits, without a sign and without a leading zero;
-/// `None` exactly where it is none.
+/// `None` if and only if it is none.
 pub fn plain_decimal(text: &[u8]) -> Option<u64>
     ensures number { result ≡ plain_value text.now }
     ensures spelled { MatchOption result ((n : ℕ) → n < 2 ^ 64 → text.now ≢ decimal n) (λ n. text.now ≡ decimal n) }
@@ -31,7 +31,7 @@ fn starts_plain(text: &[u8]) -> bool
 }
 
 /// The number of 64 bits that the text is with an optional sign and one or more digits, leading zeros among them or not;
-/// `None` exactly where it is none (FITS 4.0, section 4.2.3).
+/// `None` if and only if it is none (FITS 4.0, section 4.2.3).
 pub fn whole_number(text: &[u8]) -> Option<i64>
     ensures { result ≡ whole_value text.now }
 {

@@ -29,7 +29,7 @@ impl Level {
 }
 
 /// The orders with stale tiles that weren't taken yet, deepest first, each with its permits. Contracts see the list of these
-/// pairs. Permits that aren't taken are spent when the list is let go.
+/// pairs. Dropping the list consumes the permits that weren't taken.
 pub struct Worklist {
     levels: VecDeque<Level>,
 }

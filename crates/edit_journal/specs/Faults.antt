@@ -57,7 +57,7 @@ batch_fault opening edits batch =
     option_and_then (λ at. option_map (λ fault. record { at = at; fault = fault }) (item_fault opening edits batch at))
     (find (λ i. is_some (item_fault opening edits batch i)) (range_with_len 0 (length batch)))
 
--- the fault that a refusal tells; want of memory is none
+-- the fault of a refusal; out of memory is none
 abbrev pub edit_refused : EditRefusal → Option EditFault
 edit_refused (Fault fault) = Some fault
 edit_refused OutOfMemory = None

@@ -52,7 +52,7 @@ impl Journal {
     ///
     /// # Errors
     ///
-    /// `TooMany` with the number of leaves exactly where their charge exceeds 2^29 bytes; `OutOfMemory` where there is no
+    /// `TooMany` with the number of leaves if and only if their charge exceeds 2^29 bytes; `OutOfMemory` where there is no
     /// memory for the journal.
     pub fn start(alloc: Global, shape: Shape, leaves: Store<Tile>) -> Result<Journal, StartRefusal>
         requires fits { FitsLeaves shape leaves }
@@ -84,8 +84,8 @@ impl Journal {
     ///
     /// # Errors
     ///
-    /// The first that stands: `Exists` exactly where an Add's leaf is there, `Absent` exactly where a Replace's or a
-    /// Remove's isn't, `Edits` exactly where there are 65,536 edits, `Bytes` exactly where the charge would exceed 2^29.
+    /// The first that stands: `Exists` if and only if an Add's leaf is there, `Absent` if and only if a Replace's or a
+    /// Remove's isn't, `Edits` if and only if there are 65,536 edits, `Bytes` if and only if the charge would exceed 2^29.
     pub fn check(&self, edit: &Edit) -> Result<(), EditFault>
         requires fits { FitsEdit self.now.shape (edit_of edit.now) }
         ensures { result_err result ≡ edit_fault self.now.opening (journal_edits self.now) (edit_of edit.now) }

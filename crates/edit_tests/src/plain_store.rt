@@ -48,7 +48,7 @@ impl<T> PlainStore<T> {
         self.entries.len()
     }
 
-    /// The value of the key; `None` exactly where the store doesn't have the key.
+    /// The value of the key; `None` if and only if the store doesn't have the key.
     pub fn get(&self, key: u64) -> Option<&Arc<T>>
         ensures value { option_map (λ found. arc_value found.now) result ≡ value_at key self.now }
         ensures ascending { IsAscending self.now }
@@ -56,7 +56,7 @@ impl<T> PlainStore<T> {
         self.entries.get(&key)
     }
 
-    /// Pair `i` by ascending key, from 0; `None` exactly where `i` is at least the number of pairs.
+    /// Pair `i` by ascending key, from 0; `None` if and only if `i` is at least the number of pairs.
     ///
     /// It goes over the pairs before it: to go over all pairs take `iter`.
     pub fn at(&self, i: usize) -> Option<(u64, &Arc<T>)>
@@ -87,7 +87,7 @@ impl<T: Drop> PlainStore<T> {
     ///
     /// # Errors
     ///
-    /// `AllocError` where there is no memory for the pair; the store is then as it was, and the value is let go.
+    /// `AllocError` where there is no memory for the pair; the store is then as it was, and the value is dropped.
     pub fn put(&mut self, key: u64, value: Arc<T>) -> Result<Option<Arc<T>>, AllocError>
         ensures old { IfOk result (λ old. option_map arc_value old ≡ value_at key self.old) }
         ensures put { OnOk result (self.new ≡ with_value key (arc_value value) self.old) }

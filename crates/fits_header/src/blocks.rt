@@ -25,7 +25,7 @@ pub fn whole_blocks(len: usize) -> usize
     (len + (BLOCK_LEN - 1)) / BLOCK_LEN * BLOCK_LEN
 }
 
-/// How many cards stand before the end card; `None` exactly where none of the first 1,296 cards is an end card.
+/// How many cards stand before the end card; `None` if and only if none of the first 1,296 cards is an end card.
 pub(crate) fn cards_before_end(cards: &[[u8; CARD_LEN]]) -> Option<usize>
     ensures { result ≡ position is_end_card (take 1296 cards.now) }
 {

@@ -27,7 +27,7 @@ const KEYWORDS: [Keyword; 8] = [
 ];
 
 impl Keyword {
-    /// The keyword of a named card; `None` exactly where the card is none.
+    /// The keyword of a named card; `None` if and only if the card is none.
     pub(crate) fn of(card: &[u8]) -> Option<Keyword>
         ensures { result ≡ find (λ keyword. is_named keyword card.now) keywords }
     {

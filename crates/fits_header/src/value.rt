@@ -9,7 +9,7 @@ use decimal_scale::Decimal;
 // The columns before the value.
 const VALUE_START: usize = 10;
 
-/// The value text of a card; `None` exactly where what follows it is neither spaces nor a comment.
+/// The value text of a card; `None` if and only if what follows it is neither spaces nor a comment.
 #[tactic(auto, unfolding(crate::specs::Values::value_text))]
 pub(crate) fn value_text(card: &[u8]) -> Option<&[u8]>
     requires { 10 ≤ length card.now }
@@ -78,7 +78,7 @@ fn leading_spaces(text: &[u8]) -> usize
     text.iter().take_while(|byte| **byte == b' ').count()
 }
 
-/// The logical value that the text is; `None` exactly where it is neither `T` nor `F`.
+/// The logical value that the text is; `None` if and only if it is neither `T` nor `F`.
 #[tactic(auto, unfolding(crate::specs::Values::logical))]
 pub(crate) fn logical(text: &[u8]) -> Option<bool>
     ensures { result ≡ logical text.now }
@@ -92,7 +92,7 @@ pub(crate) fn logical(text: &[u8]) -> Option<bool>
     None
 }
 
-/// The real number that the text spells; `None` exactly where `Decimal::read` refuses it.
+/// The real number that the text spells; `None` if and only if `Decimal::read` refuses it.
 #[tactic(auto, unfolding(crate::specs::Values::real))]
 pub(crate) fn real(text: &[u8]) -> Option<Decimal>
     ensures { result ≡ real text.now }

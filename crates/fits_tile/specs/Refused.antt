@@ -5,7 +5,7 @@ use Rattle.fits_tile.specs.declared.fault.TileFault.{TileFault}
 use Rattle.fits_tile.specs.declared.fault.TileRefusal.{TileRefusal}
 use Rattle.fits_tile.specs.declared.fault.TileRefusal.TheVariants.{Fault, OutOfMemory}
 
--- a refusal tells the fault of the file; or the file has none, and memory ran out
+-- a refusal is for the fault of the file; or the file has none, and memory ran out
 abbrev pub IsRefusedBy : Result (List ℤ) TileFault → TileRefusal → Type 0
 IsRefusedBy read (Fault fault) = read ≡ Err fault
 IsRefusedBy read OutOfMemory = IsOk read

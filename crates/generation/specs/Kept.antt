@@ -73,7 +73,7 @@ pub record ShowsBoth (d : Description) (leaves : LeafMap) (raw : List ℕ) : Typ
   pub survey : IsMosaic d.shape.depth d.shape.n d.shape leaves raw
   pub order_3 : IsMosaic d.shape.depth d.shape.n (order_3 d.shape.depth d.shape.n) (leaf_map (tiles_of d.shape leaves 3)) raw
 
--- there are such bytes exactly where there is a leaf
+-- there are such bytes if and only if there is a leaf
 abbrev pub ArePixels : Description → LeafMap → Option (List ℕ) → Type 0
 ArePixels d leaves None = leaves ≡ []
 ArePixels d leaves (Some raw) = ShowsBoth d leaves raw
@@ -91,7 +91,7 @@ pub record WasMosaicFile (d : Description) (touched : List ℕ) (tiles : List (�
   pub file_is : IsMosaicFile d before file
   pub agrees : (cell : ℕ) → (Contains touched cell → ⊥) → value_at cell (tiles_of d.shape before 3) ≡ value_at cell tiles
 
--- there is one exactly where there is a leaf
+-- there is one if and only if there is a leaf
 abbrev pub KeepsMosaic : Description → LeafMap → Option (List ℕ) → Type 0
 KeepsMosaic d leaves None = leaves ≡ []
 KeepsMosaic d leaves (Some file) = IsMosaicFile d leaves file

@@ -41,7 +41,7 @@ pub struct Parts<'a> {
 }
 
 impl Generation {
-    /// The file at a path: written at the front of `out`, or kept; `None` exactly where there is no such file. `out` has
+    /// The file at a path: written at the front of `out`, or kept; `None` if and only if there is no such file. `out` has
     /// room for `room` bytes, and holds behind those that are written what it held. It takes no memory.
     pub fn file(&self, path: &Path, out: &mut [u8]) -> Option<Body<'_>>
         requires room { 2880 + whole_blocks (data_len self.now.conf.shape) ≤ length out.old }
@@ -58,7 +58,7 @@ impl Generation {
         }
     }
 
-    /// The file at a path in three parts, of which the first is written at the front of `out`; `None` exactly where there
+    /// The file at a path in three parts, of which the first is written at the front of `out`; `None` if and only if there
     /// is no such file. `out` has room for 2,880 bytes, and holds behind those that are written what it held. The pixels of a
     /// tile stay where they lie. It takes no memory.
     pub fn file_parts<'a>(&'a self, path: &Path, out: &mut [u8]) -> Option<Parts<'a>>

@@ -123,7 +123,7 @@ impl Pyramid {
         &self.leaves
     }
 
-    /// The tiles of an order; `None` exactly where the survey has none of that order.
+    /// The tiles of an order; `None` if and only if the survey has none of that order.
     pub(crate) fn tiles(&self, order: u8) -> Option<&Store<Tile>>
         ensures tiles { MatchOption result ((order < self.now.shape.low) ⊎ (self.now.shape.top < order))
             (λ tiles. (self.now.shape.low ≤ order) × (order ≤ self.now.shape.top) × (tiles.now ≡ tiles_of self.now.shape (leaf_map self.now.leaves) order)) }
@@ -140,7 +140,7 @@ impl Pyramid {
         self.levels.get(usize::from(shape.top - 1 - order))
     }
 
-    /// The tile of a cell; `None` exactly where the survey has none.
+    /// The tile of a cell; `None` if and only if the survey has none.
     pub(crate) fn tile(&self, cell: Cell) -> Option<&Arc<Tile>>
         ensures { MatchOption result (HasTile self.now.shape (leaf_map self.now.leaves) cell.order cell.npix → ⊥)
             (λ tile. HasTile self.now.shape (leaf_map self.now.leaves) cell.order cell.npix

@@ -37,7 +37,7 @@ pub fn cells(order: u8) -> u64
 }
 
 impl Cell {
-    /// The cell of that order and number; `None` exactly where there is none.
+    /// The cell of that order and number; `None` if and only if there is none.
     pub fn new(order: u8, npix: u64) -> Option<Cell>
         ensures known { IsSome result ↔ IsCell order npix }
         ensures cell { IfSome result (λ cell. (cell.order ≡ order) × (cell.npix ≡ npix)) }
@@ -113,7 +113,7 @@ impl Cell {
         (4 << (2 * self.order)) + self.npix
     }
 
-    /// The cell with that `uniq`; `None` exactly where no cell has it.
+    /// The cell with that `uniq`; `None` if and only if no cell has it.
     pub fn from_uniq(uniq: u64) -> Option<Cell>
         ensures cell { IfSome result (λ cell. uniq_number cell.order cell.npix ≡ uniq) }
         ensures none { IsNone result → (order npix : ℕ) → IsCell order npix → uniq_number order npix ≢ uniq }

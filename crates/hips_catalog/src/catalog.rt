@@ -81,7 +81,7 @@ impl Catalog {
     ///
     /// # Errors
     ///
-    /// `Twice` exactly where a row has its id; then `Full` exactly where there are 1,000,000 rows; `OutOfMemory` where there
+    /// `Twice` if and only if a row has its id; then `Full` if and only if there are 1,000,000 rows; `OutOfMemory` where there
     /// is no memory for it. Then everything is as it was.
     pub fn insert(&mut self, row: Row) -> Result<(), InsertRefusal>
         requires cell { IsCell self.old.top row.npix }
@@ -163,7 +163,7 @@ impl Catalog {
     }
 
     /// The text of the cell's tile, as tab-separated values: a line of the names of the columns, and a line for each row;
-    /// `None` exactly where the tile doesn't exist.
+    /// `None` if and only if the tile doesn't exist.
     ///
     /// # Errors
     ///

@@ -90,7 +90,7 @@ fn judge<'a>(fields: &Fields<'a>, top: u8) -> Result<Parts<'a>, RowFault>
     })
 }
 
-// The fields of a line; `None` exactly where they aren't four.
+// The fields of a line; `None` if and only if they aren't four.
 fn fields_of(line: &[u8]) -> Option<Fields>
     ensures { MatchOption result (length (spec_fields line.now) ≢ 4)
         (λ fields. spec_fields line.now ≡ fields.rank.now ∷ fields.npix.now ∷ fields.id.now ∷ fields.rest.now ∷ []) }
@@ -109,7 +109,7 @@ fn fields_of(line: &[u8]) -> Option<Fields>
     }
 }
 
-// The first field, and what stands behind its TAB; `None` exactly where there is no TAB.
+// The first field, and what stands behind its TAB; `None` if and only if there is no TAB.
 fn cut(text: &[u8]) -> Option<(&[u8], &[u8])>
     ensures { MatchOption result (spec_fields text.now ≡ text.now ∷ []) (λ parts. spec_fields text.now ≡ parts.0.now ∷ spec_fields parts.1.now) }
 {

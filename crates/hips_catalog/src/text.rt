@@ -45,7 +45,7 @@ fn push_lines(text: &mut Vec<u8>, rows: &[&Ranked]) -> Result<(), AllocError>
     Ok(())
 }
 
-/// The text of a tile with these rows; `None` exactly where there are none.
+/// The text of a tile with these rows; `None` if and only if there are none.
 pub(crate) fn text_of(alloc: Global, rows: &TileRows) -> Result<Option<Vec<u8>>, AllocError>
     ensures { IfOk result (λ text. option_map (λ bytes. bytes.items) text ≡ text_of (sources rows.now)) }
 {

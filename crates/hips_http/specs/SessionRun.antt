@@ -72,7 +72,7 @@ pub record EndsWith (requests : List Asking) (last : Asking) : Type 0 where
 pub record IsCutInput (room : ℕ) (rest extra : List ℕ) : Type 0 where
   pub cut : (IsCut rest × (extra ≡ [])) ⊎ ((body : IsCutInBody room rest) × (extra ≡ leave_bytes body.asked))
 
--- what was written is these outputs, which were all flushed, and then some first bytes of one that was begun
+-- what was written is these outputs, which were all flushed, and then a prefix of one that was begun
 pub record BreaksOff (outputs : List (List ℕ)) (begun out handed : List ℕ) : Type 0 where
   pub part : List ℕ
   pub left : List ℕ

@@ -46,7 +46,7 @@ pub(crate) fn shown<B: Board>(board: &B) -> &State
 ///
 /// # Errors
 ///
-/// `Failed` only where the sink's count of faults rose; some first bytes may have been written.
+/// `Failed` only where the sink's count of faults rose; a prefix may have been written.
 pub(crate) fn send_path<R: Clock + Log, K: Sink>(
     rt: &R,
     sink: &mut K,

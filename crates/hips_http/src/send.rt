@@ -17,7 +17,7 @@ use survey_link::{Failed, Sink};
 ///
 /// # Errors
 ///
-/// `Failed` only where the sink's count of faults rose; some first bytes may have been written.
+/// `Failed` only where the sink's count of faults rose; a prefix may have been written.
 pub(crate) fn send_text<R: Clock + Log, K: Sink>(
     rt: &R,
     sink: &mut K,
@@ -56,7 +56,7 @@ pub(crate) fn sent_part(method: Method, part: &[u8]) -> &[u8]
 ///
 /// # Errors
 ///
-/// `Failed` only where the sink's count of faults rose; some first bytes may have been written.
+/// `Failed` only where the sink's count of faults rose; a prefix may have been written.
 pub(crate) fn send_refusal<R: Clock + Log, K: Sink>(
     rt: &R,
     sink: &mut K,

@@ -101,7 +101,7 @@ fn reply_code(code: u16) -> u16
 ///
 /// # Errors
 ///
-/// `Failed` only where the sink's count of faults rose; some first bytes may have been written.
+/// `Failed` only where the sink's count of faults rose; a prefix may have been written.
 pub(crate) fn grant<K: Sink>(sink: &mut K, request: &Request) -> Result<(), Failed>
     ensures whole { OnOk result (Appends (K.held sink.old) (K.held sink.new) (leave_bytes request.now)) }
     ensures part { OnErr result (AppendsPrefix (K.held sink.old) (K.held sink.new) continue_bytes) }

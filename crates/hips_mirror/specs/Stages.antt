@@ -119,7 +119,7 @@ abbrev pub unpin_request : ℕ → ℕ
 unpin_request count = 3 + count + (if nat_lt 0 count then 1 else 0)
 
 module _ {S K : Type 0} (told_source : source.Ghosts S) (told_sink : sink.Ghosts K) where
-  -- these requests have their replies, and this is so of the unread bytes before and after, where they are told
+  -- these requests have their replies, and this is so of the unread bytes before and after, where the proof can see them
   pub record Reaches (k : ℕ) (asks : List Ask) (Leads : List ℕ → List ℕ → Type 0) (old new : Peer S K) : Type 0 where
     pub conversed : Converses told_source told_sink k asks (talk old) (talk new)
     pub told : Told (unread_at told_source old) (unread_at told_source new) Leads
@@ -140,7 +140,7 @@ module _ {S K : Type 0} (told_source : source.Ghosts S) (told_sink : sink.Ghosts
   FaultRose old new (refusal.Differs path) = ⊤
 
   -- some first ones of these requests have their replies, the next one is begun at most, and this is why: so of the unread bytes,
-  -- where they are told
+  -- where the proof can see them
   pub record IsRefusedIn (k : ℕ) (asks : List Ask) (Refused : List ℕ → Type 0) (old new : Peer S K) (why : MirrorRefusal) : Type 0 where
     pub stops : StopsIn told_source told_sink k (Tells why) (IsOfBody why) asks (talk old) (talk new)
     pub refused : IfSome (unread_at told_source old) Refused

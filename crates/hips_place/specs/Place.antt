@@ -21,7 +21,7 @@ use Rattle.hips_place.specs.declared.doors.ServeRefusal.TheVariants.{NotOpened, 
 
 -- ---- a connection
 
--- it is a session with these events of its own, from the states seen before it to those seen then: some first bytes of its input were read and the rest
+-- it is a session with these events of its own, from the states seen before it to those seen then: a prefix of its input was read and the rest
 -- is left, what its sink holds grew by what was written, and what it has flushed by what was flushed of that
 pub record IsSession (conf : Description) (opening : LeafTiles) (states : List SurveyState) (taken back : Connection) (states' : List SurveyState) (end : SessionEnd) (own input : List ℕ) : Type 0 where
   pub read : List ℕ
@@ -92,7 +92,7 @@ pub record DoorContent : Type 0 where
 abbrev pub door_of : {D I O : Type 0} → DoorTells D I O → D → DoorContent
 door_of told door = record { connections = told.connections door; faults = told.faults door; wants = told.wants door }
 
--- what a place's end tells of its door's counts: `Failed` exactly where an accept failed, and `Done` only where none was refused
+-- what a place's end tells of its door's counts: `Failed` if and only if an accept failed, and `Done` only where none was refused
 abbrev pub EndsBy : DoorContent → DoorContent → PlaceEnd → Type 0
 EndsBy door door' Done = (door'.faults ≡ door.faults) × (door'.wants ≡ door.wants)
 EndsBy door door' Failed = Rises door.faults door'.faults × (door'.wants ≡ door.wants)
@@ -109,7 +109,7 @@ EndsAfter door door' most takens ends Done = TookAll most takens door' × All (�
 EndsAfter door door' most takens ends OutOfMemory = Rises door.wants door'.wants ⊎ (TookAll most takens door' × Contains ends WantOfMemory)
 EndsAfter door door' most takens ends Failed = ⊤
 
--- those that ended for want of memory come before all others
+-- those that ran out of memory come before all others
 abbrev pub WantsFirst : List SessionEnd → Type 0
 WantsFirst [] = ⊤
 WantsFirst (WantOfMemory ∷ ends) = WantsFirst ends

@@ -40,7 +40,7 @@ pub enum ServeRefusal {
 /// connections of each. When all places have ended, the first board meets each other one, so that one history holds what
 /// happened at all of them, and each of its states but the first is one session's event; then the survey is closed.
 ///
-/// It answers `Failed` exactly where an accept failed; else `OutOfMemory` where a place ended so; else `Done`.
+/// It answers `Failed` if and only if an accept failed; else `OutOfMemory` where a place ended so; else `Done`.
 ///
 /// # Errors
 ///

@@ -71,7 +71,7 @@ impl PlaceEnd {
 ///
 /// It warns when 80 and when 95 percent of the connections were taken, since it ends after the last one.
 ///
-/// `Failed` exactly where an accept fails, also after a session that ended for want of memory. `OutOfMemory` where an accept
+/// `Failed` if and only if an accept fails, also after a session that ended for want of memory. `OutOfMemory` where an accept
 /// answers it, or a session ended so and no accept failed; such a session doesn't end the place.
 pub fn serve_place<
     R: Log + NamesConnections<N>,

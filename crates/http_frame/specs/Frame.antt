@@ -35,7 +35,7 @@ AwaitsBody AtHead = ⊥
 AwaitsBody (AtBody n) = ⊤
 AwaitsBody (Stopped stop) = ⊤
 
--- this stands next in the unread bytes, where they are told
+-- this stands next in the unread bytes, where the proof can see them
 abbrev pub NextIs : ℕ → Option (List ℕ) → NextHead → Type 0
 NextIs room known next = IfSome known (λ bytes. IsNextHead room bytes next)
 
@@ -58,7 +58,7 @@ StopsBody n old new left faults faults' ReadFault = Rises faults faults' × (len
 StopsBody n old new left faults faults' End = ⊥
 StopsBody n old new left faults faults' (Refuse code) = ⊥
 
--- the unread bytes are what they were, where they are told
+-- the unread bytes are what they were, where the proof can see them
 abbrev pub KeepsUnread : FrameState → FrameState → Option (List ℕ) → Option (List ℕ) → Type 0
 KeepsUnread old new left left' = IfSome (unread old left) (λ bytes. unread new left' ≡ Some bytes)
 

@@ -96,7 +96,7 @@ impl Frame {
     ///
     /// # Errors
     ///
-    /// `End` exactly where the input ends before a head, `Cut` exactly where it ends within one, `Refuse` exactly where the
+    /// `End` if and only if the input ends before a head, `Cut` if and only if it ends within one, `Refuse` if and only if the
     /// next head is refused, by its status code (RFC 9110, section 15); `ReadFault` only where the source's count of faults
     /// rose. Nothing is lost; from then on the frame answers the same.
     pub fn head<S: Source>(&mut self, src: &mut S) -> Result<Request, Stop>
@@ -123,7 +123,7 @@ impl Frame {
         }
     }
 
-    /// The percent-decoded path of the last head, without its leading `/`; `None` exactly where no head was read or its
+    /// The percent-decoded path of the last head, without its leading `/`; `None` if and only if no head was read or its
     /// target has no path.
     pub fn path(&self) -> Option<&[u8]>
         ensures { option_copied result ≡ self.now.path }
@@ -140,7 +140,7 @@ impl Frame {
     ///
     /// # Errors
     ///
-    /// `Cut` exactly where the input ends within the body; `ReadFault` only where the source's count of faults rose. Nothing
+    /// `Cut` if and only if the input ends within the body; `ReadFault` only where the source's count of faults rose. Nothing
     /// is lost; from then on the frame answers the same.
     pub fn body<S: Source>(&mut self, src: &mut S) -> Result<&[u8], Stop>
         requires { AwaitsBody self.old.turn }

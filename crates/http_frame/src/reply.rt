@@ -70,7 +70,7 @@ const ROOM: usize = 1024;
 ///
 /// # Errors
 ///
-/// `Failed` only where the sink's count of faults rose; some first bytes may have been written, and none was flushed.
+/// `Failed` only where the sink's count of faults rose; a prefix may have been written, and none was flushed.
 pub fn write_reply<K: Sink>(sink: &mut K, reply: &Reply, body: &[u8]) -> Result<(), Failed>
     requires code { is_reply_code reply.now.code ≡ true }
     requires body { FitsReply reply.now body.now }
@@ -96,7 +96,7 @@ pub fn write_reply<K: Sink>(sink: &mut K, reply: &Reply, body: &[u8]) -> Result<
 ///
 /// # Errors
 ///
-/// `Failed` only where the sink's count of faults rose; some first bytes may have been written, and none was flushed.
+/// `Failed` only where the sink's count of faults rose; a prefix may have been written, and none was flushed.
 pub fn write_reply_parts<K: Sink>(
     sink: &mut K,
     reply: &Reply,
@@ -122,7 +122,7 @@ pub fn write_reply_parts<K: Sink>(
 ///
 /// # Errors
 ///
-/// `Failed` only where the sink's count of faults rose; some first bytes may have been written, and none was flushed.
+/// `Failed` only where the sink's count of faults rose; a prefix may have been written, and none was flushed.
 pub fn write_continue<K: Sink>(sink: &mut K) -> Result<(), Failed>
     ensures whole { OnOk result (Appends (K.held sink.old) (K.held sink.new) continue_bytes) }
     ensures flushed { OnOk result (K.flushed sink.new ≡ K.held sink.new) }

@@ -68,7 +68,7 @@ pub(crate) fn is_star(text: &[u8]) -> bool
     matches!(text, b"*")
 }
 
-/// The number that the digits write, at most `u64::MAX`; `None` exactly where the text isn't one or more digits.
+/// The number that the digits write, at most `u64::MAX`; `None` if and only if the text isn't one or more digits.
 pub fn digits(text: &[u8]) -> Option<u64>
     ensures { result ≡ (if is_digits text.now then Some (min (digits_value 10 text.now) (2 ^ 64 - 1)) else None) }
 {

@@ -13,7 +13,7 @@ pub enum ProbeFault {
     Cut,
     /// The source failed.
     Read,
-    /// The sink failed; some first bytes of the tile may have been written.
+    /// The sink failed; a prefix of the tile may have been written.
     Write,
     /// No leaf lies at or under the asked tile.
     NoLeaf,

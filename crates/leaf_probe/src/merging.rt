@@ -77,7 +77,7 @@ fn merge_level(
     Ok(made)
 }
 
-/// Tile `npix` of an order, made of the leaves under it, which are all that are given; `None` exactly where it doesn't exist.
+/// Tile `npix` of an order, made of the leaves under it, which are all that are given; `None` if and only if it doesn't exist.
 /// Each tile between is made once, and a step is counted for each that is made.
 ///
 /// # Errors

@@ -55,7 +55,7 @@ impl<T> Store<T> {
         }
     }
 
-    /// The value of the key; `None` exactly where the store doesn't have the key.
+    /// The value of the key; `None` if and only if the store doesn't have the key.
     pub fn get(&self, key: u64) -> Option<&Arc<T>>
         ensures value { option_map (λ found. arc_value found.now) result ≡ value_at key self.now }
         ensures ascending { IsAscending self.now }
@@ -66,7 +66,7 @@ impl<T> Store<T> {
         }
     }
 
-    /// Pair `i` by ascending key, from 0; `None` exactly where `i` is at least the number of pairs.
+    /// Pair `i` by ascending key, from 0; `None` if and only if `i` is at least the number of pairs.
     pub fn at(&self, i: usize) -> Option<(u64, &Arc<T>)>
         ensures pair { option_map (λ pair. (pair.0, arc_value pair.1.now)) result ≡ slice_get self.now i }
         ensures ascending { IsAscending self.now }
@@ -105,7 +105,7 @@ impl<T: Drop> Store<T> {
     ///
     /// # Errors
     ///
-    /// `AllocError` where there is no memory for the pair; the store is then as it was, and the value is let go.
+    /// `AllocError` where there is no memory for the pair; the store is then as it was, and the value is dropped.
     pub fn put(&mut self, key: u64, value: Arc<T>) -> Result<Option<Arc<T>>, AllocError>
         ensures old { IfOk result (λ old. option_map arc_value old ≡ value_at key self.old) }
         ensures put { OnOk result (self.new ≡ with_value key (arc_value value) self.old) }

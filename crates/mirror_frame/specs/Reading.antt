@@ -10,7 +10,7 @@ use Rattle.mirror_frame.specs.declared.due.Due.TheVariants.{Pinned}
 use Rattle.mirror_frame.specs.declared.reading.Stop.{Stop}
 use Rattle.mirror_frame.specs.declared.reading.Stop.TheVariants.{Wrong, Cut, ReadFault, WriteFault, OutOfMemory}
 
--- the unread bytes: those held and those left, where they are told
+-- the unread bytes: those held and those left, where the proof can see them
 abbrev pub unread : List ℕ → Option (List ℕ) → Option (List ℕ)
 unread held left = prepend_known held left
 

@@ -27,7 +27,7 @@ pub enum Ask {
 ///
 /// # Errors
 ///
-/// `Failed` only where the sink's count of faults rose; some first bytes may have been written.
+/// `Failed` only where the sink's count of faults rose; a prefix may have been written.
 pub(crate) fn send<K: Sink>(sink: &mut K, ask: &Ask) -> Result<(), Failed>
     requires { HasOrder ask.now }
     ensures sent { OnOk result (Appends (K.held sink.old) (K.held sink.new) (request_bytes ask.now)) }

@@ -30,7 +30,7 @@ impl Model for Depth {
 }
 
 impl Depth {
-    /// The depth with that width and that blank number, combined by the mean; `None` exactly where the width isn't
+    /// The depth with that width and that blank number, combined by the mean; `None` if and only if the width isn't
     /// 8, 16, 32 or 64, or the blank number isn't a number of that width.
     pub fn new(bitpix: u8, blank: i64) -> Option<Depth>
         ensures known { IsSome result ↔ (IsTrue (is_bitpix bitpix) × IsNumber bitpix blank) }

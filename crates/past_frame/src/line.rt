@@ -13,7 +13,7 @@ pub(crate) enum Line<'a> {
     Read { k: u32, path: &'a [u8] },
 }
 
-/// What a line says, without its line feed; `None` exactly where it is no line of a record. The body of a batch has at most
+/// What a line says, without its line feed; `None` if and only if it is no line of a record. The body of a batch has at most
 /// `room` bytes.
 #[tactic(auto, unfolding(crate::specs::Line::line_of))]
 pub(crate) fn line_of(room: usize, text: &[u8]) -> Option<Line<'_>>

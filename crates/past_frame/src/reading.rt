@@ -24,7 +24,7 @@ pub const MAX_LINE: usize = 128;
 ///
 /// # Errors
 ///
-/// `End` exactly where the input ends before the record; `Cut` exactly where it ends within it; `BadLine` exactly where no
+/// `End` if and only if the input ends before the record; `Cut` if and only if it ends within it; `BadLine` if and only if no
 /// line of a record comes; `ReadFault` only where the source's count of faults rose; `OutOfMemory`.
 pub fn read_record<S: Source>(
     inbox: &mut Inbox,

@@ -47,7 +47,7 @@ pub record ReadsPart (d : Description) (opening : LeafTiles) (input : List ℕ) 
   pub answered : Answered d opening (past_records d came) sink sink'
   pub cost : steps' ≤ steps + cost_of d opening (past_records d came)
 
--- writing failed: some first records were answered whole, and some first bytes of the answer to the next one were written
+-- writing failed: some first records were answered whole, and a prefix of the answer to the next one were written
 pub record BreaksOff (d : Description) (opening : LeafTiles) (input : List ℕ) (sink sink' : SinkBytes) (steps steps' : ℕ) : Type 0 where
   pub before : List PastRecord
   pub next : PastRecord

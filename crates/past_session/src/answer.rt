@@ -24,7 +24,7 @@ impl Session {
     ///
     /// # Errors
     ///
-    /// `WriteFault` only where the sink's count of faults rose; some first bytes may have been written. `OutOfMemory` before
+    /// `WriteFault` only where the sink's count of faults rose; a prefix may have been written. `OutOfMemory` before
     /// any is written.
     pub(crate) fn answer<R: Threads + Sync + Clock + Log, K: Sink, G: Gate + Sync>(
         &mut self,

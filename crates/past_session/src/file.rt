@@ -20,7 +20,7 @@ use tile_path::Path;
 ///
 /// # Errors
 ///
-/// `WriteFault` only where the sink's count of faults rose; some first bytes may have been written. `OutOfMemory` before any
+/// `WriteFault` only where the sink's count of faults rose; a prefix may have been written. `OutOfMemory` before any
 /// is written.
 pub(crate) fn send_file<K: Sink>(
     alloc: Global,

@@ -10,7 +10,7 @@ use survey_link::{Failed, Sink, write_all_parts, write_whole};
 ///
 /// # Errors
 ///
-/// `Failed` only where the sink's count of faults rose; some first bytes may have been written.
+/// `Failed` only where the sink's count of faults rose; a prefix may have been written.
 pub(crate) fn send_parts<'a, K: Sink>(
     sink: &mut K,
     line: &'a [u8],

@@ -43,11 +43,11 @@ no_pixels shape leaves order cell pixel h none e =
     let lies : lies_under shape.top (pixel / 4 ^ shape.n) order cell ≡ true = grind (arith, nat_tests) in
     none_passes (λ leaf. lies_under shape.top leaf order cell) (pixel / 4 ^ shape.n) lies leaves none
 
--- the quarter of a number is p exactly where the number is one of 4p to 4p + 3
+-- the quarter of a number is p if and only if the number is one of 4p to 4p + 3
 one_of_four : (x p : ℕ) → (x / 4 == p) ≡ ((x == 4 * p) || (x == 4 * p + 1) || (x == 4 * p + 2) || (x == 4 * p + 3))
 one_of_four x p = grind (arith, nat_tests)
 
--- a leaf lies under a cell exactly where it lies under a child
+-- a leaf lies under a cell if and only if it lies under a child
 under_a_child : (top leaf k p : ℕ) → k < top → lies_under top leaf k p ≡ (lies_under top leaf (k + 1) (4 * p) || lies_under top leaf (k + 1) (4 * p + 1) || lies_under top leaf (k + 1) (4 * p + 2) || lies_under top leaf (k + 1) (4 * p + 3))
 under_a_child top leaf k p h =
     let here : nat_le k top ≡ true = grind (arith, nat_tests) in
@@ -59,7 +59,7 @@ under_a_child top leaf k p h =
 turned : (a b c d e f g h : Bool) → ((a || b || c || d) || (e || f || g || h)) ≡ ((a || e) || (b || f) || (c || g) || (d || h))
 turned a b c d e f g h = grind arith
 
--- where a test is one of four, something passes it exactly where something passes one of them
+-- where a test is one of four, something passes it if and only if something passes one of them
 any_of_four : {X : Type 0} (t a b c d : X → Bool) → ((x : X) → t x ≡ (a x || b x || c x || d x)) → (xs : List X) → list_any t xs ≡ (list_any a xs || list_any b xs || list_any c xs || list_any d xs)
 any_of_four t a b c d is [] = refl
 any_of_four t a b c d is (x ∷ xs) = rw (is x, any_of_four t a b c d is xs) (turned (a x) (b x) (c x) (d x) (list_any a xs) (list_any b xs) (list_any c xs) (list_any d xs))
@@ -68,7 +68,7 @@ any_of_four t a b c d is (x ∷ xs) = rw (is x, any_of_four t a b c d is xs) (tu
 pub exists_step : (shape : PyramidShape) (leaves : LeafMap) (k p : ℕ) → k < shape.top → exists shape leaves k p ≡ (exists shape leaves (k + 1) (4 * p) || exists shape leaves (k + 1) (4 * p + 1) || exists shape leaves (k + 1) (4 * p + 2) || exists shape leaves (k + 1) (4 * p + 3))
 exists_step shape leaves k p h = any_of_four _ _ _ _ _ (λ leaf. under_a_child shape.top leaf.0 k p h) leaves
 
--- a leaf lies under a cell of its own order exactly where it is that cell
+-- a leaf lies under a cell of its own order if and only if it is that cell
 pub under_itself : (top leaf p : ℕ) → lies_under top leaf top p ≡ is_at (nat_cmp p) leaf
 under_itself top leaf p =
     let depth : top - top ≡ 0 = omega arith in

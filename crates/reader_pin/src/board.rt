@@ -34,7 +34,7 @@ pub trait Board {
     fn hold(&mut self)
         ensures { content self.new ≡ holding_last (content self.old) };
 
-    /// The state that is held; `None` exactly where none is.
+    /// The state that is held; `None` if and only if none is.
     fn held(&self) -> Option<&State>
         ensures { option_map (λ state. state.now) result ≡ option_map (state_in (content self.now)) (content self.now).held };
 

@@ -55,7 +55,7 @@ abbrev pub HaveShape : PyramidShape → List (ℕ × PixelTile) → Type 0
 HaveShape shape tiles = All (λ tile. HasShape tile shape.depth shape.n) (values_of tiles)
 
 -- where the children are those of the cell in the pyramid of a leaf map, the tile is the cell's in that pyramid: it is
--- there exactly where the cell's tile exists, and has its pixels
+-- there if and only if the cell's tile exists, and has its pixels
 abbrev pub ShowsItsCell : PyramidShape → List (ℕ × PixelTile) → NamedTile → Type 0
 ShowsItsCell shape tiles named = (leaves : LeafMap) → ShowsChildren shape leaves named.order named.npix (children_of tiles named.npix)
     → Shows shape leaves named.order named.npix (numbers_of named.tile)

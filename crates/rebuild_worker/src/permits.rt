@@ -6,7 +6,7 @@ use std::alloc::AllocError;
 use std::collections::VecDeque;
 use std::marker::Model;
 
-/// Permits in order. Those that are left are spent where it is let go.
+/// Permits in order. Those that are left are spent where it is dropped.
 pub struct Permits {
     left: VecDeque<Permit>,
 }

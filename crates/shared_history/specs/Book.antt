@@ -1,4 +1,4 @@
--- The rule of the book that keeps a history, and what a step tells.
+-- The rule of the book that keeps a history, and what a step answers.
 use Rattle.std.specs.Prelude.{◌≡◌, ℕ, ◌<◌, true, List, [], ◌∷◌, ◌++◌, map, length, slice_index}
 use Rattle.logbook.specs.Pages.{Cell, Step, View, Book, Named}
 use Rattle.shared_history.specs.Histories.{SeenHistory, places_of, IsSeenHistory}

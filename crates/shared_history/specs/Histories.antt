@@ -44,7 +44,7 @@ pub record GoesOn {S : Type 0} (seat : ℕ) (mine other : SeenHistory S) : Type 
   pub own : places_of seat other.owners ≡ places_of seat mine.owners
   pub seats : other.seats ≡ mine.seats
 
--- what another has seen more: its history, which goes on from this one with none of that seat's; or nothing, exactly where both
+-- what another has seen more: its history, which goes on from this one with none of that seat's; or nothing, if and only if both
 -- have seen the same
 abbrev pub TellsMore : {S : Type 0} → ℕ → SeenHistory S → SeenHistory S → Option (SeenHistory S) → Type 0
 TellsMore seat mine other (Some more) = (more ≡ other) × GoesOn seat mine other

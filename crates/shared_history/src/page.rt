@@ -128,7 +128,7 @@ impl<S: Drop, L: Law<S>> Page<S, L> {
         &self.last
     }
 
-    /// The last state, all else let go.
+    /// The last state, all else dropped.
     pub(crate) fn into_last(self) -> Arc<S>
         ensures { arc_value result ≡ self.history.last }
     {

@@ -113,7 +113,7 @@ impl<S: Drop, L: Law<S>, J: Naming> Shown<S, L, J> {
         self.page.last()
     }
 
-    /// The last state, all else let go.
+    /// The last state, all else dropped.
     pub fn into_last(self) -> Arc<S>
         ensures { arc_value result ≡ self.last }
     {

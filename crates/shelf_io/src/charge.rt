@@ -13,7 +13,7 @@ use pyramid_model::Shape;
 ///
 /// # Errors
 ///
-/// `TooMany` exactly where their charge exceeds 2^29 bytes.
+/// `TooMany` if and only if their charge exceeds 2^29 bytes.
 pub(crate) fn judge_count<R: Log>(rt: &R, shape: Shape, count: usize) -> Result<(), LoadRefusal>
     ensures { result_err result ≡ count_refusal shape count }
 {

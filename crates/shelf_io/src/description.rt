@@ -20,7 +20,7 @@ const CONF: &str = "survey.conf";
 ///
 /// # Errors
 ///
-/// `NoConf` exactly where it has none; `Conf` with the first fault of its text; `ShelfFault` only where the shelf's count of
+/// `NoConf` if and only if it has none; `Conf` with the first fault of its text; `ShelfFault` only where the shelf's count of
 /// faults rose; `OutOfMemory`.
 pub(crate) fn read_conf<R: Log, H: Shelf>(
     rt: &R,

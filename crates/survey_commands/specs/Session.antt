@@ -70,7 +70,7 @@ pub record Serves (survey : OpenedSurvey) (input : List ℕ) (old new : Connecti
   pub run : RunsAlone survey exchange states end wants
   pub ended : EndsWith end status exchange old new
 
--- the files open as this survey, or as none by this refusal, where they are told
+-- the files open as this survey, or as none by this refusal, where the proof can see them
 abbrev pub OpensAs : Option ShelfFiles → OpenedSurvey → Type 0
 OpensAs found survey = IfSome found (λ files. opening files ≡ Ok survey)
 

@@ -66,7 +66,7 @@ fault_together es =
 unfoldable pub fault_of : List ℕ → Option ConfFault
 fault_of text = option_or (first_fault (contents text)) (fault_together (entries (contents text)))
 
--- the refusal tells this fault, or that memory ran out
+-- the refusal is for this fault, or memory ran out
 abbrev pub IsRefusedBy : Option ConfFault → ConfRefusal → Type 0
 IsRefusedBy fault (Fault f) = fault ≡ Some f
 IsRefusedBy fault OutOfMemory = Unit {0}

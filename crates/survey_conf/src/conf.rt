@@ -93,7 +93,7 @@ impl Conf {
         &self.bzero
     }
 
-    /// The value of creator_did, obs_title, hips_release_date, hips_status or an extra key; `None` exactly where the key
+    /// The value of creator_did, obs_title, hips_release_date, hips_status or an extra key; `None` if and only if the key
     /// is none of these.
     pub fn value(&self, key: &[u8]) -> Option<&[u8]>
         ensures { option_copied result ≡ value_at self.now key.now }

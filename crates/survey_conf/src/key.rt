@@ -50,7 +50,7 @@ pub(crate) const KNOWN: [Key; 17] = [
 ];
 
 impl Key {
-    /// The known key that is written so; `None` exactly where none is.
+    /// The known key that is written so; `None` if and only if none is.
     #[tactic(auto, unfolding(crate::specs::Keys::known))]
     pub(crate) fn of(text: &[u8]) -> Option<Key>
         ensures { result ≡ Keys.known text.now }

@@ -47,7 +47,7 @@ pub(crate) fn is_skipped(written: &[u8]) -> bool
     }
 }
 
-/// The key and the value that are written; `None` exactly where what is written is not of that form.
+/// The key and the value that are written; `None` if and only if what is written is not of that form.
 pub(crate) fn pair(written: &[u8]) -> Option<(&[u8], &[u8])>
     ensures { option_map {U = List ℕ × List ℕ} (λ p. (p.0.now, p.1.now)) result
         ≡ (if has_form written.now then Some (key_in written.now, value_in written.now) else None) }

@@ -8,7 +8,7 @@ use parent_rule::Combine;
 // The greatest number of digits.
 const MOST_DIGITS: usize = 19;
 
-/// The whole number that the value spells, with or without a sign and with 1 to 19 digits; `None` exactly where it spells
+/// The whole number that the value spells, with or without a sign and with 1 to 19 digits; `None` if and only if it spells
 /// none of 64 bits.
 #[tactic(auto, unfolding(crate::specs::Numbers::whole))]
 pub(crate) fn whole(value: &[u8]) -> Option<i64>

@@ -24,7 +24,7 @@ pub(crate) enum Line {
 }
 
 /// The line at the front of the bytes, in a survey whose leaves are of order `top`, and what follows its line feed; `None`
-/// exactly where the bytes don't begin with a line.
+/// if and only if the bytes don't begin with a line.
 #[tactic(auto, unfolding(crate::specs::Line::line_at))]
 pub(crate) fn line_at(bytes: &[u8], top: u8) -> Option<(Line, &[u8])>
     requires { top ≤ 11 }

@@ -48,7 +48,7 @@ impl State {
     ///
     /// # Errors
     ///
-    /// `TooMany` with the number of leaves exactly where their charge exceeds 2^29 bytes; `OutOfMemory` where there is no
+    /// `TooMany` with the number of leaves if and only if their charge exceeds 2^29 bytes; `OutOfMemory` where there is no
     /// memory for the journal.
     pub fn start(alloc: Global, generation: Arc<Generation>) -> Result<State, StartRefusal>
         requires first { (arc_value generation).prefix ≡ 0 }
@@ -69,8 +69,8 @@ impl State {
     ///
     /// # Errors
     ///
-    /// `Fault` with the first that stands: `Exists` exactly where an Add's leaf is there after all edits, `Absent` exactly
-    /// where a Replace's or a Remove's isn't, `Edits` exactly where there are 65,536 edits, `Bytes` exactly where the charge
+    /// `Fault` with the first that stands: `Exists` if and only if an Add's leaf is there after all edits, `Absent` exactly
+    /// where a Replace's or a Remove's isn't, `Edits` if and only if there are 65,536 edits, `Bytes` if and only if the charge
     /// would exceed 2^29. `OutOfMemory` where there is no memory for the new state.
     pub fn accept(&self, edit: Edit) -> Result<State, EditRefusal>
         requires fits { FitsEdit self.now.conf.shape (edit_of edit) }
@@ -112,7 +112,7 @@ impl State {
     ///
     /// # Errors
     ///
-    /// `Already` with the tip exactly where the generation's prefix isn't greater than the tip; `OutOfMemory` where there is
+    /// `Already` with the tip if and only if the generation's prefix isn't greater than the tip; `OutOfMemory` where there is
     /// no memory for the new state.
     pub fn install(&self, generation: Arc<Generation>) -> Result<State, InstallRefusal>
         requires conf { (arc_value generation).conf ≡ self.now.conf }

@@ -15,7 +15,7 @@ pub trait Door {
     /// What a connection's peer is sent.
     type Out: Sink + Drop;
 
-    /// The connections to come, taken and given back, where they are told.
+    /// The connections to come, taken and given back, where the proof can see them.
     ghost connections: { Self → Option Connections };
 
     /// How often it has failed. The count never falls.
@@ -24,12 +24,12 @@ pub trait Door {
     /// How often there was no memory to accept a connection. The count never falls.
     ghost wants: { Self → ℕ };
 
-    /// The next connection; `None` exactly where none is left, where that is told. Its ends have the same number, and no other
-    /// connection of the door has it, where the connections are told.
+    /// The next connection; `None` if and only if none is left, where the proof can see that. Its ends have the same number, and no other
+    /// connection of the door has it, where the proof can see the connections.
     ///
     /// # Errors
     ///
-    /// `DoorFault::Failed` exactly where the count of faults rose, `DoorFault::OutOfMemory` exactly where that of wants did, but
+    /// `DoorFault::Failed` if and only if the count of faults rose, `DoorFault::OutOfMemory` if and only if that of wants did, but
     /// for a count that stands at its type's end. The connections stay.
     fn accept(&mut self) -> Result<Option<(Self::In, Self::Out)>, DoorFault>
         ensures next { IfOk result (λ next. MatchOption next

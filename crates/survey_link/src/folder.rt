@@ -7,7 +7,7 @@ use crate::file_fault::FileFault;
 
 /// A folder of files by their paths.
 pub(crate) trait Folder {
-    /// The files, where they are told.
+    /// The files, where the proof can see them.
     ghost files: { Self → Option ShelfFiles };
 
     /// Makes the folders that are missing on the way to the path.

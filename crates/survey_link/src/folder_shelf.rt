@@ -74,7 +74,7 @@ impl<R> FolderShelf<R> {
         self.faults
     }
 
-    /// The last call that failed; `None` exactly where none did.
+    /// The last call that failed; `None` if and only if none did.
     pub fn last_fault(&self) -> Option<&FailedCall>
         ensures { IsNone result ↔ (self.now.faults ≡ 0) }
     {

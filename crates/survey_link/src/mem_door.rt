@@ -1,4 +1,4 @@
-//! A door in memory that fails where it is told to.
+//! A door in memory that fails where the proof can see it to.
 ghost use Rattle.std.specs.Prelude.{◌≡◌, ◌≤◌, ◌↔◌, [], Some, Contains, length, slice_get, IfOk, IsErrOf, MatchOption, option_copied, option_map};
 ghost use Rattle.survey_link.specs.Door.{Takes, NoneWaits, given_back};
 ghost use Rattle.survey_link.specs.Memory.{connection_of, connections_of, numbered, after_accept, after_none, after_failed_accept, after_wanting, after_done};

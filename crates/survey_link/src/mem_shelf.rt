@@ -1,4 +1,4 @@
-//! A shelf in memory that fails where it is told to.
+//! A shelf in memory that fails where the proof can see it to.
 ghost use Rattle.std.specs.Prelude.{◌≡◌, ◌≤◌, ◌↔◌, Some, Contains, String, Vec, map, string_bytes, IfOk, OnOk, OnErr, IsErr, IsErrOf, option_map};
 ghost use Rattle.std.specs.FinMap.{empty, keys, get, insert, remove};
 ghost use Rattle.survey_link.specs.Shelf.{Lists};

@@ -1,4 +1,4 @@
-//! A source in memory that fails where it is told to.
+//! A source in memory that fails where the proof can see it to.
 ghost use Rattle.std.specs.Prelude.{◌≡◌, ◌<◌, ◌≤◌, ◌↔◌, None, Some, Contains, length, take, IfOk, OnErr, IsErr};
 ghost use Rattle.std.specs.Io.KnownBytes.{Consumes, IsAtEnd};
 ghost use Rattle.survey_link.specs.Link.{told_count, readings_after};

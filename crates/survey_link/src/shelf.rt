@@ -8,7 +8,7 @@ use std::alloc::Global;
 
 /// Where files lie by their paths.
 pub trait Shelf {
-    /// The files, where they are told.
+    /// The files, where the proof can see them.
     ghost files: { Self → Option ShelfFiles };
 
     /// How often it has failed. The count never falls.
@@ -25,7 +25,7 @@ pub trait Shelf {
         ensures failed { IsErrOf result LinkFault.Failed → Rises (faults self.old) (faults self.new) }
         ensures never_falls { faults self.old ≤ faults self.new };
 
-    /// The bytes of a file; `None` exactly where the path isn't there.
+    /// The bytes of a file; `None` if and only if the path isn't there.
     ///
     /// # Errors
     ///

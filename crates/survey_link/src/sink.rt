@@ -8,19 +8,19 @@ use crate::parts::{rest_of, total};
 
 /// Where bytes go to.
 pub trait Sink {
-    /// The bytes held, where they are told.
+    /// The bytes held, where the proof can see them.
     ghost held: { Self → Option (List ℕ) };
 
-    /// Those of the bytes held that were flushed, where they are told.
+    /// Those of the bytes held that were flushed, where the proof can see them.
     ghost flushed: { Self → Option (List ℕ) };
 
     /// How often it has failed. The count never falls.
     ghost faults: { Self → ℕ };
 
-    /// The number of its connection among those of the door that it came through, where it is told. It stays.
+    /// The number of its connection among those of the door that it came through, where the proof can see it. It stays.
     ghost number: { Self → Option ℕ };
 
-    /// Writes some first bytes of `buf`, at least one, and answers how many. What was flushed stays.
+    /// Writes a prefix of `buf`, at least one, and answers how many. What was flushed stays.
     ///
     /// # Errors
     ///
@@ -70,7 +70,7 @@ pub trait Sink {
 ///
 /// # Errors
 ///
-/// `Failed` only where the sink's count of faults rose; some first bytes may have been written.
+/// `Failed` only where the sink's count of faults rose; a prefix may have been written.
 pub fn write_whole<K: Sink>(sink: &mut K, bytes: &[u8]) -> Result<(), Failed>
     ensures whole { OnOk result (Appends (K.held sink.old) (K.held sink.new) bytes.now) }
     ensures part { OnErr result (AppendsPrefix (K.held sink.old) (K.held sink.new) bytes.now) }
@@ -90,7 +90,7 @@ pub fn write_whole<K: Sink>(sink: &mut K, bytes: &[u8]) -> Result<(), Failed>
 ///
 /// # Errors
 ///
-/// `Failed` only where the sink's count of faults rose; some first bytes may have been written.
+/// `Failed` only where the sink's count of faults rose; a prefix may have been written.
 pub fn write_all_parts<K: Sink>(sink: &mut K, parts: [&[u8]; 4]) -> Result<(), Failed>
     ensures whole { OnOk result (Appends (K.held sink.old) (K.held sink.new) (parts_bytes parts.entry)) }
     ensures part { OnErr result (AppendsPrefix (K.held sink.old) (K.held sink.new) (parts_bytes parts.entry)) }

@@ -7,19 +7,19 @@ use crate::faults::Failed;
 
 /// Where bytes come from.
 pub trait Source {
-    /// The bytes left, where they are told.
+    /// The bytes left, where the proof can see them.
     ghost left: { Self → Option (List ℕ) };
 
-    /// The number of its readings, where it is told: one for each call of `read`, refused or not, and for no other call.
+    /// The number of its readings, where the proof can see it: one for each call of `read`, refused or not, and for no other call.
     ghost readings: { Self → Option ℕ };
 
     /// How often it has failed. The count never falls.
     ghost faults: { Self → ℕ };
 
-    /// The number of its connection among those of the door that it came through, where it is told. It stays.
+    /// The number of its connection among those of the door that it came through, where the proof can see it. It stays.
     ghost number: { Self → Option ℕ };
 
-    /// Reads the next bytes to the front of `buf`, and answers how many: 0 exactly where nothing is left.
+    /// Reads the next bytes to the front of `buf`, and answers how many: 0 if and only if nothing is left.
     ///
     /// # Errors
     ///

@@ -46,7 +46,7 @@ impl<R> StreamSource<R> {
         }
     }
 
-    /// What was answered by the last call that failed; `None` exactly where none did.
+    /// What was answered by the last call that failed; `None` if and only if none did.
     pub fn last_error(&self) -> Option<io::Error>
         ensures { IsNone result ↔ (self.now.faults ≡ 0) }
     {
@@ -135,7 +135,7 @@ impl<W> StreamSink<W> {
         }
     }
 
-    /// What was answered by the last call that failed; `None` exactly where none did.
+    /// What was answered by the last call that failed; `None` if and only if none did.
     pub fn last_error(&self) -> Option<io::Error>
         ensures { IsNone result ↔ (self.now.faults ≡ 0) }
     {

@@ -26,7 +26,7 @@ use survey_link::{Door, DoorFault};
 /// a fault: that the system refuses to listen, to accept, or to split a stream into its halves. An accept that the system
 /// interrupts, or whose client has gone, is made again and counts as none; one for which the system has no descriptor or no
 /// buffer is made again for five minutes, after a pause each time, before it counts. Nor does one for which there is no memory, which has
-/// a count of its own; its client is let go. A connection that is given back is closed.
+/// a count of its own; its client is dropped. A connection that is given back is closed.
 ///
 /// The log gets each connection's client, with the place of the door among those of its address and the connection's number
 /// at it, both from 1 on. A Unix socket doesn't tell its clients apart.
@@ -111,7 +111,7 @@ where
 }
 
 impl<R, N> TcpDoor<R, N> {
-    /// What the door was last refused; `None` exactly where it was never refused anything.
+    /// What the door was last refused; `None` if and only if it was never refused anything.
     pub fn refusal(&self) -> Option<Refusal>
         ensures { result ≡ self.now.refusal }
     {

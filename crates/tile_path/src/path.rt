@@ -50,7 +50,7 @@ impl Path {
         }
     }
 
-    /// The path with that spelling; `None` exactly where no path has it, tiles of orders 0 to 11 counted.
+    /// The path with that spelling; `None` if and only if no path has it, tiles of orders 0 to 11 counted.
     pub fn read(text: &[u8]) -> Option<Path>
         ensures path { IfSome result IsPath }
         ensures spelled { IfSome result (λ path. spelling path ≡ text.now) }

@@ -71,7 +71,7 @@ pub fn tsv_into(cell: Cell, out: &mut [u8]) -> usize
     write_tile(cell, CATALOGUE_SUFFIX, out)
 }
 
-/// The cell of the catalogue tile with that path; `None` exactly where no cell of an order up to 11 has it.
+/// The cell of the catalogue tile with that path; `None` if and only if no cell of an order up to 11 has it.
 pub fn read_tsv(text: &[u8]) -> Option<Cell>
     ensures tile { IfSome result (λ cell. IsTile cell.order cell.npix) }
     ensures spelled { IfSome result (λ cell. catalogue_spelling cell.order cell.npix ≡ text.now) }
