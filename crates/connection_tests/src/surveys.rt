@@ -27,7 +27,7 @@ pub(crate) fn serve<B: ChangedWith<R>, R: Threads + Sync + Clock + Log>(
 ) -> SessionEnd {
     let gate = OpenGate::new();
     let served = session(rt, alloc, board, source, sink, &gate, steps);
-    if served.wants != 0 {
+    if served.memory_faults != 0 {
         return SessionEnd::OutOfMemory;
     }
     served.end

@@ -88,7 +88,7 @@ published_serves law old new steps steps' k h all bound request = record {
   legal = h.legal;
   begins = event_begins old new (Publishes k) h;
   seat = h.seat;
-  at_each = λ first_own first_steps wants before at.
+  at_each = λ first_own first_steps memory_faults before at.
       let place = length h.before in
       let begins : Begins old.history new.history = event_begins old new (Publishes k) h in
       let last : h.state ≡ last_seen new = sym (ap last_of h.history ∙ last_of-push h.before h.state) in
@@ -99,19 +99,19 @@ published_serves law old new steps steps' k h all bound request = record {
       let tip : h.state.tip ≡ k = h.event.tip in
       record {
         after = event_point place cost before;
-        at = event_at old new (Publishes k) h first_own first_steps steps wants before at steps' cost paid (published k) refl;
-        never_falls = omega (arith, event_later old new (Publishes k) h first_own first_steps steps wants before at);
+        at = event_at old new (Publishes k) h first_own first_steps steps memory_faults before at steps' cost paid (published k) refl;
+        never_falls = omega (arith, event_later old new (Publishes k) h first_own first_steps steps memory_faults before at);
         answers = inl (record {
           known = known old new h.legal begins before.place at.within;
           old = last_of h.before;
           new = h.state;
           known_there = known_there old new h.legal begins before.place at.within;
-          old_there = event_old old new (Publishes k) h first_own first_steps steps wants before at;
+          old_there = event_old old new (Publishes k) h first_own first_steps steps memory_faults before at;
           new_there = there;
           publication = h.event.publication;
           all = omega (arith, tip, all, known_edits old new h.legal begins before.place at.within);
-          told = ap published (sym tip);
-          step = event_steps old new (Publishes k) h first_own first_steps steps wants before at cost;
+          answer_is = ap published (sym tip);
+          step = event_steps old new (Publishes k) h first_own first_steps steps memory_faults before at cost;
         });
         cost = refl;
       };
@@ -125,7 +125,7 @@ already_serves law old new steps steps' k stays is bound request = record {
   legal = stays.legal;
   begins = stays.earlier;
   seat = stays.seat;
-  at_each = λ first_own first_steps wants before at.
+  at_each = λ first_own first_steps memory_faults before at.
       let place = length new.history - 1 in
       let some : 0 < length new.history = history_some new.opening new.history stays.legal in
       let there : slice_get new.history place ≡ Some (last_seen new) = newest_there old new stays.legal in
@@ -136,13 +136,13 @@ already_serves law old new steps steps' k stays is bound request = record {
       = known_cost old new stays.legal stays.earlier before.place at.within law new.conf.shape place (last_seen new) steps steps' there (ap (λ c. c.shape) stays.conf) refl bound in
       record {
         after = kept_point place cost before;
-        at = kept_at first_own first_steps old new steps steps' wants cost place before at late within paid stays (already k) refl;
-        never_falls = place_rises first_own first_steps old new steps steps' wants cost place before at late within paid;
+        at = kept_at first_own first_steps old new steps steps' memory_faults cost place before at late within paid stays (already k) refl;
+        never_falls = place_rises first_own first_steps old new steps steps' memory_faults cost place before at late within paid;
         answers = inr (inl (record {
           state = last_seen new;
           there = there;
           all = is.tip ∙ sym is.edits;
-          told = ap already (sym is.tip);
+          answer_is = ap already (sym is.tip);
           kept = kept_keeps place cost before;
         }));
         cost = refl;
@@ -158,12 +158,12 @@ serves_later old mid new steps steps' request call answer stays serves = record 
   legal = serves.legal;
   begins = begins_trans old.history mid.history new.history stays.earlier serves.begins;
   seat = keeps_trans old mid new stays.seat serves.seat;
-  at_each = λ first_own first_steps wants before at. serves.at_each first_own first_steps wants before (record {
+  at_each = λ first_own first_steps memory_faults before at. serves.at_each first_own first_steps memory_faults before (record {
     within = (let w = at.within in omega (arith, begins_length old.history mid.history stays.earlier));
     held = subst (IsHeld mid.history before.held) (sym stays.held) (held_stays old.history mid.history before.held old.held stays.earlier at.held);
     own_is = stays.own ∙ at.own_is;
     own_seen = at.own_seen;
-    wants_is = at.wants_is;
+    memory_faults_is = at.memory_faults_is;
     steps_are = at.steps_are;
   });
 }
@@ -178,7 +178,7 @@ no_memory_serves old new steps steps' call stays request none = record {
   legal = stays.legal;
   begins = stays.earlier;
   seat = stays.seat;
-  at_each = λ first_own first_steps wants before at.
+  at_each = λ first_own first_steps memory_faults before at.
       let place = length new.history - 1 in
       let some : 0 < length new.history = history_some new.opening new.history stays.legal in
       let cost = cost_of new.conf new.history request call before.place place in
@@ -186,9 +186,9 @@ no_memory_serves old new steps steps' call stays request none = record {
       let within : place < length new.history = omega arith in
       record {
         after = wanting_point place cost before;
-        at = wanting_at first_own first_steps old new steps steps' wants cost place before at late within stays no_memory refl;
+        at = wanting_at first_own first_steps old new steps steps' memory_faults cost place before at late within stays no_memory refl;
         never_falls = let w = at.within in omega arith;
-        answers = none before (wanting_point place cost before) (record { held = refl; own = refl; wants = refl; told = refl });
+        answers = none before (wanting_point place cost before) (record { held = refl; own = refl; memory_faults = refl; answer_is = refl });
         cost = refl;
       };
 }
@@ -210,12 +210,12 @@ pinned_serves old mid new steps stays is request =
       legal = legal;
       begins = begins;
       seat = subst (KeepsSeat old) (sym is) (keeps_holding old mid stays.seat);
-      at_each = λ first_own first_steps wants before at.
+      at_each = λ first_own first_steps memory_faults before at.
           let place = length new.history - 1 in
           let there : slice_get new.history place ≡ Some (last_seen new) = newest_there old new legal in
           let late : length old.history ≤ place + 1 = omega (arith, begins_length old.history new.history begins) in
           let w = at.within in
-          let same = wants_found wants (pinned (last_seen new).tip) refl in
+          let same = wants_found memory_faults (pinned (last_seen new).tip) refl in
           record {
             after = holding_point place 0 before;
             at = record {
@@ -223,15 +223,15 @@ pinned_serves old mid new steps stays is request =
               held = (last_seen new, there, held);
               own_is = ap (λ b. b.own) is ∙ stays.own ∙ at.own_is;
               own_seen = later_own before.own before.place place (omega arith) at.own_seen;
-              wants_is = same ∙ at.wants_is;
+              memory_faults_is = same ∙ at.memory_faults_is;
               steps_are = λ none. let h = at.steps_are (sym same ∙ none) in omega arith;
             };
             never_falls = omega arith;
             answers = record {
               state = last_seen new;
               there = there;
-              told = refl;
-              holds = record { held = refl; own = refl; wants = refl };
+              answer_is = refl;
+              holds = record { held = refl; own = refl; memory_faults = refl };
             };
             cost = refl;
           };
@@ -248,10 +248,10 @@ released_serves old new steps legal owned is request =
       legal = legal;
       begins = begins;
       seat = keeps_holding_none old new is owned;
-      at_each = λ first_own first_steps wants before at.
+      at_each = λ first_own first_steps memory_faults before at.
           let place = before.place in
           let w : place < length old.history = at.within in
-          let same = wants_found wants released refl in
+          let same = wants_found memory_faults released refl in
           record {
             after = released_point place 0 before;
             at = record {
@@ -259,11 +259,11 @@ released_serves old new steps legal owned is request =
               held = ap (λ b. b.held) is;
               own_is = ap (λ b. b.own) is ∙ at.own_is;
               own_seen = at.own_seen;
-              wants_is = same ∙ at.wants_is;
+              memory_faults_is = same ∙ at.memory_faults_is;
               steps_are = λ none. let h = at.steps_are (sym same ∙ none) in omega arith;
             };
             never_falls = omega arith;
-            answers = (record { held = refl; own = refl; wants = refl }, refl);
+            answers = (record { held = refl; own = refl; memory_faults = refl }, refl);
             cost = refl;
           };
     }

@@ -53,15 +53,15 @@ module _ (old new : BoardContent) (steps steps' cost : ℕ) (request : Asking) (
     legal = stays.legal;
     begins = stays.earlier;
     seat = stays.seat;
-    at_each = λ first_own first_steps wants before at.
+    at_each = λ first_own first_steps memory_faults before at.
         let place = length new.history - 1 in
         let some : 0 < length new.history = history_some new.opening new.history stays.legal in
         let late : length old.history ≤ place + 1 = omega (arith, begins_length old.history new.history stays.earlier) in
         let within : place < length new.history = omega arith in
         record {
           after = kept_point place cost before;
-          at = kept_at first_own first_steps old new steps steps' wants cost place before at late within bound stays answer found;
-          never_falls = place_rises first_own first_steps old new steps steps' wants cost place before at late within bound;
+          at = kept_at first_own first_steps old new steps steps' memory_faults cost place before at late within bound stays answer found;
+          never_falls = place_rises first_own first_steps old new steps steps' memory_faults cost place before at late within bound;
           answers = wrap before (kept_point place cost before) (kept_keeps place cost before, refl);
           cost = ap (λ n. before.cost + n) (sym (cost_is before.place place));
         };
@@ -78,8 +78,8 @@ module _ (old new : BoardContent) (steps steps' cost : ℕ) (request : Asking) (
     legal = stays.legal;
     begins = stays.earlier;
     seat = stays.seat;
-    at_each = λ first_own first_steps wants before at.
-        let rises : before.place ≤ place = place_rises first_own first_steps old new steps steps' wants cost place before at late within bound in
+    at_each = λ first_own first_steps memory_faults before at.
+        let rises : before.place ≤ place = place_rises first_own first_steps old new steps steps' memory_faults cost place before at late within bound in
         let seen : (place ≡ before.place) ⊎ (¬ Contains before.own place) = elim (cases_order before.place place) [
           | inl same ↦ inl (sym same)
           | inr (inl less) ↦ inr (λ own. let known = All-contains (λ p. p ≤ before.place) before.own place at.own_seen own in absurd (omega arith))
@@ -87,13 +87,13 @@ module _ (old new : BoardContent) (steps steps' cost : ℕ) (request : Asking) (
         ] in
         record {
           after = kept_point place cost before;
-          at = kept_at first_own first_steps old new steps steps' wants cost place before at late within bound stays answer found;
+          at = kept_at first_own first_steps old new steps steps' memory_faults cost place before at late within bound stays answer found;
           never_falls = rises;
           answers = wrap before (kept_point place cost before) (inl (record {
             state = state;
             there = there;
             seen = seen;
-            told = told;
+            answer_is = told;
             kept = kept_keeps place cost before;
           }));
           cost = ap (λ n. before.cost + n) (sym (cost_is before.place place));
@@ -114,22 +114,22 @@ module _ (old new : BoardContent) (steps steps' cost : ℕ) (request : Asking) (
         legal = h.legal;
         begins = event_begins old new E h;
         seat = h.seat;
-        at_each = λ first_own first_steps wants before at.
+        at_each = λ first_own first_steps memory_faults before at.
             let place = length h.before in
             record {
               after = event_point place cost before;
-              at = event_at old new E h first_own first_steps steps wants before at steps' cost bound answer found;
-              never_falls = omega (arith, event_later old new E h first_own first_steps steps wants before at);
+              at = event_at old new E h first_own first_steps steps memory_faults before at steps' cost bound answer found;
+              never_falls = omega (arith, event_later old new E h first_own first_steps steps memory_faults before at);
               answers = wrap before (event_point place cost before) (inr (record {
                 old = last_of h.before;
                 new = h.state;
                 items = items;
-                old_there = event_old old new E h first_own first_steps steps wants before at;
+                old_there = event_old old new E h first_own first_steps steps memory_faults before at;
                 new_there = event_new old new E h;
                 judged = rw h.opening judged;
                 appended = rw h.opening h.event;
-                told = rw h.opening told;
-                step = event_steps old new E h first_own first_steps steps wants before at cost;
+                answer_is = rw h.opening told;
+                step = event_steps old new E h first_own first_steps steps memory_faults before at cost;
               }));
               cost = ap (λ n. before.cost + n) (sym (cost_is before.place place));
             };

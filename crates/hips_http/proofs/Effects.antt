@@ -22,32 +22,32 @@ pub record Moves (p a : Point) : Type 0 where
 
 pub record Effect (p a : Point) : Type 0 where
   pub own : (a.own ≡ p.own) ⊎ Moves p a
-  pub wants : p.wants ≤ a.wants
+  pub memory_faults : p.memory_faults ≤ a.memory_faults
 
-quiet : (p a : Point) → a.own ≡ p.own → a.wants ≡ p.wants → Effect p a
-quiet p a own wants = record { own = inl own; wants = omega (arith, wants) }
+quiet : (p a : Point) → a.own ≡ p.own → a.memory_faults ≡ p.memory_faults → Effect p a
+quiet p a own memory_faults = record { own = inl own; memory_faults = omega (arith, memory_faults) }
 
 event : (p a : Point) → Steps p a → Effect p a
-event p a s = record { own = inr (record { later = s.later; own = s.own }); wants = (let w = s.wants in omega (arith, w)) }
+event p a s = record { own = inr (record { later = s.later; own = s.own }); memory_faults = (let w = s.memory_faults in omega (arith, w)) }
 
-wanting : (p a : Point) → a.own ≡ p.own → a.wants ≡ p.wants + 1 → Effect p a
-wanting p a own wants = record { own = inl own; wants = omega (arith, wants) }
+wanting : (p a : Point) → a.own ≡ p.own → a.memory_faults ≡ p.memory_faults + 1 → Effect p a
+wanting p a own memory_faults = record { own = inl own; memory_faults = omega (arith, memory_faults) }
 
 changes_effect : (opening : LeafTiles) (states : List SurveyState) (asked : Asked) (p a : Point) (answer : Answer) → Changes opening states asked p a answer → Effect p a
-changes_effect opening states (Err refusal) p a answer (inl j) = quiet p a j.0.own j.0.wants
-changes_effect opening states (Ok change) p a answer (inl (inl r)) = quiet p a r.kept.own r.kept.wants
+changes_effect opening states (Err refusal) p a answer (inl j) = quiet p a j.0.own j.0.memory_faults
+changes_effect opening states (Ok change) p a answer (inl (inl r)) = quiet p a r.kept.own r.kept.memory_faults
 changes_effect opening states (Ok change) p a answer (inl (inr r)) = event p a r.step
-changes_effect opening states asked p a answer (inr none) = wanting p a none.own none.wants
+changes_effect opening states asked p a answer (inr none) = wanting p a none.own none.memory_faults
 
 effect : (conf : Description) (opening : LeafTiles) (states : List SurveyState) (request : Asking) (wanted : Call) (p a : Point) (answer : Answer)
     → Answers conf opening states request wanted p a answer → Effect p a
-effect conf opening states request (call.NotAllowed allow) p a answer is = quiet p a is.0.own is.0.wants
-effect conf opening states request (call.File file) p a answer is = quiet p a is.kept.own is.kept.wants
-effect conf opening states request call.Pin p a answer is = quiet p a is.holds.own is.holds.wants
-effect conf opening states request call.Unpin p a answer is = quiet p a is.0.own is.0.wants
+effect conf opening states request (call.NotAllowed allow) p a answer is = quiet p a is.0.own is.0.memory_faults
+effect conf opening states request (call.File file) p a answer is = quiet p a is.kept.own is.kept.memory_faults
+effect conf opening states request call.Pin p a answer is = quiet p a is.holds.own is.holds.memory_faults
+effect conf opening states request call.Unpin p a answer is = quiet p a is.0.own is.0.memory_faults
 effect conf opening states request call.Publish p a answer (inl r) = event p a r.step
-effect conf opening states request call.Publish p a answer (inr (inl h)) = quiet p a h.kept.own h.kept.wants
-effect conf opening states request call.Publish p a answer (inr (inr none)) = wanting p a none.own none.wants
+effect conf opening states request call.Publish p a answer (inr (inl h)) = quiet p a h.kept.own h.kept.memory_faults
+effect conf opening states request call.Publish p a answer (inr (inr none)) = wanting p a none.own none.memory_faults
 effect conf opening states request call.Batch p a answer is = changes_effect opening states (asked_batch conf request) p a answer is
 effect conf opening states request (call.Put leaf) p a answer is = changes_effect opening states (asked_put conf request leaf) p a answer is
 effect conf opening states request (call.Delete leaf) p a answer is = changes_effect opening states (asked_delete request leaf) p a answer is
@@ -60,11 +60,11 @@ module _ (conf : Description) (opening : LeafTiles) (states : List SurveyState) 
   output_effect : (count : ℕ) (request : Asking) (p a : Point) (output : List ℕ) → IsOutput conf opening states count request p a output → Effect p a
   output_effect count request p a output is = effect conf opening states request (call_of request.asked.method is.answered.kind) p a is.answer is.answered.answers
 
-  pub wants_rise : (count : ℕ) (p : Point) (requests : List Asking) (last : Point) (outputs : List (List ℕ)) → AreAnswered conf opening states count p requests last outputs → p.wants ≤ last.wants
-  wants_rise count p [] last outputs is = omega (arith, ap (λ (x : Point). x.wants) is.0)
+  pub wants_rise : (count : ℕ) (p : Point) (requests : List Asking) (last : Point) (outputs : List (List ℕ)) → AreAnswered conf opening states count p requests last outputs → p.memory_faults ≤ last.memory_faults
+  wants_rise count p [] last outputs is = omega (arith, ap (λ (x : Point). x.memory_faults) is.0)
   wants_rise count p (request ∷ requests) last [] is = absurd is
   wants_rise count p (request ∷ requests) last (output ∷ outputs) is =
-      let one = (output_effect count request p is.0 output is.1).wants in
+      let one = (output_effect count request p is.0 output is.1).memory_faults in
       let more = wants_rise (count + 1) is.0 requests last outputs is.2 in
       omega (arith, one, more)
 

@@ -69,7 +69,7 @@ module _ (request : Asking) (file : Option Path) (path : Option (List ℕ)) (pat
     legal = stays.legal;
     begins = stays.earlier;
     seat = stays.seat;
-    at_each = λ first_own first_steps wants before at.
+    at_each = λ first_own first_steps memory_faults before at.
         let place = length new.history - 1 in
         let some : 0 < length new.history = history_some new.opening new.history stays.legal in
         let late : length old.history ≤ place + 1 = omega (arith, begins_length old.history new.history stays.earlier) in
@@ -78,13 +78,13 @@ module _ (request : Asking) (file : Option Path) (path : Option (List ℕ)) (pat
         let free : before.held ≡ None = none_held old.history before.held old.held at.held none in
         record {
           after = kept_point place 0 before;
-          at = kept_at first_own first_steps old new steps steps wants 0 place before at late within bound stays (file_answer state.conf state.opening (survey_state state) path)
+          at = kept_at first_own first_steps old new steps steps memory_faults 0 place before at late within bound stays (file_answer state.conf state.opening (survey_state state) path)
               (file_found state.conf state.opening (survey_state state) path);
-          never_falls = place_rises first_own first_steps old new steps steps wants 0 place before at late within bound;
+          never_falls = place_rises first_own first_steps old new steps steps memory_faults 0 place before at late within bound;
           answers = record {
             state = last_seen new;
             there = rw free (last_there new.history some);
-            told = rw (path_is, is) refl;
+            answer_is = rw (path_is, is) refl;
             kept = kept_keeps place 0 before;
           };
           cost = refl;
@@ -100,7 +100,7 @@ module _ (request : Asking) (file : Option Path) (path : Option (List ℕ)) (pat
     legal = legal;
     begins = (stays_itself board legal owned).earlier;
     seat = keeps_itself board owned;
-    at_each = λ first_own first_steps wants before at.
+    at_each = λ first_own first_steps memory_faults before at.
         let place = length board.history - 1 in
         let some : 0 < length board.history = history_some board.opening board.history legal in
         let late : length board.history ≤ place + 1 = omega arith in
@@ -108,13 +108,13 @@ module _ (request : Asking) (file : Option Path) (path : Option (List ℕ)) (pat
         let bound : steps ≤ steps + 0 = omega arith in
         record {
           after = kept_point place 0 before;
-          at = kept_at first_own first_steps board board steps steps wants 0 place before at late within bound (stays_itself board legal owned) (file_answer state.conf state.opening (survey_state state) path)
+          at = kept_at first_own first_steps board board steps steps memory_faults 0 place before at late within bound (stays_itself board legal owned) (file_answer state.conf state.opening (survey_state state) path)
               (file_found state.conf state.opening (survey_state state) path);
-          never_falls = place_rises first_own first_steps board board steps steps wants 0 place before at late within bound;
+          never_falls = place_rises first_own first_steps board board steps steps memory_faults 0 place before at late within bound;
           answers = record {
             state = holds.of_survey;
             there = some_held board.history before.held board.held holds.of_survey place at.held holds.held_is;
-            told = rw (path_is, holds.is) refl;
+            answer_is = rw (path_is, holds.is) refl;
             kept = kept_keeps place 0 before;
           };
           cost = refl;

@@ -61,12 +61,12 @@ edited_fits leaf false edits = refl
 
 module _ (opening : LeafTiles) (states : List SurveyState) (p a : Point) (answer : Answer) where
   -- a change that is accepted by the state that judges it isn't refused
-  not_refused : (change : Change) → (a.wants ≡ p.wants → IsAcceptedAt opening states (judging_place p a) change) → Refuses opening states change p a answer → ⊥
+  not_refused : (change : Change) → (a.memory_faults ≡ p.memory_faults → IsAcceptedAt opening states (judging_place p a) change) → Refuses opening states change p a answer → ⊥
   not_refused change accepts r =
-      let is = accepts r.kept.wants in
+      let is = accepts r.kept.memory_faults in
       let place : judging_place p a ≡ a.place = ap (λ (b : Bool). if b then a.place else a.place - 1) (eq-eqb (length a.own) (length p.own) (ap length r.kept.own)) in
       let one : is.state ≡ r.state = some_same is.state r.state (sym is.there ∙ ap (λ (n : ℕ). slice_get states n) place ∙ r.there) in
-      none-some answer (sym (ap (refusal_of (length (edits_at r.state))) (ap (λ (x : SurveyState). verdict opening (edits_at x) change) (sym one) ∙ is.judged)) ∙ r.told)
+      none-some answer (sym (ap (refusal_of (length (edits_at r.state))) (ap (λ (x : SurveyState). verdict opening (edits_at x) change) (sym one) ∙ is.judged)) ∙ r.answer_is)
 
   -- what is asked for is done, or there is no memory for it
   judged_fits : (wanted : Call) (change : Change) → IsAccepted opening states (Ok change) p a
@@ -74,8 +74,8 @@ module _ (opening : LeafTiles) (states : List SurveyState) (p a : Point) (answer
       → fulfils wanted 503 ≡ true → Changes opening states (Ok change) p a answer → fulfils wanted answer.code ≡ true
   judged_fits wanted change accepts done want (inl (inl r)) = absurd (not_refused change accepts r)
   judged_fits wanted change accepts done want (inl (inr s)) =
-      fulfilled_by wanted answer (accepted_answer opening (edits_at s.old) change (length (edits_at s.new))) s.told (done (edits_at s.old) (length (edits_at s.new)))
-  judged_fits wanted change accepts done want (inr none) = ap (λ (x : Answer). fulfils wanted x.code) none.told ∙ want
+      fulfilled_by wanted answer (accepted_answer opening (edits_at s.old) change (length (edits_at s.new))) s.answer_is (done (edits_at s.old) (length (edits_at s.new)))
+  judged_fits wanted change accepts done want (inr none) = ap (λ (x : Answer). fulfils wanted x.code) none.answer_is ∙ want
 
   put_fits : (asked : Request) (leaf : ℕ) (conf : Description) (read : Result (List ℤ) TileFault) → IsOk read → IsAccepted opening states (put_of conf asked leaf read) p a
       → Changes opening states (put_of conf asked leaf read) p a answer → fulfils (call.Put leaf) answer.code ≡ true
@@ -93,12 +93,12 @@ module _ (opening : LeafTiles) (states : List SurveyState) (p a : Point) (answer
       → Answers conf opening states request wanted p a answer → fulfils wanted answer.code ≡ true
   answer_fits conf request (call.NotAllowed allow) sound accepts is = absurd sound
   answer_fits conf request (call.File file) sound accepts is =
-      fulfilled_by (call.File file) answer (file_answer conf opening is.state request.path) is.told (file_fits file conf opening is.state request.path)
-  answer_fits conf request call.Pin sound accepts is = ap (λ (x : Answer). fulfils call.Pin x.code) is.told
+      fulfilled_by (call.File file) answer (file_answer conf opening is.state request.path) is.answer_is (file_fits file conf opening is.state request.path)
+  answer_fits conf request call.Pin sound accepts is = ap (λ (x : Answer). fulfils call.Pin x.code) is.answer_is
   answer_fits conf request call.Unpin sound accepts is = ap (λ (x : Answer). fulfils call.Unpin x.code) is.1
-  answer_fits conf request call.Publish sound accepts (inl r) = ap (λ (x : Answer). fulfils call.Publish x.code) r.told
-  answer_fits conf request call.Publish sound accepts (inr (inl h)) = ap (λ (x : Answer). fulfils call.Publish x.code) h.told
-  answer_fits conf request call.Publish sound accepts (inr (inr none)) = ap (λ (x : Answer). fulfils call.Publish x.code) none.told
+  answer_fits conf request call.Publish sound accepts (inl r) = ap (λ (x : Answer). fulfils call.Publish x.code) r.answer_is
+  answer_fits conf request call.Publish sound accepts (inr (inl h)) = ap (λ (x : Answer). fulfils call.Publish x.code) h.answer_is
+  answer_fits conf request call.Publish sound accepts (inr (inr none)) = ap (λ (x : Answer). fulfils call.Publish x.code) none.answer_is
   answer_fits conf request call.Batch sound accepts is = batch_fits (batch_entries conf request.body).edits (batch_entries conf request.body).fault sound accepts is
   answer_fits conf request (call.Put leaf) sound accepts is = put_fits request.asked leaf conf (reads conf request.body) sound accepts is
   answer_fits conf request (call.Delete leaf) sound accepts is =

@@ -20,14 +20,14 @@ module _ (count top : ℕ) (old : Moment) (input : Input) (output : Output) (ask
     (close_is : close ≡ (asked.close || (count + 1 == most_requests))) (flushes : FlushesAll old.output.held output.held old.output.flushed output.flushed)
     (source : old.input.faults ≤ input.faults) (sink : old.output.faults ≤ output.faults) (same_room : input.frame.room ≡ old.input.frame.room) where
   abbrev mid : Moment
-  mid = moment input output old.board old.steps old.wants
+  mid = moment input output old.board old.steps old.memory_faults
 
   never_falls_on : NeverFalls mid new → NeverFalls old new
   never_falls_on n = record {
     source = omega (arith, source, n.source);
     sink = omega (arith, sink, n.sink);
     steps = n.steps;
-    wants = n.wants;
+    memory_faults = n.memory_faults;
     room = n.room ∙ same_room;
   }
 

@@ -19,7 +19,7 @@ use Rattle.hips_http.specs.declared.call.PathKind.{PathKind}
 use Rattle.hips_http.specs.Paths.{call_of}
 use Rattle.hips_http.specs.Replies.{Answer, leave_bytes, output_of, refusal_bytes}
 use Rattle.hips_http.specs.Answers.{Asking, Point, Answers}
-use Rattle.hips_http.specs.SessionRun.{most_requests, room_of, AreRequests, AreAnswered, IsOutput, closes, EndsWith, IsCutInput, Exchange, input_of, told_bytes, Ends, first_point}
+use Rattle.hips_http.specs.SessionRun.{most_requests, room_of, AreRequests, AreAnswered, IsOutput, closes, EndsWith, IsCutInput, Exchange, input_of, input_seen, Ends, first_point}
 use Rattle.hips_http.specs.Laws.{Connection, IsNewest, AreNewest, OwnsAll, IsFaultless, IsUndisturbed, IsSameOutcome, EachNewest}
 use Rattle.hips_http.proofs.Points.{stays_there}
 use Rattle.hips_http.proofs.OneKind.{one_kind}
@@ -146,25 +146,25 @@ module _ (one : NextIsOne) (heads : NextHeadIsOne) where
   module _ (differ : SpellingsDiffer) (conf : Description) (opening : LeafTiles) (states later later' : List SurveyState) (room : ℕ) where
     -- one request
     record OneSame (a b : Point) (output output' : List ℕ) : Type 0 where
-      told : output' ≡ output
+      answer_is : output' ≡ output
       point : IsSame states later later' a b
 
     output_same : (count : ℕ) (request : Asking) (p q a b : Point) (output output' : List ℕ) → IsSame states later later' p q → IsOutput conf opening later count request p a output
-        → IsOutput conf opening later' count request q b output' → IsNewest states a → IsNewest states b → a.wants ≡ 0 → b.wants ≡ 0 → OneSame a b output output'
+        → IsOutput conf opening later' count request q b output' → IsNewest states a → IsNewest states b → a.memory_faults ≡ 0 → b.memory_faults ≡ 0 → OneSame a b output output'
     output_same count request p q a b output output' same is is' na nb none none' =
         let kinds : is'.answered.kind ≡ is.answered.kind = one_kind differ conf.shape.top request.path is'.answered.kind is.answered.kind is'.answered.of_kind is.answered.of_kind in
         let answers : Answers conf opening later' request (call_of request.asked.method is.answered.kind) q b is'.answer =
         subst (λ (k : PathKind). Answers conf opening later' request (call_of request.asked.method k) q b is'.answer) kinds is'.answered.answers in
         let comes = answers_same states later later' p q same a b na nb opening is.answer is'.answer none none' conf request (call_of request.asked.method is.answered.kind) is.answered.answers answers in
         record {
-          told = is'.output_is ∙ ap (λ (x : Answer). output_of (closes count request) request.asked x) comes.told ∙ sym is.output_is;
+          answer_is = is'.output_is ∙ ap (λ (x : Answer). output_of (closes count request) request.asked x) comes.answer_is ∙ sym is.output_is;
           point = comes.point;
         }
 
     runs_same : (closed : Bool) (count : ℕ) (bytes : List ℕ) (p q : Point) (requests requests' : List Asking) (rest rest' : List ℕ) (last last' : Point) (outputs outputs' : List (List ℕ))
         → IsSame states later later' p q → AreAll room closed count bytes requests rest → AreAll room closed count bytes requests' rest'
-        → (answered : AreAnswered conf opening later count p requests last outputs) → AreNewest states conf opening later count p requests last outputs answered → last.wants ≡ 0
-        → (answered' : AreAnswered conf opening later' count q requests' last' outputs') → AreNewest states conf opening later' count q requests' last' outputs' answered' → last'.wants ≡ 0
+        → (answered : AreAnswered conf opening later count p requests last outputs) → AreNewest states conf opening later count p requests last outputs answered → last.memory_faults ≡ 0
+        → (answered' : AreAnswered conf opening later' count q requests' last' outputs') → AreNewest states conf opening later' count q requests' last' outputs' answered' → last'.memory_faults ≡ 0
         → RunsSame states later later' requests requests' rest rest' last last' outputs outputs'
     runs_same closed count bytes p q [] [] rest rest' last last' outputs outputs' same all all' is n none is' n' none' = record {
       requests_same = refl;
@@ -192,7 +192,7 @@ module _ (one : NextIsOne) (heads : NextHeadIsOne) where
         record {
           requests_same = rw (request, go.requests_same) refl;
           rest_same = go.rest_same;
-          outputs_same = rw (step.told, go.outputs_same) refl;
+          outputs_same = rw (step.answer_is, go.outputs_same) refl;
           point = go.point;
         }
 
@@ -252,7 +252,7 @@ module _ (one : NextIsOne) (heads : NextHeadIsOne) where
 
 -- ---- the whole
 
-pub told_input : (ended : SessionEnd) (exchange : Exchange) → IsFaultless ended → told_bytes ended exchange ≡ input_of exchange
+pub told_input : (ended : SessionEnd) (exchange : Exchange) → IsFaultless ended → input_seen ended exchange ≡ input_of exchange
 told_input end.Closed exchange f = refl
 told_input end.Asked exchange f = refl
 told_input (end.Refused code) exchange f = refl
@@ -327,7 +327,7 @@ module _ (conf : Description) (opening : LeafTiles) (states : List SurveyState) 
         let go = runs_same one heads differ conf opening states c.later d.later (room_of conf) false 0 (input_of d.exchange) (first_point states) (first_point states)
         c.run.requests d.run.requests c.run.rest d.run.rest c.run.last d.run.last c.run.outputs d.run.outputs
         (first_same states some_states c.later d.later c.run.begins d.run.begins) (all_requests c u.faultless (input_of d.exchange) input) (all_requests d v.faultless (input_of d.exchange) refl)
-        c.run.answered u.newest (sym c.run.wants_is ∙ u.memory) d.run.answered v.newest (sym d.run.wants_is ∙ v.memory) in
+        c.run.answered u.newest (sym c.run.memory_faults_is ∙ u.memory) d.run.answered v.newest (sym d.run.memory_faults_is ∙ v.memory) in
         let place : c.run.last.place + 1 ≡ length c.later = last_place c u.owns go.point.newest in
         let newest' : IsNewest states d.run.last = (let n = go.point.newest in let e = go.point.place in omega (arith, n, e, ap length go.point.own)) in
         let place' : d.run.last.place + 1 ≡ length d.later = last_place d v.owns newest' in

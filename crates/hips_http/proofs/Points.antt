@@ -9,7 +9,7 @@ use Rattle.survey_core.specs.HistoryLaws.{begins_length, begins_trans, begins_mo
 use Rattle.reader_pin.specs.Board.{BoardContent, Stays, Happens, last_of}
 use Rattle.hips_http.specs.Replies.{Answer}
 use Rattle.hips_http.specs.Answers.{Point, Keeps, Steps}
-use Rattle.hips_http.specs.Progress.{IsHeld, IsAt, wants_after}
+use Rattle.hips_http.specs.Progress.{IsHeld, IsAt, memory_faults_after}
 
 -- ---- states
 
@@ -42,29 +42,29 @@ held_stays states more (Some place) held begins is = (is.0, stays_there states m
 -- ---- points
 
 abbrev pub kept_point : ℕ → ℕ → Point → Point
-kept_point place cost before = record { place = place; held = before.held; own = before.own; wants = before.wants; cost = before.cost + cost }
+kept_point place cost before = record { place = place; held = before.held; own = before.own; memory_faults = before.memory_faults; cost = before.cost + cost }
 
 abbrev pub holding_point : ℕ → ℕ → Point → Point
-holding_point place cost before = record { place = place; held = Some place; own = before.own; wants = before.wants; cost = before.cost + cost }
+holding_point place cost before = record { place = place; held = Some place; own = before.own; memory_faults = before.memory_faults; cost = before.cost + cost }
 
 abbrev pub released_point : ℕ → ℕ → Point → Point
-released_point place cost before = record { place = place; held = None; own = before.own; wants = before.wants; cost = before.cost + cost }
+released_point place cost before = record { place = place; held = None; own = before.own; memory_faults = before.memory_faults; cost = before.cost + cost }
 
 abbrev pub event_point : ℕ → ℕ → Point → Point
-event_point place cost before = record { place = place; held = before.held; own = before.own ++ place ∷ []; wants = before.wants; cost = before.cost + cost }
+event_point place cost before = record { place = place; held = before.held; own = before.own ++ place ∷ []; memory_faults = before.memory_faults; cost = before.cost + cost }
 
 abbrev pub wanting_point : ℕ → ℕ → Point → Point
-wanting_point place cost before = record { place = place; held = before.held; own = before.own; wants = before.wants + 1; cost = before.cost + cost }
+wanting_point place cost before = record { place = place; held = before.held; own = before.own; memory_faults = before.memory_faults + 1; cost = before.cost + cost }
 
 pub kept_keeps : (place cost : ℕ) (before : Point) → Keeps before (kept_point place cost before)
-kept_keeps place cost before = record { held = refl; own = refl; wants = refl }
+kept_keeps place cost before = record { held = refl; own = refl; memory_faults = refl }
 
 -- an answer that doesn't tell want of memory
 abbrev pub IsFound : Answer → Type 0
 IsFound answer = (answer.code == 503) ≡ false
 
-pub wants_found : (wants : ℕ) (answer : Answer) → IsFound answer → wants_after wants answer ≡ wants
-wants_found wants answer found = rw found (omega arith)
+pub wants_found : (memory_faults : ℕ) (answer : Answer) → IsFound answer → memory_faults_after memory_faults answer ≡ memory_faults
+wants_found memory_faults answer found = rw found (omega arith)
 
 pub later_own : (own : List ℕ) (place place' : ℕ) → place ≤ place' → All (λ p. p ≤ place) own → All (λ p. p ≤ place') own
 later_own own place place' later all = All-weaker (λ p. p ≤ place) (λ p. p ≤ place') (λ p h. omega (arith, h, later)) own all
@@ -73,37 +73,37 @@ later_own own place place' later all = All-weaker (λ p. p ≤ place) (λ p. p �
 more_steps : (first steps steps' cost more : ℕ) → steps ≤ first + cost → steps' ≤ steps + more → steps' ≤ first + (cost + more)
 more_steps first steps steps' cost more h k = omega arith
 
-module _ (first_own : List ℕ) (first_steps : ℕ) (old new : BoardContent) (steps steps' wants cost place : ℕ) (before : Point)
-    (at : IsAt first_own first_steps old steps wants before)
+module _ (first_own : List ℕ) (first_steps : ℕ) (old new : BoardContent) (steps steps' memory_faults cost place : ℕ) (before : Point)
+    (at : IsAt first_own first_steps old steps memory_faults before)
     (late : length old.history ≤ place + 1) (within : place < length new.history) (bound : steps' ≤ steps + cost) where
   pub place_rises : before.place ≤ place
   place_rises = let h = at.within in omega arith
 
-  steps_then : (wants' : ℕ) → wants' ≡ wants → wants' ≡ 0 → steps' ≤ first_steps + (before.cost + cost)
-  steps_then wants' same none =
+  steps_then : (memory_faults' : ℕ) → memory_faults' ≡ memory_faults → memory_faults' ≡ 0 → steps' ≤ first_steps + (before.cost + cost)
+  steps_then memory_faults' same none =
       more_steps first_steps steps steps' before.cost cost (at.steps_are (sym same ∙ none)) bound
 
-  pub kept_at : Stays old new → (answer : Answer) → IsFound answer → IsAt first_own first_steps new steps' (wants_after wants answer) (kept_point place cost before)
+  pub kept_at : Stays old new → (answer : Answer) → IsFound answer → IsAt first_own first_steps new steps' (memory_faults_after memory_faults answer) (kept_point place cost before)
   kept_at stays answer found = record {
     within = within;
     held = rw stays.held (held_stays old.history new.history before.held old.held stays.earlier at.held);
     own_is = stays.own ∙ at.own_is;
     own_seen = later_own before.own before.place place place_rises at.own_seen;
-    wants_is = wants_found wants answer found ∙ at.wants_is;
-    steps_are = steps_then (wants_after wants answer) (wants_found wants answer found);
+    memory_faults_is = wants_found memory_faults answer found ∙ at.memory_faults_is;
+    steps_are = steps_then (memory_faults_after memory_faults answer) (wants_found memory_faults answer found);
   }
 
-module _ (first_own : List ℕ) (first_steps : ℕ) (old new : BoardContent) (steps steps' wants cost place : ℕ) (before : Point)
-    (at : IsAt first_own first_steps old steps wants before) (late : length old.history ≤ place + 1) (within : place < length new.history) where
-  pub wanting_at : Stays old new → (answer : Answer) → answer.code ≡ 503 → IsAt first_own first_steps new steps' (wants_after wants answer) (wanting_point place cost before)
+module _ (first_own : List ℕ) (first_steps : ℕ) (old new : BoardContent) (steps steps' memory_faults cost place : ℕ) (before : Point)
+    (at : IsAt first_own first_steps old steps memory_faults before) (late : length old.history ≤ place + 1) (within : place < length new.history) where
+  pub wanting_at : Stays old new → (answer : Answer) → answer.code ≡ 503 → IsAt first_own first_steps new steps' (memory_faults_after memory_faults answer) (wanting_point place cost before)
   wanting_at stays answer code =
-      let more : wants_after wants answer ≡ wants + 1 = rw code refl in
+      let more : memory_faults_after memory_faults answer ≡ memory_faults + 1 = rw code refl in
       record {
         within = within;
         held = rw stays.held (held_stays old.history new.history before.held old.held stays.earlier at.held);
         own_is = stays.own ∙ at.own_is;
         own_seen = later_own before.own before.place place (let h = at.within in omega arith) at.own_seen;
-        wants_is = more ∙ ap (λ n. n + 1) at.wants_is;
+        memory_faults_is = more ∙ ap (λ n. n + 1) at.memory_faults_is;
         steps_are = λ none. absurd (omega (arith, more, none));
       }
 
@@ -118,7 +118,7 @@ module _ (old new : BoardContent) (E : SurveyState → SurveyState → Type 0) (
   pub event_new : slice_get new.history (length h.before) ≡ Some h.state
   event_new = rw h.history (pushed_there h.before h.state)
 
-  module _ (first_own : List ℕ) (first_steps steps wants : ℕ) (before : Point) (at : IsAt first_own first_steps old steps wants before) where
+  module _ (first_own : List ℕ) (first_steps steps memory_faults : ℕ) (before : Point) (at : IsAt first_own first_steps old steps memory_faults before) where
     pub event_later : before.place < length h.before
     event_later = let w = at.within in omega (arith, begins_length old.history h.before h.earlier)
 
@@ -126,16 +126,16 @@ module _ (old new : BoardContent) (E : SurveyState → SurveyState → Type 0) (
     event_old = rw h.history (before_there h.before h.state (omega (arith, event_later)))
 
     pub event_at : (steps' cost : ℕ) → steps' ≤ steps + cost → (answer : Answer) → IsFound answer
-        → IsAt first_own first_steps new steps' (wants_after wants answer) (event_point (length h.before) cost before)
+        → IsAt first_own first_steps new steps' (memory_faults_after memory_faults answer) (event_point (length h.before) cost before)
     event_at steps' cost bound answer found = record {
       within = event_within;
       held = rw h.held (held_stays old.history new.history before.held old.held event_begins at.held);
       own_is = h.own ∙ ap (λ (own : List ℕ). own ++ length h.before ∷ []) at.own_is ∙ append_assoc first_own before.own (length h.before ∷ []);
       own_seen = All-push (λ p. p ≤ length h.before) before.own (length h.before) (later_own before.own before.place (length h.before) (omega (arith, event_later)) at.own_seen) (omega arith);
-      wants_is = wants_found wants answer found ∙ at.wants_is;
-      steps_are = λ none. more_steps first_steps steps steps' before.cost cost (at.steps_are (sym (wants_found wants answer found) ∙ none)) bound;
+      memory_faults_is = wants_found memory_faults answer found ∙ at.memory_faults_is;
+      steps_are = λ none. more_steps first_steps steps steps' before.cost cost (at.steps_are (sym (wants_found memory_faults answer found) ∙ none)) bound;
     }
 
     -- what an event did beside its answer
     pub event_steps : (cost : ℕ) → Steps before (event_point (length h.before) cost before)
-    event_steps cost = record { later = event_later; held = refl; own = refl; wants = refl }
+    event_steps cost = record { later = event_later; held = refl; own = refl; memory_faults = refl }

@@ -24,7 +24,7 @@ module _ (conf : Description) (opening : LeafTiles) (states more : List SurveySt
     state = r.state;
     there = stays_there states more after.place r.state begins r.there;
     seen = r.seen;
-    told = r.told;
+    answer_is = r.answer_is;
     kept = r.kept;
   })
   judges_more (Ok change) before after answer (inr a) = inr (record {
@@ -35,7 +35,7 @@ module _ (conf : Description) (opening : LeafTiles) (states more : List SurveySt
     new_there = stays_there states more after.place a.new begins a.new_there;
     judged = a.judged;
     appended = a.appended;
-    told = a.told;
+    answer_is = a.answer_is;
     step = a.step;
   })
 
@@ -49,13 +49,13 @@ module _ (conf : Description) (opening : LeafTiles) (states more : List SurveySt
   answers_more request (call.File file) before after answer is = record {
     state = is.state;
     there = stays_there states more (unwrap_or before.held after.place) is.state begins is.there;
-    told = is.told;
+    answer_is = is.answer_is;
     kept = is.kept;
   }
   answers_more request call.Pin before after answer is = record {
     state = is.state;
     there = stays_there states more after.place is.state begins is.there;
-    told = is.told;
+    answer_is = is.answer_is;
     holds = is.holds;
   }
   answers_more request call.Unpin before after answer is = is
@@ -68,14 +68,14 @@ module _ (conf : Description) (opening : LeafTiles) (states more : List SurveySt
     new_there = stays_there states more after.place p.new begins p.new_there;
     publication = p.publication;
     all = p.all;
-    told = p.told;
+    answer_is = p.answer_is;
     step = p.step;
   })
   answers_more request call.Publish before after answer (inr (inl h)) = inr (inl (record {
     state = h.state;
     there = stays_there states more after.place h.state begins h.there;
     all = h.all;
-    told = h.told;
+    answer_is = h.answer_is;
     kept = h.kept;
   }))
   answers_more request call.Publish before after answer (inr (inr none)) = inr (inr none)

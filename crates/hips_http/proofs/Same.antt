@@ -50,7 +50,7 @@ pub record IsSame (states later later' : List SurveyState) (p q : Point) : Type 
 
 -- the same answer, and the same point then
 pub record ComesSame (states later later' : List SurveyState) (p q : Point) (answer answer' : Answer) : Type 0 where
-  pub told : answer' ≡ answer
+  pub answer_is : answer' ≡ answer
   pub point : IsSame states later later' p q
 
 module _ (states later later' : List SurveyState) (p q : Point) (same : IsSame states later later' p q) where
@@ -131,7 +131,7 @@ module _ (states later later' : List SurveyState) (p q : Point) (same : IsSame s
           let at = kept_place r.kept.own in
           let one : s.state ≡ r.state = state_at a.place b.place r.state s.state (kept_place' s.kept.own ∙ sym at) (omega (arith, at)) r.there s.there in
           record {
-            told = some_same answer' answer (sym s.told ∙ ap (λ (x : SurveyState). refusal_of (length (edits_at x)) (verdict opening (edits_at x) change)) one ∙ r.told);
+            answer_is = some_same answer' answer (sym s.answer_is ∙ ap (λ (x : SurveyState). refusal_of (length (edits_at x)) (verdict opening (edits_at x) change)) one ∙ r.answer_is);
             point = keeps r.kept.own s.kept.own r.kept.held s.kept.held;
           }
 
@@ -144,8 +144,8 @@ module _ (states later later' : List SurveyState) (p q : Point) (same : IsSame s
           let from : AppendsBatch opening r.items r.old s.new = subst (λ (x : SurveyState). AppendsBatch opening r.items x s.new) one (subst (λ (i : List LeafEdit). AppendsBatch opening i s.old s.new) items s.appended) in
           let new : s.new ≡ r.new = appended_same opening r.items r.old s.new r.new from r.appended in
           record {
-            told = s.told ∙ ap (λ (x : SurveyState). accepted_answer opening (edits_at x) change (length (edits_at s.new))) one
-                ∙ ap (λ (x : SurveyState). accepted_answer opening (edits_at r.old) change (length (edits_at x))) new ∙ sym r.told;
+            answer_is = s.answer_is ∙ ap (λ (x : SurveyState). accepted_answer opening (edits_at x) change (length (edits_at s.new))) one
+                ∙ ap (λ (x : SurveyState). accepted_answer opening (edits_at r.old) change (length (edits_at x))) new ∙ sym r.answer_is;
             point = moves r.step.own s.step.own r.step.held s.step.held r.new s.new r.new_there s.new_there new;
           }
         where
@@ -156,20 +156,20 @@ module _ (states later later' : List SurveyState) (p q : Point) (same : IsSame s
       refused_first r s =
           let at = kept_place r.kept.own in
           let one : s.old ≡ r.state = state_at a.place (b.place - 1) r.state s.old (old_place' s.step.own ∙ sym at) (omega (arith, at)) r.there s.old_there in
-          none-some answer (sym (ap (refusal_of (length (edits_at r.state))) (ap (λ (x : SurveyState). verdict opening (edits_at x) change) (sym one) ∙ s.judged)) ∙ r.told)
+          none-some answer (sym (ap (refusal_of (length (edits_at r.state))) (ap (λ (x : SurveyState). verdict opening (edits_at x) change) (sym one) ∙ s.judged)) ∙ r.answer_is)
 
       accepted_first : Accepts opening later change p a answer → Refuses opening later' change q b answer' → ⊥
       accepted_first r s =
           let at = old_place r.step.own in
           let one : s.state ≡ r.old = state_at (a.place - 1) b.place r.old s.state (kept_place' s.kept.own ∙ sym at) (omega (arith, at)) r.old_there s.there in
-          none-some answer' (sym (ap (refusal_of (length (edits_at s.state))) (ap (λ (x : SurveyState). verdict opening (edits_at x) change) one ∙ r.judged)) ∙ s.told)
+          none-some answer' (sym (ap (refusal_of (length (edits_at s.state))) (ap (λ (x : SurveyState). verdict opening (edits_at x) change) one ∙ r.judged)) ∙ s.answer_is)
 
-    no_want : (p' a' : Point) (answer : Answer) → a'.wants ≡ p'.wants + 1 → a'.wants ≡ 0 → ⊥
+    no_want : (p' a' : Point) (answer : Answer) → a'.memory_faults ≡ p'.memory_faults + 1 → a'.memory_faults ≡ 0 → ⊥
     no_want p' a' answer more none = absurd (omega (arith, more, none))
 
-    module _ (opening : LeafTiles) (answer answer' : Answer) (none : a.wants ≡ 0) (none' : b.wants ≡ 0) where
+    module _ (opening : LeafTiles) (answer answer' : Answer) (none : a.memory_faults ≡ 0) (none' : b.memory_faults ≡ 0) where
       judges_same : (asked : Asked) → Judges opening later asked p a answer → Judges opening later' asked q b answer' → ComesSame states later later' a b answer answer'
-      judges_same (Err refusal) is is' = record { told = is'.1 ∙ sym is.1; point = keeps is.0.own is'.0.own is.0.held is'.0.held }
+      judges_same (Err refusal) is is' = record { answer_is = is'.1 ∙ sym is.1; point = keeps is.0.own is'.0.own is.0.held is'.0.held }
       judges_same (Ok change) (inl r) (inl s) = refused_both opening change answer answer' r s
       judges_same (Ok change) (inl r) (inr s) = absurd (refused_first opening change answer answer' r s)
       judges_same (Ok change) (inr r) (inl s) = absurd (accepted_first opening change answer answer' r s)
@@ -177,8 +177,8 @@ module _ (states later later' : List SurveyState) (p q : Point) (same : IsSame s
 
       changes_same : (asked : Asked) → Changes opening later asked p a answer → Changes opening later' asked q b answer' → ComesSame states later later' a b answer answer'
       changes_same asked (inl is) (inl is') = judges_same asked is is'
-      changes_same asked (inl is) (inr want) = absurd (no_want q b answer' want.wants none')
-      changes_same asked (inr want) is' = absurd (no_want p a answer want.wants none)
+      changes_same asked (inl is) (inr want) = absurd (no_want q b answer' want.memory_faults none')
+      changes_same asked (inr want) is' = absurd (no_want p a answer want.memory_faults none)
 
       -- ---- publications
 
@@ -193,7 +193,7 @@ module _ (states later later' : List SurveyState) (p q : Point) (same : IsSame s
           let all' : length (edits_at r.known) ≤ s.new.tip = subst (λ (x : SurveyState). length (edits_at x) ≤ s.new.tip) one s.all in
           let new : s.new ≡ r.new = published_same r.known s.new r.new step' step all' r.all in
           record {
-            told = s.told ∙ ap (λ (x : SurveyState). published x.tip) new ∙ sym r.told;
+            answer_is = s.answer_is ∙ ap (λ (x : SurveyState). published x.tip) new ∙ sym r.answer_is;
             point = moves r.step.own s.step.own r.step.held s.step.held r.new s.new r.new_there s.new_there new;
           }
 
@@ -202,7 +202,7 @@ module _ (states later later' : List SurveyState) (p q : Point) (same : IsSame s
           let at = kept_place r.kept.own in
           let one : s.state ≡ r.state = state_at a.place b.place r.state s.state (kept_place' s.kept.own ∙ sym at) (omega (arith, at)) r.there s.there in
           record {
-            told = s.told ∙ ap (λ (x : SurveyState). already x.tip) one ∙ sym r.told;
+            answer_is = s.answer_is ∙ ap (λ (x : SurveyState). already x.tip) one ∙ sym r.answer_is;
             point = keeps r.kept.own s.kept.own r.kept.held s.kept.held;
           }
 
@@ -228,13 +228,13 @@ module _ (states later later' : List SurveyState) (p q : Point) (same : IsSame s
 
       pub answers_same : (conf : Description) (request : Asking) (wanted : Call) → Answers conf opening later request wanted p a answer → Answers conf opening later' request wanted q b answer'
           → ComesSame states later later' a b answer answer'
-      answers_same conf request (call.NotAllowed allow) is is' = record { told = is'.1 ∙ sym is.1; point = keeps is.0.own is'.0.own is.0.held is'.0.held }
+      answers_same conf request (call.NotAllowed allow) is is' = record { answer_is = is'.1 ∙ sym is.1; point = keeps is.0.own is'.0.own is.0.held is'.0.held }
       answers_same conf request (call.File file) is is' =
           let at = kept_place is.kept.own in
           let places : unwrap_or q.held b.place ≡ unwrap_or p.held a.place = rw (same.held, kept_place' is'.kept.own, at) refl in
           let one : is'.state ≡ is.state = state_at (unwrap_or p.held a.place) (unwrap_or q.held b.place) is.state is'.state places (low p.held refl at) is.there is'.there in
           record {
-            told = is'.told ∙ ap (λ (x : SurveyState). file_answer conf opening x request.path) one ∙ sym is.told;
+            answer_is = is'.answer_is ∙ ap (λ (x : SurveyState). file_answer conf opening x request.path) one ∙ sym is.answer_is;
             point = keeps is.kept.own is'.kept.own is.kept.held is'.kept.held;
           }
         where
@@ -246,21 +246,21 @@ module _ (states later later' : List SurveyState) (p q : Point) (same : IsSame s
           let at' = kept_place' is'.holds.own in
           let one : is'.state ≡ is.state = state_at a.place b.place is.state is'.state (at' ∙ sym at) (omega (arith, at)) is.there is'.there in
           record {
-            told = is'.told ∙ ap (λ (x : SurveyState). pinned x.tip) one ∙ sym is.told;
+            answer_is = is'.answer_is ∙ ap (λ (x : SurveyState). pinned x.tip) one ∙ sym is.answer_is;
             point = stays is.holds.own is'.holds.own (is'.holds.held ∙ ap (λ (n : ℕ). Some n) (at' ∙ sym at) ∙ sym is.holds.held)
                 (λ h e. let here : a.place ≡ h = some_same a.place h (sym is.holds.held ∙ e) in omega (arith, here, at));
           }
       answers_same conf request call.Unpin is is' = record {
-        told = is'.1 ∙ sym is.1;
+        answer_is = is'.1 ∙ sym is.1;
         point = stays is.0.own is'.0.own (is'.0.held ∙ sym is.0.held) (λ h e. absurd (none-some h (sym is.0.held ∙ e)));
       }
       answers_same conf request call.Publish (inl r) (inl s) = publishes_both r s
       answers_same conf request call.Publish (inl r) (inr (inl s)) = absurd (published_first r s)
-      answers_same conf request call.Publish (inl r) (inr (inr want)) = absurd (no_want q b answer' want.wants none')
+      answers_same conf request call.Publish (inl r) (inr (inr want)) = absurd (no_want q b answer' want.memory_faults none')
       answers_same conf request call.Publish (inr (inl r)) (inl s) = absurd (had_first r s)
       answers_same conf request call.Publish (inr (inl r)) (inr (inl s)) = had_both r s
-      answers_same conf request call.Publish (inr (inl r)) (inr (inr want)) = absurd (no_want q b answer' want.wants none')
-      answers_same conf request call.Publish (inr (inr want)) is' = absurd (no_want p a answer want.wants none)
+      answers_same conf request call.Publish (inr (inl r)) (inr (inr want)) = absurd (no_want q b answer' want.memory_faults none')
+      answers_same conf request call.Publish (inr (inr want)) is' = absurd (no_want p a answer want.memory_faults none)
       answers_same conf request call.Batch is is' = changes_same (asked_batch conf request) is is'
       answers_same conf request (call.Put leaf) is is' = changes_same (asked_put conf request leaf) is is'
       answers_same conf request (call.Delete leaf) is is' = changes_same (asked_delete request leaf) is is'

@@ -22,8 +22,8 @@ use Rattle.hips_http.specs.Paths.{call_of}
 use Rattle.hips_http.specs.Replies.{Answer, output_of, refusal_bytes}
 use Rattle.hips_http.specs.Answers.{Asking, Point, Asked, asked_put, asked_delete, asked_batch, Changes, Answers}
 use Rattle.hips_http.specs.Moment.{Input, Output, Moment, moment, unread_of, NeverFalls}
-use Rattle.hips_http.specs.SessionRun.{Exchange, AreRequests, AreAnswered, IsOutput, closes, room_of, most_requests, first_point, GoOn, EndsWith, BreaksOff, BreaksInRefusal, BreaksInLeave, told_bytes, Ends, HandsAllOn, KeepsStates, Flushes, FlushesAll, Goes}
-use Rattle.hips_http.specs.Progress.{IsAt, Serving, IsServedOne, BreaksOne, StopsOne, EndsOne, IsBegunAt, LeavesPart, Progress, Going, HasFlushed, wants_after, ServesOne, ServesAll}
+use Rattle.hips_http.specs.SessionRun.{Exchange, AreRequests, AreAnswered, IsOutput, closes, room_of, most_requests, first_point, GoOn, EndsWith, BreaksOff, BreaksInRefusal, BreaksInLeave, input_seen, Ends, FlushesAll, KeepsStates, Flushes, FlushesAll, Goes}
+use Rattle.hips_http.specs.Progress.{IsAt, Serving, IsServedOne, BreaksOne, StopsOne, EndsOne, IsBegunAt, LeavesPart, Progress, Going, HasFlushed, memory_faults_after, ServesOne, ServesAll}
 use Rattle.hips_http.proofs.Runs.{answered_more, answered_push, requests_push}
 use Rattle.hips_http.proofs.Truncated.{requests_front}
 use Rattle.hips_http.proofs.Steps.{appends_trans, split_of, rises_from}
@@ -65,10 +65,10 @@ record Pushed (count : ℕ) (first now : Moment) (requests : List Asking) (outpu
   pub requests_are : next.requests ≡ requests ++ request ∷ []
   pub outputs_are : next.outputs ≡ outputs ++ output ∷ []
 
-push : (count : ℕ) (first now new : Moment) (p : Progress count first now) (request : Asking) (answer : Answer) → Serving now new request answer → new.wants ≡ wants_after now.wants answer
+push : (count : ℕ) (first now new : Moment) (p : Progress count first now) (request : Asking) (answer : Answer) → Serving now new request answer → new.memory_faults ≡ memory_faults_after now.memory_faults answer
     → Pushed count first new p.requests p.outputs request (output_of (closes count request) request.asked answer)
 push count first now new p request answer s want =
-    let sv = s.serves.at_each first.board.own first.steps now.wants p.last p.at in
+    let sv = s.serves.at_each first.board.own first.steps now.memory_faults p.last p.at in
     let conf : new.board.conf ≡ now.board.conf = s.serves.conf in
     let opening : new.board.opening ≡ now.board.opening = s.serves.opening in
     let states = first.board.history in
@@ -120,7 +120,7 @@ goes_on : (count : ℕ) (first now new : Moment) → Going count first now → I
 goes_on count first now new g s on =
     let p = g.progress in
     let out = output_of (closes count s.request) s.request.asked s.answer in
-    let pushed = push count first now new p s.request s.answer s.serving s.wants_is in
+    let pushed = push count first now new p s.request s.answer s.serving s.memory_faults_is in
     record {
       progress = pushed.next;
       none_closes = rw pushed.requests_are (All-push (λ (r : Asking). r.asked.close ≡ false) p.requests s.request g.none_closes (sym s.closed_is));
@@ -138,7 +138,7 @@ all_told : (room : ℕ) (b b1 : Option (List ℕ)) → b1 ≡ b → IfSome b (λ
 all_told room None b1 same = tt
 all_told room (Some all) b1 same = rw same refl
 
-begins_going : (first : Moment) → first.board ≡ holding_none first.board → IsHistory first.board.opening first.board.history → IsOwned first.board → first.input.frame.held ≡ [] → first.wants ≡ 0 → Going 0 first first
+begins_going : (first : Moment) → first.board ≡ holding_none first.board → IsHistory first.board.opening first.board.history → IsOwned first.board → first.input.frame.held ≡ [] → first.memory_faults ≡ 0 → Going 0 first first
 begins_going first is legal owned empty none_wanted =
     let board = first.board in
     let some : 0 < length board.history = history_some board.opening board.history legal in
@@ -160,7 +160,7 @@ begins_going first is legal owned empty none_wanted =
           held = ap (λ (b : BoardContent). b.held) is;
           own_is = sym (append-nil board.own);
           own_seen = λ k d h. absurd (omega arith);
-          wants_is = none_wanted;
+          memory_faults_is = none_wanted;
           steps_are = λ _. omega arith;
         };
         answered = (refl, refl);
@@ -227,9 +227,9 @@ told_as first input output read rest out passed = record {
 -- the requests were answered by `now`, and these are the ends then
 module _ (count : ℕ) (first now : Moment) (input : Input) (output : Output) (p : Progress count first now) (bytes read rest : List ℕ) (bytes_are : bytes ≡ read ++ rest) (left_is : input.left ≡ Some rest) (flushed : ℕ) where
   served_by : (ended : SessionEnd) (out passed : List ℕ) → Appends first.output.held output.held out → Flushes first.output.held first.output.flushed output.flushed passed
-      → KeepsStates ended first.board.history now.board.history → (r : List ℕ) → AreRequests (room_of now.board.conf) (told_bytes ended (told_as first input output read rest out passed)) p.requests r
-      → Ends ended (room_of now.board.conf) p.requests r p.outputs (told_as first input output read rest out passed) → HandsAllOn ended (told_as first input output read rest out passed)
-      → FlushesReplies flushed p.outputs passed → ServedAfter flushed first (moment input output now.board now.steps now.wants) ended bytes
+      → KeepsStates ended first.board.history now.board.history → (r : List ℕ) → AreRequests (room_of now.board.conf) (input_seen ended (told_as first input output read rest out passed)) p.requests r
+      → Ends ended (room_of now.board.conf) p.requests r p.outputs (told_as first input output read rest out passed) → FlushesAll ended (told_as first input output read rest out passed)
+      → FlushesReplies flushed p.outputs passed → ServedAfter flushed first (moment input output now.board now.steps now.memory_faults) ended bytes
   served_by ended out passed appended on keeps r are ends all_on replies = record {
     served = record {
       read = read;
@@ -253,7 +253,7 @@ module _ (count : ℕ) (first now : Moment) (input : Input) (output : Output) (p
         outputs = p.outputs;
         answered = p.answered;
         own_is = refl;
-        wants_is = p.at.wants_is;
+        memory_faults_is = p.at.memory_faults_is;
         ended = ends;
         flushed = all_on;
       };
@@ -304,7 +304,7 @@ module _ (count : ℕ) (first now : Moment) (input : Input) (output : Output) (p
   unanswered_at : (ended : SessionEnd) (r : List ℕ) → AreRequests (room_of now.board.conf) bytes p.requests r → EndsOne ended (room_of now.board.conf) r input.left now.output.held output.held → LeavesPart r input.left
       → (ended ≡ end.ReadFault → Rises first.input.faults input.faults) → (ended ≡ end.WriteFault → Rises first.output.faults output.faults)
       → (¬ (ended ≡ end.WriteFault) → FlushesAll now.output.held output.held now.output.flushed output.flushed) → (ended ≡ end.WriteFault → HandsMore now.output.held now.output.flushed output.flushed)
-      → ServedAfter count first (moment input output now.board now.steps now.wants) ended bytes
+      → ServedAfter count first (moment input output now.board now.steps now.memory_faults) ended bytes
   unanswered_at end.Closed r are ends part reads writes all more =
       let f = front_part (room_of now.board.conf) bytes p.requests r are input.left part in
       served_by count first now input output p bytes f.gone f.rest f.all_is f.left_is count end.Closed (concat p.outputs) (concat p.outputs) (appends_end first.output.held now.output.held output.held (concat p.outputs) written ends.1)
@@ -378,7 +378,7 @@ module _ (count : ℕ) (first now new : Moment) (few : count < most_requests) (g
       → HandsMore now.output.held now.output.flushed new.output.flushed → Ended count first new end.WriteFault
   broken_served s part rises more =
       let p = g.progress in
-      let pushed = push count first now new p s.request s.answer s.serving s.wants_is in
+      let pushed = push count first now new p s.request s.answer s.serving s.memory_faults_is in
       let next = pushed.next in
       record {
         goes = goes_of (count + 1) first new (omega arith) next;
@@ -407,7 +407,7 @@ module _ (count : ℕ) (first now new : Moment) (few : count < most_requests) (g
   asked_served : IsServedOne count now new true → IfSome (unread_of now.input) (λ all. LeavesPart all new.input.left) → new.output.flushed ≡ new.output.held → Ended count first new end.Asked
   asked_served s part on =
       let p = g.progress in
-      let pushed = push count first now new p s.request s.answer s.serving s.wants_is in
+      let pushed = push count first now new p s.request s.answer s.serving s.memory_faults_is in
       let next = pushed.next in
       let output = output_of (closes count s.request) s.request.asked s.answer in
       let written : Appends first.output.held new.output.held (concat next.outputs)
@@ -433,17 +433,17 @@ module _ (count : ℕ) (first now new : Moment) (few : count < most_requests) (g
     | inl broke ↦ subst (λ (e : SessionEnd). Ended count first new e) (sym broke.0) (broken_served broke.1 part (writes broke.0) (more broke.0))
     | inr none ↦
         let p = g.progress in
-        let told : IfSome first.input.left (ServedAfter count first (moment new.input new.output now.board now.steps now.wants) ended)
-        = known (ServedAfter count first (moment new.input new.output now.board now.steps now.wants) ended) first.input.left (λ bytes is.
+        let told : IfSome first.input.left (ServedAfter count first (moment new.input new.output now.board now.steps now.memory_faults) ended)
+        = known (ServedAfter count first (moment new.input new.output now.board now.steps now.memory_faults) ended) first.input.left (λ bytes is.
         let before = taken_at count first now p bytes is in
         unanswered_at count first now new.input new.output p bytes g.none_closes g.written_is g.handed_is few ended before.bytes before.holds
         (told_at (λ unread. EndsOne ended (room_of now.board.conf) unread new.input.left now.output.held new.output.held) (unread_of now.input) before.bytes before.is none.1)
         (told_at (λ unread. LeavesPart unread new.input.left) (unread_of now.input) before.bytes before.is part) reads writes all more) in
         record {
           goes = subst (λ (board : BoardContent). Goes first.board board) (sym none.0.board) (goes_of count first now (omega arith) p);
-          served = subst (λ (board : BoardContent). IfSome first.input.left (ServedAfter count first (moment new.input new.output board new.steps new.wants) ended)) (sym none.0.board)
-              (subst (λ (steps : ℕ). IfSome first.input.left (ServedAfter count first (moment new.input new.output now.board steps new.wants) ended)) (sym none.0.steps_are)
-              (subst (λ (wants : ℕ). IfSome first.input.left (ServedAfter count first (moment new.input new.output now.board now.steps wants) ended)) (sym none.0.wants_are) told));
+          served = subst (λ (board : BoardContent). IfSome first.input.left (ServedAfter count first (moment new.input new.output board new.steps new.memory_faults) ended)) (sym none.0.board)
+              (subst (λ (steps : ℕ). IfSome first.input.left (ServedAfter count first (moment new.input new.output now.board steps new.memory_faults) ended)) (sym none.0.steps_are)
+              (subst (λ (memory_faults : ℕ). IfSome first.input.left (ServedAfter count first (moment new.input new.output now.board now.steps memory_faults) ended)) (sym none.0.wants_are) told));
         }
   ]
 
@@ -472,7 +472,7 @@ pub record IsLoop (count top : ℕ) (first now : Moment) : Type 0 where
   pub room_is : now.input.frame.room ≡ room_of now.board.conf
   pub same_room : now.input.frame.room ≡ first.input.frame.room
   pub top_is : top ≡ now.board.conf.shape.top
-  pub few_wants : now.wants ≤ count
+  pub few_wants : now.memory_faults ≤ count
   pub source : first.input.faults ≤ now.input.faults
   pub sink : first.output.faults ≤ now.output.faults
   pub steps_rise : first.steps ≤ now.steps
@@ -481,7 +481,7 @@ pub record IsLoop (count top : ℕ) (first now : Moment) : Type 0 where
 holds_none : (board : BoardContent) → board.held ≡ None → board ≡ holding_none board
 holds_none board none = ap (λ (held : Option SurveyState). record board { held = held }) none
 
-pub begins_loop : (top : ℕ) (first : Moment) → first.board.held ≡ None → IsHistory first.board.opening first.board.history → IsOwned first.board → first.wants ≡ 0 → first.input.frame.held ≡ [] → first.input.frame.turn ≡ AtHead
+pub begins_loop : (top : ℕ) (first : Moment) → first.board.held ≡ None → IsHistory first.board.opening first.board.history → IsOwned first.board → first.memory_faults ≡ 0 → first.input.frame.held ≡ [] → first.input.frame.turn ≡ AtHead
     → first.input.frame.room ≡ room_of first.board.conf → top ≡ first.board.conf.shape.top → IsLoop 0 top first first
 begins_loop top first none legal owned none_wanted empty turn room_is top_is = record {
   going = begins_going first (holds_none first.board none) legal owned empty none_wanted;
@@ -510,7 +510,7 @@ module _ (count top : ℕ) (first now new : Moment) (l : IsLoop count top first 
         room_is = never_falls.room ∙ l.room_is ∙ sym (ap room_of conf);
         same_room = never_falls.room ∙ l.same_room;
         top_is = l.top_is ∙ sym (ap (λ (c : Description). c.shape.top) conf);
-        few_wants = omega (arith, l.few_wants, never_falls.wants);
+        few_wants = omega (arith, l.few_wants, never_falls.memory_faults);
         source = omega (arith, l.source, never_falls.source);
         sink = omega (arith, l.sink, never_falls.sink);
         steps_rise = omega (arith, l.steps_rise, never_falls.steps);
@@ -523,7 +523,7 @@ module _ (count top : ℕ) (first now new : Moment) (l : IsLoop count top first 
   all_of ended few e reads writes memory on = record {
     serves = record {
       goes = e.goes;
-      wants = omega (arith, few, l.few_wants, never_falls.wants);
+      memory_faults = omega (arith, few, l.few_wants, never_falls.memory_faults);
       read_fault = λ is. rises_from _ _ _ l.source (reads is);
       write_fault = λ is. rises_from _ _ _ l.sink (writes is);
       memory = memory;
@@ -560,7 +560,7 @@ spent_all count top first now l all =
     record {
       serves = record {
         goes = e.goes;
-        wants = omega (arith, all, l.few_wants);
+        memory_faults = omega (arith, all, l.few_wants);
         read_fault = λ h. absurd (cc);
         write_fault = λ h. absurd (cc);
         memory = λ h. cc;

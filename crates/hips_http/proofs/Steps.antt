@@ -233,7 +233,7 @@ module _ (count top : ℕ) (old : Moment) (input : Input) (output : Output) (ask
     (read : ReadsCall top old.input input asked wanted) where
   -- the leave wasn't written
   pub leave_stops : asked.expects ≡ true → AppendsPrefix old.output.held output.held continue_bytes
-      → StopsOne count old (moment input output old.board old.steps old.wants) end.WriteFault
+      → StopsOne count old (moment input output old.board old.steps old.memory_faults) end.WriteFault
   leave_stops waits part = record {
     how = inr (
       record { board = refl; steps_are = refl; wants_are = refl },
@@ -244,7 +244,7 @@ module _ (count top : ℕ) (old : Moment) (input : Input) (output : Output) (ask
 
   module _ (new : Moment) (leave : Appends old.output.held output.held (leave_bytes asked)) where
     module _ (top_is : top ≡ old.board.conf.shape.top) (close : Bool) (close_is : close ≡ (asked.close || (count + 1 == most_requests)))
-        (answer : Answer) (r : Replied asked wanted (moment input output old.board old.steps old.wants) new answer) where
+        (answer : Answer) (r : Replied asked wanted (moment input output old.board old.steps old.memory_faults) new answer) where
       serving_of : Serving old new (record { asked = asked; path = input.frame.path; body = r.body }) answer
       serving_of = record {
         kind = read.kind;
@@ -261,7 +261,7 @@ module _ (count top : ℕ) (old : Moment) (input : Input) (output : Output) (ask
         serving = serving_of;
         sent = subst (λ (b : Bool). Appends old.output.held new.output.held (leave_bytes asked ++ reply_of b asked answer)) close_is
             (appends_trans old.output.held output.held new.output.held (leave_bytes asked) (reply_of close asked answer) leave sent);
-        wants_is = r.wants_is;
+        memory_faults_is = r.memory_faults_is;
         closed_is = refl;
       }
 
@@ -272,7 +272,7 @@ module _ (count top : ℕ) (old : Moment) (input : Input) (output : Output) (ask
         serving = serving_of;
         broken = subst (λ (b : Bool). Breaks old.output.held new.output.held (leave_bytes asked ++ reply_of b asked answer)) close_is
             (breaks_after old.output.held output.held new.output.held (leave_bytes asked) (reply_of close asked answer) leave (breaks_of output.held new.output.held (reply_of close asked answer) part));
-        wants_is = r.wants_is;
+        memory_faults_is = r.memory_faults_is;
       }
 
       -- what the source has left
@@ -281,7 +281,7 @@ module _ (count top : ℕ) (old : Moment) (input : Input) (output : Output) (ask
           part_by_body old.input.frame.room (unread_of old.input) (unread_of input) (unread_of new.input) asked input.frame.path r.body new.input.frame.held new.input.left refl read.head.next r.takes.bytes
 
     -- the body isn't whole
-    module _ (ended : SessionEnd) (h : Halts asked (moment input output old.board old.steps old.wants) new ended) where
+    module _ (ended : SessionEnd) (h : Halts asked (moment input output old.board old.steps old.memory_faults) new ended) where
       pub halts_one : StopsOne count old new ended
       halts_one =
           let ends : IfSome (unread_of old.input) (λ all. EndsOne (body_end h.stop) old.input.frame.room all new.input.left old.output.held new.output.held) =
@@ -303,7 +303,7 @@ module _ (count top : ℕ) (old : Moment) (input : Input) (output : Output) (ask
 pub head_stops : (count : ℕ) (old : Moment) (input : Input) (output : Output) (stop : Stop) (ended : SessionEnd)
     → old.input.frame.room ≡ room_of old.board.conf → StopsHead old.input.frame input.frame old.input.left old.input.faults input.faults stop
     → KeepsUnread old.input.frame input.frame old.input.left input.left → EndsAt stop old.output.held output.held ended
-    → StopsOne count old (moment input output old.board old.steps old.wants) ended
+    → StopsOne count old (moment input output old.board old.steps old.memory_faults) ended
 head_stops count old input output stop ended room_is why kept ends = record {
   how = inr (
     record { board = refl; steps_are = refl; wants_are = refl },

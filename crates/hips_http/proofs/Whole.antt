@@ -20,7 +20,7 @@ begins_same xs ys same = record { rest = []; is = grind (arith, common_steps) }
 
 -- there was no memory at the beginning
 pub no_memory_served : (old new : BoardContent) (unread : Option (List ℕ)) (connection : Connection) (steps : ℕ) → IsHistory new.opening new.history → new ≡ holding_none old
-    → connection.unread ≡ unread → IfSome unread (λ input. IsServed old new input connection connection steps steps (record { end = OutOfMemory; wants = 0 }))
+    → connection.unread ≡ unread → IfSome unread (λ input. IsServed old new input connection connection steps steps (record { end = OutOfMemory; memory_faults = 0 }))
 no_memory_served old new None connection steps legal is left_is = tt
 no_memory_served old new (Some input) connection steps legal is left_is =
     let same : new.history ≡ old.history = ap (λ b. b.history) is in
@@ -47,7 +47,7 @@ no_memory_served old new (Some input) connection steps legal is left_is =
         outputs = [];
         answered = (refl, refl);
         own_is = refl;
-        wants_is = refl;
+        memory_faults_is = refl;
         ended = (refl, refl, refl);
         flushed = refl;
       };

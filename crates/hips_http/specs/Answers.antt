@@ -32,7 +32,7 @@ pub record Point : Type 0 where
   pub place : ℕ
   pub held : Option ℕ
   pub own : List ℕ
-  pub wants : ℕ
+  pub memory_faults : ℕ
   pub cost : ℕ
 
 -- ---- what a request does beside its answer
@@ -41,26 +41,26 @@ pub record Point : Type 0 where
 pub record Keeps (before after : Point) : Type 0 where
   pub held : after.held ≡ before.held
   pub own : after.own ≡ before.own
-  pub wants : after.wants ≡ before.wants
+  pub memory_faults : after.memory_faults ≡ before.memory_faults
 
 -- the state at its place is held
 pub record Holds (before after : Point) : Type 0 where
   pub held : after.held ≡ Some after.place
   pub own : after.own ≡ before.own
-  pub wants : after.wants ≡ before.wants
+  pub memory_faults : after.memory_faults ≡ before.memory_faults
 
 -- none is held
 pub record Releases (before after : Point) : Type 0 where
   pub held : after.held ≡ None
   pub own : after.own ≡ before.own
-  pub wants : after.wants ≡ before.wants
+  pub memory_faults : after.memory_faults ≡ before.memory_faults
 
 -- its place is a step of the survey that it made, later than the place before
 pub record Steps (before after : Point) : Type 0 where
   pub later : before.place < after.place
   pub held : after.held ≡ before.held
   pub own : after.own ≡ before.own ++ after.place ∷ []
-  pub wants : after.wants ≡ before.wants
+  pub memory_faults : after.memory_faults ≡ before.memory_faults
 
 -- ---- changes
 
@@ -97,7 +97,7 @@ pub record Refuses (opening : LeafTiles) (states : List SurveyState) (change : C
   pub state : SurveyState
   pub there : slice_get states after.place ≡ Some state
   pub seen : (after.place ≡ before.place) ⊎ (¬ Contains before.own after.place)
-  pub told : refusal_of (length (edits_at state)) (verdict opening (edits_at state) change) ≡ Some answer
+  pub answer_is : refusal_of (length (edits_at state)) (verdict opening (edits_at state) change) ≡ Some answer
   pub kept : Keeps before after
 
 -- it is accepted by the state before its place, and is the step from there to its place
@@ -109,15 +109,15 @@ pub record Accepts (opening : LeafTiles) (states : List SurveyState) (change : C
   pub new_there : slice_get states after.place ≡ Some new
   pub judged : verdict opening (edits_at old) change ≡ accepted items
   pub appended : AppendsBatch opening items old new
-  pub told : answer ≡ accepted_answer opening (edits_at old) change (length (edits_at new))
+  pub answer_is : answer ≡ accepted_answer opening (edits_at old) change (length (edits_at new))
   pub step : Steps before after
 
 -- no memory was found for it, and nothing was changed
 pub record FindsNoMemory (before after : Point) (answer : Answer) : Type 0 where
   pub held : after.held ≡ before.held
   pub own : after.own ≡ before.own
-  pub wants : after.wants ≡ before.wants + 1
-  pub told : answer ≡ no_memory
+  pub memory_faults : after.memory_faults ≡ before.memory_faults + 1
+  pub answer_is : answer ≡ no_memory
 
 -- its body is refused; or the change is refused, or accepted
 abbrev pub Judges : LeafTiles → List SurveyState → Asked → Point → Point → Answer → Type 0
@@ -134,14 +134,14 @@ Changes opening states asked before after answer = Judges opening states asked b
 pub record Reads (conf : Description) (opening : LeafTiles) (states : List SurveyState) (path : Option (List ℕ)) (before after : Point) (answer : Answer) : Type 0 where
   pub state : SurveyState
   pub there : slice_get states (unwrap_or before.held after.place) ≡ Some state
-  pub told : answer ≡ file_answer conf opening state path
+  pub answer_is : answer ≡ file_answer conf opening state path
   pub kept : Keeps before after
 
 -- the state at its place is held from now on
 pub record Pins (states : List SurveyState) (before after : Point) (answer : Answer) : Type 0 where
   pub state : SurveyState
   pub there : slice_get states after.place ≡ Some state
-  pub told : answer ≡ pinned state.tip
+  pub answer_is : answer ≡ pinned state.tip
   pub holds : Holds before after
 
 -- all edits that the connection had seen are published, by the step to its place
@@ -154,7 +154,7 @@ pub record Publishes (states : List SurveyState) (before after : Point) (answer 
   pub new_there : slice_get states after.place ≡ Some new
   pub publication : IsPublication old new
   pub all : length (edits_at known) ≤ new.tip
-  pub told : answer ≡ published new.tip
+  pub answer_is : answer ≡ published new.tip
   pub step : Steps before after
 
 -- in the state at its place all edits are published
@@ -162,7 +162,7 @@ pub record HasPublished (states : List SurveyState) (before after : Point) (answ
   pub state : SurveyState
   pub there : slice_get states after.place ≡ Some state
   pub all : state.tip ≡ length (edits_at state)
-  pub told : answer ≡ already state.tip
+  pub answer_is : answer ≡ already state.tip
   pub kept : Keeps before after
 
 -- ---- one request

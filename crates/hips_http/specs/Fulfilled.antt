@@ -60,7 +60,7 @@ pub record IsAcceptedAt (opening : LeafTiles) (states : List SurveyState) (place
 -- the change is accepted by the state that judges it, unless no memory was found for it: then none does
 abbrev pub IsAccepted : LeafTiles → List SurveyState → Asked → Point → Point → Type 0
 IsAccepted opening states (Err refusal) before after = Unit {0}
-IsAccepted opening states (Ok change) before after = after.wants ≡ before.wants → IsAcceptedAt opening states (judging_place before after) change
+IsAccepted opening states (Ok change) before after = after.memory_faults ≡ before.memory_faults → IsAcceptedAt opening states (judging_place before after) change
 
 abbrev pub IsAcceptedCall : Description → LeafTiles → List SurveyState → Asking → Call → Point → Point → Type 0
 IsAcceptedCall conf opening states request call.Batch before after = IsAccepted opening states (asked_batch conf request) before after

@@ -17,8 +17,8 @@ pub record Connection (conf : Description) (opening : LeafTiles) (states : List 
   pub own : List ℕ
   pub later : List SurveyState
   pub end : SessionEnd
-  pub wants : ℕ
-  pub run : SessionRun conf opening states exchange own later end wants
+  pub memory_faults : ℕ
+  pub run : SessionRun conf opening states exchange own later end memory_faults
 
 -- each state after those is an event of the connection's own
 abbrev pub OwnsAll : List SurveyState → List SurveyState → List ℕ → Type 0
@@ -55,7 +55,7 @@ IsFaultless OutOfMemory = ⊥
 pub record IsUndisturbed {conf : Description} {opening : LeafTiles} {states : List SurveyState} (c : Connection conf opening states) : Type 0 where
   pub owns : OwnsAll states c.later c.own
   pub newest : EachNewest c
-  pub memory : c.wants ≡ 0
+  pub memory : c.memory_faults ≡ 0
   pub faultless : IsFaultless c.end
 
 -- the same was written, the same states were seen then, and it ended the same

@@ -28,7 +28,7 @@ pub record Moment : Type 0 where
   pub output : Output
   pub board : BoardContent
   pub steps : ℕ
-  pub wants : ℕ
+  pub memory_faults : ℕ
 
 -- the unread bytes: those held, and those left in the source where it tells them
 abbrev pub unread_of : Input → Option (List ℕ)
@@ -62,11 +62,11 @@ abbrev pub output_at : {K : Type 0} → sink.Ghosts K → K → Output
 output_at told end = record { held = told.held end; flushed = told.flushed end; faults = told.faults end }
 
 abbrev pub moment : Input → Output → BoardContent → ℕ → ℕ → Moment
-moment input output board steps wants = record { input = input; output = output; board = board; steps = steps; wants = wants }
+moment input output board steps memory_faults = record { input = input; output = output; board = board; steps = steps; memory_faults = memory_faults }
 
 abbrev pub moment_of : {B S K : Type 0} → source.Ghosts S → sink.Ghosts K → (B → BoardContent) → OpenConnection B S K → Moment
 moment_of told_source told_sink content connection =
-    moment (input_at told_source connection.frame.now connection.src.now) (output_at told_sink connection.sink.now) (content connection.board.now) connection.steps.now connection.wants
+    moment (input_at told_source connection.frame.now connection.src.now) (output_at told_sink connection.sink.now) (content connection.board.now) connection.steps.now connection.memory_faults
 
 -- the ends are the same: what they are then is what they are where the connection was opened
 pub record SameEnds {B S K : Type 0} (old new : OpenConnection B S K) : Type 0 where
@@ -83,7 +83,7 @@ pub record NeverFalls (old new : Moment) : Type 0 where
   pub source : old.input.faults ≤ new.input.faults
   pub sink : old.output.faults ≤ new.output.faults
   pub steps : old.steps ≤ new.steps
-  pub wants : new.wants ≤ old.wants + 1
+  pub memory_faults : new.memory_faults ≤ old.memory_faults + 1
   pub room : new.input.frame.room ≡ old.input.frame.room
 
 -- the source was read only while the bytes held and those that came needed more

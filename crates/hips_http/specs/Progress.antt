@@ -34,22 +34,22 @@ IsHeld states (Some place) held = (state : SurveyState) × (slice_get states pla
 
 -- a board that had these events of its own at first is at this point of a connection, where the count of steps was
 -- `first_steps` at first, and so many requests have found no memory
-pub record IsAt (first_own : List ℕ) (first_steps : ℕ) (board : BoardContent) (steps wants : ℕ) (point : Point) : Type 0 where
+pub record IsAt (first_own : List ℕ) (first_steps : ℕ) (board : BoardContent) (steps memory_faults : ℕ) (point : Point) : Type 0 where
   pub within : point.place < length board.history
   pub held : IsHeld board.history point.held board.held
   pub own_is : board.own ≡ first_own ++ point.own
   pub own_seen : All (λ place. place ≤ point.place) point.own
-  pub wants_is : wants ≡ point.wants
-  pub steps_are : wants ≡ 0 → steps ≤ first_steps + point.cost
+  pub memory_faults_is : memory_faults ≡ point.memory_faults
+  pub steps_are : memory_faults ≡ 0 → steps ≤ first_steps + point.cost
 
 -- how many more requests have found no memory after an answer
-abbrev pub wants_after : ℕ → Answer → ℕ
-wants_after wants answer = wants + (if answer.code == 503 then 1 else 0)
+abbrev pub memory_faults_after : ℕ → Answer → ℕ
+memory_faults_after memory_faults answer = memory_faults + (if answer.code == 503 then 1 else 0)
 
 -- a call is answered at a point, and the board is at a later one
-pub record ServesAt (request : Asking) (call : Call) (first_own : List ℕ) (first_steps : ℕ) (new : BoardContent) (steps wants : ℕ) (before : Point) (answer : Answer) : Type 0 where
+pub record ServesAt (request : Asking) (call : Call) (first_own : List ℕ) (first_steps : ℕ) (new : BoardContent) (steps memory_faults : ℕ) (before : Point) (answer : Answer) : Type 0 where
   pub after : Point
-  pub at : IsAt first_own first_steps new steps (wants_after wants answer) after
+  pub at : IsAt first_own first_steps new steps (memory_faults_after memory_faults answer) after
   pub never_falls : before.place ≤ after.place
   pub answers : Answers new.conf new.opening new.history request call before after answer
   pub cost : after.cost ≡ before.cost + cost_of new.conf new.history request call before.place after.place
@@ -61,8 +61,8 @@ pub record Serves (request : Asking) (call : Call) (old new : BoardContent) (ste
   pub legal : IsHistory new.opening new.history
   pub begins : Begins old.history new.history
   pub seat : KeepsSeat old new
-  pub at_each : (first_own : List ℕ) (first_steps wants : ℕ) (before : Point) → IsAt first_own first_steps old steps wants before
-      → ServesAt request call first_own first_steps new steps' wants before answer
+  pub at_each : (first_own : List ℕ) (first_steps memory_faults : ℕ) (before : Point) → IsAt first_own first_steps old steps memory_faults before
+      → ServesAt request call first_own first_steps new steps' memory_faults before answer
 
 -- ---- a file
 
@@ -76,7 +76,7 @@ pub record Sends (old new : Output) (bytes : List ℕ) (result : Result (Unit {0
   pub part : OnErr result (AppendsPrefix old.held new.held bytes)
 
 -- all that is held was flushed; or the sink failed, and no more was flushed
-pub record HandsReply (old new : Output) (result : Result (Unit {0}) Failed) : Type 0 where
+pub record FlushesReply (old new : Output) (result : Result (Unit {0}) Failed) : Type 0 where
   pub flushed : OnOk result (new.flushed ≡ new.held)
   pub stays : OnErr result (new.flushed ≡ old.flushed)
   pub failed : OnErr result (Rises old.faults new.faults)
@@ -187,7 +187,7 @@ pub record IsServedOne (count : ℕ) (old new : Moment) (closed : Bool) : Type 0
   pub answer : Answer
   pub serving : Serving old new request answer
   pub sent : Appends old.output.held new.output.held (output_of (closes count request) request.asked answer)
-  pub wants_is : new.wants ≡ wants_after old.wants answer
+  pub memory_faults_is : new.memory_faults ≡ memory_faults_after old.memory_faults answer
   pub closed_is : closed ≡ request.asked.close
 
 -- a writing failed in what is written for a request that was answered
@@ -196,7 +196,7 @@ pub record BreaksOne (count : ℕ) (old new : Moment) : Type 0 where
   pub answer : Answer
   pub serving : Serving old new request answer
   pub broken : Breaks old.output.held new.output.held (output_of (closes count request) request.asked answer)
-  pub wants_is : new.wants ≡ wants_after old.wants answer
+  pub memory_faults_is : new.memory_faults ≡ memory_faults_after old.memory_faults answer
 
 -- why no request was answered, where these were the unread bytes
 abbrev pub EndsOne : SessionEnd → ℕ → List ℕ → Option (List ℕ) → Option (List ℕ) → Option (List ℕ) → Type 0
@@ -211,7 +211,7 @@ EndsOne end room all left written written' = ⊥
 pub record Untouched (old new : Moment) : Type 0 where
   pub board : new.board ≡ old.board
   pub steps_are : new.steps ≡ old.steps
-  pub wants_are : new.wants ≡ old.wants
+  pub wants_are : new.memory_faults ≡ old.memory_faults
 
 -- how a connection ended instead of a request that was answered and written whole
 pub record StopsOne (count : ℕ) (old new : Moment) (end : SessionEnd) : Type 0 where
@@ -226,7 +226,7 @@ pub record LeavesPart (all : List ℕ) (left : Option (List ℕ)) : Type 0 where
   pub all_is : all ≡ gone ++ rest
 
 -- all that is held was flushed, or nothing was written and nothing flushed; where a writing failed, some more may have been
-pub record HandsOne (old new : Output) (result : Result Bool SessionEnd) : Type 0 where
+pub record FlushesOne (old new : Output) (result : Result Bool SessionEnd) : Type 0 where
   pub flushed : OnOk result (new.flushed ≡ new.held)
   pub flushes : IfErr result (λ end. ¬ (end ≡ WriteFault) → FlushesAll old.held new.held old.flushed new.flushed)
   pub breaks : result ≡ Err WriteFault → (more : List ℕ) × Flushes old.held old.flushed new.flushed more
@@ -243,7 +243,7 @@ pub record ServesOne (count : ℕ) (old new : Moment) (result : Result Bool Sess
   pub stops : IfErr result (StopsOne count old new)
   pub left : IfSome (unread_of old.input) (λ all. LeavesPart all new.input.left)
   pub turn : OnOk result (new.input.frame.turn ≡ AtHead)
-  pub hands : HandsOne old.output new.output result
+  pub hands : FlushesOne old.output new.output result
   pub faults : FaultsOne old new result
   pub never_falls : NeverFalls old new
 
@@ -254,7 +254,7 @@ pub record Replied (asked : Request) (wanted : Call) (old new : Moment) (answer 
   pub body : List ℕ
   pub takes : TakesBody asked.length old.input new.input body
   pub serves : Serves (record { asked = asked; path = old.input.frame.path; body = body }) wanted old.board new.board old.steps new.steps answer
-  pub wants_is : new.wants ≡ wants_after old.wants answer
+  pub memory_faults_is : new.memory_faults ≡ memory_faults_after old.memory_faults answer
 
 -- how a connection ends where a body isn't whole
 abbrev pub body_end : Stop → SessionEnd
@@ -270,7 +270,7 @@ pub record Halts (asked : Request) (old new : Moment) (end : SessionEnd) : Type 
   pub written_is : new.output.held ≡ old.output.held
 
 -- all that is held was flushed; or no more was, and nothing was written unless a writing failed
-pub record HandsCall (old new : Output) (result : Result (Unit {0}) SessionEnd) : Type 0 where
+pub record FlushesCall (old new : Output) (result : Result (Unit {0}) SessionEnd) : Type 0 where
   pub flushed : OnOk result (new.flushed ≡ new.held)
   pub stays : OnErr result (new.flushed ≡ old.flushed)
   pub unwritten : IfErr result (λ end. ¬ (end ≡ WriteFault) → new.held ≡ old.held)
@@ -282,7 +282,7 @@ pub record ServesCall (asked : Request) (wanted : Call) (close : Bool) (old new 
   pub ok : OnOk result ((answer : Answer) × Replied asked wanted old new answer × Appends old.output.held new.output.held (reply_of close asked answer))
   pub broken : result ≡ Err WriteFault → (answer : Answer) × Replied asked wanted old new answer × AppendsPrefix old.output.held new.output.held (reply_of close asked answer)
   pub halted : IfErr result (λ end. ¬ (end ≡ WriteFault) → Halts asked old new end)
-  pub hands : HandsCall old.output new.output result
+  pub hands : FlushesCall old.output new.output result
   pub never_falls : NeverFalls old new
 
 -- ---- many requests
@@ -299,7 +299,7 @@ pub record Progress (count : ℕ) (first now : Moment) : Type 0 where
   pub last : Point
   pub count_is : length requests ≡ count
   pub few : length last.own ≤ count
-  pub at : IsAt first.board.own first.steps now.board now.steps now.wants last
+  pub at : IsAt first.board.own first.steps now.board now.steps now.memory_faults last
   pub answered : AreAnswered now.board.conf now.board.opening now.board.history 0 (first_point first.board.history) requests last outputs
   pub taken : IfSome first.input.left (λ all. IsSomeAnd (unread_of now.input) (λ rest. AreRequests (room_of now.board.conf) all requests rest))
 
@@ -319,12 +319,12 @@ pub record Going (count : ℕ) (first now : Moment) : Type 0 where
 -- it is served from its first moment to its last, where its source had these bytes
 abbrev pub IsServedTo : Moment → Moment → SessionEnd → List ℕ → Type 0
 IsServedTo first last end bytes =
-    IsServed first.board last.board bytes (connection_at first) (connection_at last) first.steps last.steps (record { end = end; wants = last.wants })
+    IsServed first.board last.board bytes (connection_at first) (connection_at last) first.steps last.steps (record { end = end; memory_faults = last.memory_faults })
 
 -- what came of its requests
 pub record ServesAll (first last : Moment) (end : SessionEnd) : Type 0 where
   pub goes : Goes first.board last.board
-  pub wants : last.wants ≤ most_requests
+  pub memory_faults : last.memory_faults ≤ most_requests
   pub read_fault : end ≡ ReadFault → Rises first.input.faults last.input.faults
   pub write_fault : end ≡ WriteFault → Rises first.output.faults last.output.faults
   pub memory : end ≢ OutOfMemory

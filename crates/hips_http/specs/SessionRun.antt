@@ -122,9 +122,9 @@ abbrev pub input_of : Exchange → List ℕ
 input_of exchange = exchange.read ++ exchange.left
 
 -- the bytes by which an end is told: where the source failed they are those that were read, as though the input ended there
-abbrev pub told_bytes : SessionEnd → Exchange → List ℕ
-told_bytes ReadFault exchange = exchange.read
-told_bytes _ exchange = input_of exchange
+abbrev pub input_seen : SessionEnd → Exchange → List ℕ
+input_seen ReadFault exchange = exchange.read
+input_seen _ exchange = input_of exchange
 
 -- how it ended, after these requests with these outputs and before the rest
 abbrev pub Ends : SessionEnd → ℕ → List Asking → List ℕ → List (List ℕ) → Exchange → Type 0
@@ -148,13 +148,13 @@ Ends WriteFault room requests rest outputs exchange =
 Ends OutOfMemory room requests rest outputs exchange = (requests ≡ []) × (exchange.read ≡ []) × (exchange.written ≡ [])
 
 -- all that was written was flushed, unless a writing failed: then all but what was begun then, as told there
-abbrev pub HandsAllOn : SessionEnd → Exchange → Type 0
-HandsAllOn WriteFault exchange = Unit {0}
-HandsAllOn _ exchange = exchange.flushed ≡ exchange.written
+abbrev pub FlushesAll : SessionEnd → Exchange → Type 0
+FlushesAll WriteFault exchange = Unit {0}
+FlushesAll _ exchange = exchange.flushed ≡ exchange.written
 
 -- a connection begins at the last state that was seen before it, and holds none
 abbrev pub first_point : List SurveyState → Point
-first_point states = record { place = length states - 1; held = None; own = []; wants = 0; cost = 0 }
+first_point states = record { place = length states - 1; held = None; own = []; memory_faults = 0; cost = 0 }
 
 -- want of memory at the beginning changes nothing
 abbrev pub KeepsStates : SessionEnd → List SurveyState → List SurveyState → Type 0
@@ -164,20 +164,20 @@ KeepsStates _ states states' = Unit {0}
 -- one connection: the states seen before it, its exchange, the places of its own events, the states seen after it, its end,
 -- and how many replies of it told want of memory
 pub record SessionRun (conf : Description) (opening : LeafTiles) (states : List SurveyState) (exchange : Exchange) (own : List ℕ)
-    (states' : List SurveyState) (end : SessionEnd) (wants : ℕ) : Type 0 where
+    (states' : List SurveyState) (end : SessionEnd) (memory_faults : ℕ) : Type 0 where
   pub history : IsHistory opening states'
   pub begins : Begins states states'
   pub kept : KeepsStates end states states'
   pub requests : List Asking
   pub rest : List ℕ
-  pub are_requests : AreRequests (room_of conf) (told_bytes end exchange) requests rest
+  pub are_requests : AreRequests (room_of conf) (input_seen end exchange) requests rest
   pub last : Point
   pub outputs : List (List ℕ)
   pub answered : AreAnswered conf opening states' 0 (first_point states) requests last outputs
   pub own_is : own ≡ last.own
-  pub wants_is : wants ≡ last.wants
+  pub memory_faults_is : memory_faults ≡ last.memory_faults
   pub ended : Ends end (room_of conf) requests rest outputs exchange
-  pub flushed : HandsAllOn end exchange
+  pub flushed : FlushesAll end exchange
 
 -- ---- a call
 
@@ -214,8 +214,8 @@ pub record IsServed (old new : BoardContent) (input : List ℕ) (taken back : Co
         sink_faults = taken.sink_faults;
         sink_faults_then = back.sink_faults;
       })
-      own new.history served.end served.wants
-  pub steps_are : served.wants ≡ 0 → steps' ≤ steps + run.last.cost
+      own new.history served.end served.memory_faults
+  pub steps_are : served.memory_faults ≡ 0 → steps' ≤ steps + run.last.cost
 
 -- what is true of it, also where nothing is told
 pub record Goes (old new : BoardContent) : Type 0 where

@@ -47,7 +47,7 @@ pub fn session<
     steps: &mut Steps,
 ) -> Served
     ensures goes { Goes (B.content board.old) (B.content board.new) }
-    ensures wants { result.wants ≤ most_requests }
+    ensures memory_faults { result.memory_faults ≤ most_requests }
     ensures read_fault { result.end ≡ ReadFault → Rises (S.faults src.old) (S.faults src.new) }
     ensures write_fault { result.end ≡ WriteFault → Rises (K.faults sink.old) (K.faults sink.new) }
     // Unless writing failed all that is held was flushed, also what was held back before; or nothing was written.
@@ -90,7 +90,7 @@ pub fn session_in<
 ) -> Served
     requires room { IfSome frame.old (λ frame. frame.room ≡ room_of (B.content board.old).conf) }
     ensures goes { Goes (B.content board.old) (B.content board.new) }
-    ensures wants { result.wants ≤ most_requests }
+    ensures memory_faults { result.memory_faults ≤ most_requests }
     ensures read_fault { result.end ≡ ReadFault → Rises (S.faults src.old) (S.faults src.new) }
     ensures write_fault { result.end ≡ WriteFault → Rises (K.faults sink.old) (K.faults sink.new) }
     // Unless writing failed all that is held was flushed, also what was held back before; or nothing was written.
@@ -126,7 +126,7 @@ pub fn session_in<
             let _count = steps.count();
             return Served {
                 end: SessionEnd::OutOfMemory,
-                wants: 0,
+                memory_faults: 0,
             };
         }
     }
@@ -152,9 +152,9 @@ fn serve_all<
     requires room { frame.old.room ≡ room_of (B.content board.old).conf }
     requires released { (B.content board.old).held ≡ None }
     ensures serves { ServesAll (moment (input_at S.Source frame.old src.old) (output_at K.Sink sink.old) (B.content board.old) steps.old 0)
-        (moment (input_at S.Source frame.new src.new) (output_at K.Sink sink.new) (B.content board.new) steps.new result.wants) result.end }
+        (moment (input_at S.Source frame.new src.new) (output_at K.Sink sink.new) (B.content board.new) steps.new result.memory_faults) result.end }
     ensures order { IfSome (S.left src.old) (λ input. (served : IsServedTo (moment (input_at S.Source frame.old src.old) (output_at K.Sink sink.old) (B.content board.old) steps.old 0)
-        (moment (input_at S.Source frame.new src.new) (output_at K.Sink sink.new) (B.content board.new) steps.new result.wants) result.end input)
+        (moment (input_at S.Source frame.new src.new) (output_at K.Sink sink.new) (B.content board.new) steps.new result.memory_faults) result.end input)
         × ReadsWhere S.Source (FollowsReplies (room_of (B.content board.old).conf) served.run.outputs served.passed) [] src.old src.new) }
 {
     let top = top_of(board);
@@ -164,12 +164,12 @@ fn serve_all<
         src,
         sink,
         steps,
-        wants: 0,
+        memory_faults: 0,
     };
     let end = serve_requests(means, &mut connection, top);
     Served {
         end,
-        wants: connection.wants,
+        memory_faults: connection.memory_faults,
     }
 }
 
@@ -193,7 +193,7 @@ fn serve_requests<
     requires legal { IsHistory (B.content connection.old.board.now).opening (B.content connection.old.board.now).history }
     requires owned { IsOwned (B.content connection.old.board.now) }
     requires released { (B.content connection.old.board.now).held ≡ None }
-    requires wants { connection.old.wants ≡ 0 }
+    requires memory_faults { connection.old.memory_faults ≡ 0 }
     ensures serves { ServesAll (moment_of S.Source K.Sink B.content connection.old) (moment_of S.Source K.Sink B.content connection.new) result }
     ensures order { IfSome (S.left connection.old.src.now) (λ input. (served : IsServedTo (moment_of S.Source K.Sink B.content connection.old) (moment_of S.Source K.Sink B.content connection.new) result input)
         × ReadsWhere S.Source (FollowsReplies (room_of (B.content connection.old.board.now).conf) served.run.outputs served.passed) [] connection.old.src.now connection.new.src.now) }

@@ -5,7 +5,7 @@ ghost use Rattle.reader_pin.specs.Board.{last_seen, state_in};
 ghost use Rattle.tile_path.specs.Spelling.{spelling};
 ghost use Rattle.hips_http.specs.Paths.{IsPathOf};
 ghost use Rattle.hips_http.specs.Moment.{output_at};
-ghost use Rattle.hips_http.specs.Progress.{HandsReply, Looks, Sends, reply_of};
+ghost use Rattle.hips_http.specs.Progress.{FlushesReply, Looks, Sends, reply_of};
 ghost use Rattle.hips_http.specs.Replies.{file_kind, file_answer, not_found, sent_body};
 ghost use Rattle.survey_link.specs.Link.{parts_bytes};
 
@@ -57,7 +57,7 @@ pub(crate) fn send_path<R: Clock + Log, K: Sink>(
 ) -> Result<(), Failed>
     requires file { IsPathOf (option_copied path) file.now }
     ensures sends { Sends (output_at K.Sink sink.old) (output_at K.Sink sink.new) (reply_of due.now.close due.now.request (file_answer state.now.conf state.now.opening (survey_state state.now) (option_copied path.entry))) result }
-    ensures hands { HandsReply (output_at K.Sink sink.old) (output_at K.Sink sink.new) result }
+    ensures hands { FlushesReply (output_at K.Sink sink.old) (output_at K.Sink sink.new) result }
 {
     let mut front = [0u8; 2880];
     let file = match file {
@@ -106,7 +106,7 @@ fn send_not_found<R: Clock + Log, K: Sink>(
     state: &State,
 ) -> Result<(), Failed>
     ensures sends { Sends (output_at K.Sink sink.old) (output_at K.Sink sink.new) (reply_of due.now.close due.now.request (not_found state.now.tip)) result }
-    ensures hands { HandsReply (output_at K.Sink sink.old) (output_at K.Sink sink.new) result }
+    ensures hands { FlushesReply (output_at K.Sink sink.old) (output_at K.Sink sink.new) result }
 {
     let reply = TextReply::not_found(state.tip());
     send_text(rt, sink, due, path, &reply)

@@ -16,7 +16,7 @@ pub(crate) struct OpenConnection<'f, 'b, 's, 'k, 't, B, S, K> {
     pub(crate) sink: &'k mut K,
     pub(crate) steps: &'t mut Steps,
     /// How many requests have found no memory.
-    pub(crate) wants: u32,
+    pub(crate) memory_faults: u32,
 }
 
 /// What requests are answered with: the clock and the log, memory, and the gate that publications pass.

@@ -2,7 +2,7 @@
 ghost use Rattle.std.specs.Prelude.{◌≡◌, true};
 ghost use Rattle.http_frame.specs.Reply.{is_reply_code};
 ghost use Rattle.hips_http.specs.Moment.{output_at};
-ghost use Rattle.hips_http.specs.Progress.{HandsReply, Sends, reply_of};
+ghost use Rattle.hips_http.specs.Progress.{FlushesReply, Sends, reply_of};
 ghost use Rattle.hips_http.specs.Replies.{sent_body, refusal_bytes};
 
 use crate::open_connection::Due;
@@ -26,7 +26,7 @@ pub(crate) fn send_text<R: Clock + Log, K: Sink>(
     reply: &TextReply,
 ) -> Result<(), Failed>
     ensures sends { Sends (output_at K.Sink sink.old) (output_at K.Sink sink.new) (reply_of due.now.close due.now.request reply.now) result }
-    ensures hands { HandsReply (output_at K.Sink sink.old) (output_at K.Sink sink.new) result }
+    ensures hands { FlushesReply (output_at K.Sink sink.old) (output_at K.Sink sink.new) result }
 {
     let text = reply.text.as_slice();
     let head = Reply {
@@ -64,7 +64,7 @@ pub(crate) fn send_refusal<R: Clock + Log, K: Sink>(
 ) -> Result<(), Failed>
     requires known { is_reply_code code ≡ true }
     ensures sends { Sends (output_at K.Sink sink.old) (output_at K.Sink sink.new) (refusal_bytes code) result }
-    ensures hands { HandsReply (output_at K.Sink sink.old) (output_at K.Sink sink.new) result }
+    ensures hands { FlushesReply (output_at K.Sink sink.old) (output_at K.Sink sink.new) result }
 {
     let watch = Stopwatch::start(rt);
     let head = Reply {

@@ -27,5 +27,5 @@ pub struct Served {
     /// How it ended.
     pub end: SessionEnd,
     /// How many replies said that there was no memory (503).
-    pub wants: u32,
+    pub memory_faults: u32,
 }

@@ -13,7 +13,7 @@ ghost use Rattle.hips_http.specs.declared.served.SessionEnd.TheVariants.{ReadFau
 ghost use Rattle.hips_http.specs.Replies.{leave_bytes};
 ghost use Rattle.hips_http.specs.Paths.{IsPathOf};
 ghost use Rattle.hips_http.specs.Moment.{input_at, moment_of, SameEnds, ReadsWhere};
-ghost use Rattle.hips_http.specs.Progress.{ReadsCall, HasLeaf, HasFile, EndsAt, is_text, body_end, wants_after, ServesCall, ServesOne};
+ghost use Rattle.hips_http.specs.Progress.{ReadsCall, HasLeaf, HasFile, EndsAt, is_text, body_end, memory_faults_after, ServesCall, ServesOne};
 ghost use Rattle.hips_http.specs.SessionRun.{FlushesAll, room_of, most_requests};
 ghost use Rattle.hips_http.specs.Readings.{NeedsRest, HoldsBehind};
 
@@ -179,7 +179,7 @@ fn serve_text<
     requires turn { connection.old.frame.now.turn ≡ AtBody due.now.request.length }
     requires text { is_text due.now.call ≡ true }
     requires leaf { HasLeaf (B.content connection.old.board.now).conf.shape.top due.now.call }
-    requires few { connection.old.wants < 65536 }
+    requires few { connection.old.memory_faults < 65536 }
     ensures serves { ServesCall due.now.request due.now.call due.now.close (moment_of S.Source K.Sink B.content connection.old) (moment_of S.Source K.Sink B.content connection.new) result }
     ensures needed { ReadsWhere S.Source (IsShort due.now.request.length) connection.old.frame.now.held connection.old.src.now connection.new.src.now }
     ensures same { SameEnds connection.old connection.new }
@@ -195,7 +195,7 @@ fn serve_text<
         Ok(reply) => reply,
         Err(stop) => return Err(body_end(stop)),
     };
-    connection.wants = count_want(connection.wants, &reply);
+    connection.memory_faults = count_want(connection.memory_faults, &reply);
     match send_text(
         means.rt,
         connection.sink,
@@ -231,7 +231,7 @@ pub(crate) fn serve_one<
     requires top { top ≡ (B.content connection.old.board.now).conf.shape.top }
     requires small { top ≤ 11 }
     requires few { count < 65536 }
-    requires wants { connection.old.wants ≤ count }
+    requires memory_faults { connection.old.memory_faults ≤ count }
     ensures serves { ServesOne count (moment_of S.Source K.Sink B.content connection.old) (moment_of S.Source K.Sink B.content connection.new) result }
     ensures reads { IsSome (S.left connection.old.src.now) → (came : List ℕ) × ReadsWhile S.left S.readings (NeedsRest connection.old.frame.now.room) connection.old.frame.now.held connection.old.src.now connection.new.src.now came
         × HoldsBehind connection.old.frame.now.room (connection.old.frame.now.held ++ came) connection.new.frame.now.held result }
@@ -272,10 +272,10 @@ fn closes(asked: bool, count: u32) -> bool
 }
 
 // How many requests have found no memory after a reply.
-fn count_want(wants: u32, reply: &TextReply) -> u32
-    requires { wants < 65536 }
-    ensures counted { result ≡ wants_after wants reply.now }
-    ensures one { result ≤ wants + 1 }
+fn count_want(memory_faults: u32, reply: &TextReply) -> u32
+    requires { memory_faults < 65536 }
+    ensures counted { result ≡ memory_faults_after memory_faults reply.now }
+    ensures one { result ≤ memory_faults + 1 }
 {
-    if reply.code == 503 { wants + 1 } else { wants }
+    if reply.code == 503 { memory_faults + 1 } else { memory_faults }
 }

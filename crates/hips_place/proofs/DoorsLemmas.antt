@@ -214,16 +214,16 @@ module _ (most seats : ℕ) (conf : Description) (opening : LeafTiles) (p : OneP
       let conf_is : p.board_then.conf ≡ conf = is.served.goes.conf ∙ ap (λ (b : BoardContent). b.conf) is.first in
       let history_is : p.board.history ≡ opening_state ∷ [] = ap (λ (b : BoardContent). b.history) is.first in
       record {
-        takens = place.takens;
-        backs = place.backs;
+        opened = place.opened;
+        closed = place.closed;
         ends = place.ends;
-        run = subst (λ (c : Description). PlaceRun c opening (opening_state ∷ []) place.takens place.backs place.ends p.owns p.board_then.history) conf_is
-            (subst (λ (l : LeafTiles). PlaceRun p.board_then.conf l (opening_state ∷ []) place.takens place.backs place.ends p.owns p.board_then.history) opening_stays
-            (subst (λ (h : List SurveyState). PlaceRun p.board_then.conf p.board_then.opening h place.takens place.backs place.ends p.owns p.board_then.history) history_is place.run));
+        run = subst (λ (c : Description). PlaceRun c opening (opening_state ∷ []) place.opened place.closed place.ends p.owns p.board_then.history) conf_is
+            (subst (λ (l : LeafTiles). PlaceRun p.board_then.conf l (opening_state ∷ []) place.opened place.closed place.ends p.owns p.board_then.history) opening_stays
+            (subst (λ (h : List SurveyState). PlaceRun p.board_then.conf p.board_then.opening h place.opened place.closed place.ends p.owns p.board_then.history) history_is place.run));
         handed = place.handed;
         few = place.few;
         ended = place.ended;
-        wants_first = place.wants_first;
+        memory_first = place.memory_first;
       }
 
 -- ---- the doors
@@ -347,7 +347,7 @@ ends_still door door' Done other e = e.0
 ends_still door door' OutOfMemory other e = e.0
 ends_still door door' Failed other e = absurd (other refl)
 
-ends_done : (door door' : DoorContent) (end : PlaceEnd) → end ≡ Done → EndsBy door door' end → door'.wants ≡ door.wants
+ends_done : (door door' : DoorContent) (end : PlaceEnd) → end ≡ Done → EndsBy door door' end → door'.memory_faults ≡ door.memory_faults
 ends_done door door' Done is e = e.1
 ends_done door door' OutOfMemory is e = absurd (cc)
 ends_done door door' Failed is e = absurd (cc)
@@ -391,10 +391,10 @@ module _ {D : Type 0} (content : D → DoorContent) (most : ℕ) (boards boards'
       let none = all_unmapped (λ each. each ≢ Failed) (λ (p : OnePlace). p.end) a.places (none_failed (map (λ (p : OnePlace). p.end) a.places) end a.ends other) in
       same_then (λ d. d.faults) (λ k p within. ends_still (get_or a.places k p).door (get_or a.places k p).door_then (get_or a.places k p).end (none k p within) (a.each k p within).ends_by)
 
-  pub done_only : end ≡ Done → map (λ d. (content d).wants) doors' ≡ map (λ d. (content d).wants) doors
+  pub done_only : end ≡ Done → map (λ d. (content d).memory_faults) doors' ≡ map (λ d. (content d).memory_faults) doors
   done_only is =
       let done = all_unmapped (λ each. each ≡ Done) (λ (p : OnePlace). p.end) a.places (a.ends.done is) in
-      same_then (λ d. d.wants) (λ k p within. ends_done (get_or a.places k p).door (get_or a.places k p).door_then (get_or a.places k p).end (done k p within) (a.each k p within).ends_by)
+      same_then (λ d. d.memory_faults) (λ k p within. ends_done (get_or a.places k p).door (get_or a.places k p).door_then (get_or a.places k p).end (done k p within) (a.each k p within).ends_by)
 
 -- ---- boards that are seen as they are
 

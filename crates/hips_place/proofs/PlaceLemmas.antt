@@ -23,7 +23,7 @@ use Rattle.hips_place.specs.declared.place.PlaceEnd.{PlaceEnd}
 use Rattle.hips_place.specs.declared.place.PlaceEnd.TheVariants.{Done, Failed}
 use Rattle.hips_place.specs.declared.place.PlaceEnd.TheVariants as placed
 use Rattle.reader_pin.specs.SeatLaws.{keeps_itself, keeps_trans}
-use Rattle.hips_place.specs.Place.{IsSession, IsServedOnce, HasSameEnds, PlaceRun, AllReturned, HandsOut, DoorContent, TookAll, WantsFirst, EndsBy, EndsAfter, IsPlace, PlaceGoes, TakesOne}
+use Rattle.hips_place.specs.Place.{IsSession, IsServedOnce, HasSameEnds, PlaceRun, AllReturned, OpenedAndClosed, DoorContent, TookAll, OutOfMemoryFirst, EndsBy, EndsAfter, IsPlace, PlaceGoes, TakesOne}
 
 begins_same : {X : Type 0} (xs ys : List X) → ys ≡ xs → Begins xs ys
 begins_same xs ys same = record { rest = []; is = grind (arith, common_steps) }
@@ -46,7 +46,7 @@ once_served old new unread taken back steps steps' served is goes all own own_is
       read = s.read;
       rest = s.rest;
       out = s.out;
-      wants = served.wants;
+      memory_faults = served.memory_faults;
       input_is = s.input_is;
       left_is = s.left_is;
       appended = s.appended;
@@ -61,54 +61,54 @@ once_served old new unread taken back steps steps' served is goes all own own_is
         source_faults_then = back.source_faults;
         sink_faults = taken.sink_faults;
         sink_faults_then = back.sink_faults;
-      }) o new.history served.end served.wants) (append_cancel_left old.own s.own own (sym s.own_is ∙ own_is)) s.run;
+      }) o new.history served.end served.memory_faults) (append_cancel_left old.own s.own own (sym s.own_is ∙ own_is)) s.run;
     }
 
 -- ---- one connection more
 
-place_push : (conf : Description) (opening : LeafTiles) (states : List SurveyState) (takens backs : List Numbered) (ends : List SessionEnd) (owns : List (List ℕ)) (mid states' : List SurveyState)
-    (taken back : Numbered) (end : SessionEnd) (own : List ℕ) → PlaceRun conf opening states takens backs ends owns mid → HasSameEnds taken back → IsServedOnce conf opening mid taken.told back.told states' end own
-    → PlaceRun conf opening states (takens ++ taken ∷ []) (backs ++ back ∷ []) (ends ++ end ∷ []) (owns ++ own ∷ []) states'
+place_push : (conf : Description) (opening : LeafTiles) (states : List SurveyState) (opened closed : List Numbered) (ends : List SessionEnd) (owns : List (List ℕ)) (mid states' : List SurveyState)
+    (taken back : Numbered) (end : SessionEnd) (own : List ℕ) → PlaceRun conf opening states opened closed ends owns mid → HasSameEnds taken back → IsServedOnce conf opening mid taken.told back.told states' end own
+    → PlaceRun conf opening states (opened ++ taken ∷ []) (closed ++ back ∷ []) (ends ++ end ∷ []) (owns ++ own ∷ []) states'
 place_push conf opening states [] [] [] [] mid states' taken back end own run same served =
     (states', same, subst (λ (s : List SurveyState). IsServedOnce conf opening s taken.told back.told states' end own) run served, refl)
 place_push conf opening states [] [] [] (o ∷ owns) mid states' taken back end own run same served = absurd run
 place_push conf opening states [] [] (e ∷ ends) owns mid states' taken back end own run same served = absurd run
-place_push conf opening states [] (b ∷ backs) ends owns mid states' taken back end own run same served = absurd run
-place_push conf opening states (t ∷ takens) [] ends owns mid states' taken back end own run same served = absurd run
-place_push conf opening states (t ∷ takens) (b ∷ backs) [] owns mid states' taken back end own run same served = absurd run
-place_push conf opening states (t ∷ takens) (b ∷ backs) (e ∷ ends) [] mid states' taken back end own run same served = absurd run
-place_push conf opening states (t ∷ takens) (b ∷ backs) (e ∷ ends) (o ∷ owns) mid states' taken back end own run same served =
-    (run.0, run.1, run.2, place_push conf opening run.0 takens backs ends owns mid states' taken back end own run.3 same served)
+place_push conf opening states [] (b ∷ closed) ends owns mid states' taken back end own run same served = absurd run
+place_push conf opening states (t ∷ opened) [] ends owns mid states' taken back end own run same served = absurd run
+place_push conf opening states (t ∷ opened) (b ∷ closed) [] owns mid states' taken back end own run same served = absurd run
+place_push conf opening states (t ∷ opened) (b ∷ closed) (e ∷ ends) [] mid states' taken back end own run same served = absurd run
+place_push conf opening states (t ∷ opened) (b ∷ closed) (e ∷ ends) (o ∷ owns) mid states' taken back end own run same served =
+    (run.0, run.1, run.2, place_push conf opening run.0 opened closed ends owns mid states' taken back end own run.3 same served)
 
 -- it is given back where fewer were given back than taken
 returns : (back : Numbered) (mid : Connections) → length mid.returned < length mid.taken → given_back back mid ≡ record mid { returned = mid.returned ++ back ∷ [] }
 returns back mid fewer = grind (arith, common_steps)
 
-numbered_push : (number : ℕ) (takens : List Numbered) (taken : Numbered) → AreNumbered number takens → HasNumber (number + length takens) taken → AreNumbered number (takens ++ taken ∷ [])
+numbered_push : (number : ℕ) (opened : List Numbered) (taken : Numbered) → AreNumbered number opened → HasNumber (number + length opened) taken → AreNumbered number (opened ++ taken ∷ [])
 numbered_push number [] taken are has =
     let here : number + 0 ≡ number = omega arith in
     (subst (λ (n : ℕ). HasNumber n taken) here has, tt)
-numbered_push number (first ∷ takens) taken are has =
-    let there : number + length (first ∷ takens) ≡ number + 1 + length takens = omega arith in
-    (are.0, numbered_push (number + 1) takens taken are.1 (subst (λ (n : ℕ). HasNumber n taken) there has))
+numbered_push number (first ∷ opened) taken are has =
+    let there : number + length (first ∷ opened) ≡ number + 1 + length opened = omega arith in
+    (are.0, numbered_push (number + 1) opened taken are.1 (subst (λ (n : ℕ). HasNumber n taken) there has))
 
-hands_push : (door now mid door' : Option Connections) (takens backs : List Numbered) (taken back : Numbered) → AllReturned door → length takens ≡ length backs
-    → HandsOut door takens backs now → Takes now mid taken → door' ≡ option_map (given_back back) mid → HandsOut door (takens ++ taken ∷ []) (backs ++ back ∷ []) door'
-hands_push None now mid door' takens backs taken back all same handed takes is = tt
-hands_push (Some old) None mid door' takens backs taken back all same handed takes is = absurd handed
-hands_push (Some old) (Some now) None door' takens backs taken back all same handed takes is = absurd takes
-hands_push (Some old) (Some now) (Some mid) None takens backs taken back all same handed takes is = cc
-hands_push (Some old) (Some now) (Some mid) (Some new) takens backs taken back all same handed takes is =
+hands_push : (door now mid door' : Option Connections) (opened closed : List Numbered) (taken back : Numbered) → AllReturned door → length opened ≡ length closed
+    → OpenedAndClosed door opened closed now → Takes now mid taken → door' ≡ option_map (given_back back) mid → OpenedAndClosed door (opened ++ taken ∷ []) (closed ++ back ∷ []) door'
+hands_push None now mid door' opened closed taken back all same handed takes is = tt
+hands_push (Some old) None mid door' opened closed taken back all same handed takes is = absurd handed
+hands_push (Some old) (Some now) None door' opened closed taken back all same handed takes is = absurd takes
+hands_push (Some old) (Some now) (Some mid) None opened closed taken back all same handed takes is = cc
+hands_push (Some old) (Some now) (Some mid) (Some new) opened closed taken back all same handed takes is =
     let fewer : length mid.returned < length mid.taken
-    = omega (arith, ap length handed.2, ap length handed.1, ap length takes.1, ap length takes.2, length-append old.returned backs, length-append old.taken takens, length-append now.taken (taken ∷ [])) in
+    = omega (arith, ap length handed.2, ap length handed.1, ap length takes.1, ap length takes.2, length-append old.returned closed, length-append old.taken opened, length-append now.taken (taken ∷ [])) in
     let new_is : Some new ≡ Some (record mid { returned = mid.returned ++ back ∷ [] }) = is ∙ ap Some (returns back mid fewer) in
     let waits : new.waiting ≡ mid.waiting = cc in
     let takens_are : new.taken ≡ mid.taken = cc in
     let backs_are : new.returned ≡ mid.returned ++ back ∷ [] = cc in (
-      handed.0 ∙ ap (λ xs. takens ++ xs) (takes.0 ∙ ap (λ xs. taken ∷ xs) (sym waits)) ∙ sym (append_assoc takens (taken ∷ []) new.waiting),
-      takens_are ∙ takes.1 ∙ ap (λ xs. xs ++ taken ∷ []) handed.1 ∙ append_assoc old.taken takens (taken ∷ []),
-      backs_are ∙ ap (λ xs. xs ++ back ∷ []) (takes.2 ∙ handed.2) ∙ append_assoc old.returned backs (back ∷ []),
-      numbered_push (length old.taken) takens taken handed.3 (subst (λ (n : ℕ). HasNumber n taken) (ap length handed.1 ∙ length-append old.taken takens) takes.3),
+      handed.0 ∙ ap (λ xs. opened ++ xs) (takes.0 ∙ ap (λ xs. taken ∷ xs) (sym waits)) ∙ sym (append_assoc opened (taken ∷ []) new.waiting),
+      takens_are ∙ takes.1 ∙ ap (λ xs. xs ++ taken ∷ []) handed.1 ∙ append_assoc old.taken opened (taken ∷ []),
+      backs_are ∙ ap (λ xs. xs ++ back ∷ []) (takes.2 ∙ handed.2) ∙ append_assoc old.returned closed (back ∷ []),
+      numbered_push (length old.taken) opened taken handed.3 (subst (λ (n : ℕ). HasNumber n taken) (ap length handed.1 ∙ length-append old.taken opened) takes.3),
     )
 
 -- ---- the loop
@@ -119,12 +119,12 @@ AllWant ends = All (λ end. end ≡ OutOfMemory) ends
 abbrev NoneWants : List SessionEnd → Type 0
 NoneWants ends = All (λ end. end ≢ OutOfMemory) ends
 
-all_first : (ends : List SessionEnd) → AllWant ends → WantsFirst ends
+all_first : (ends : List SessionEnd) → AllWant ends → OutOfMemoryFirst ends
 all_first [] all = tt
 all_first (end ∷ ends) all =
-    subst (λ (e : SessionEnd). WantsFirst (e ∷ ends)) (sym (All-head (λ end. end ≡ OutOfMemory) end ends all)) (all_first ends (All-tail (λ end. end ≡ OutOfMemory) end ends all))
+    subst (λ (e : SessionEnd). OutOfMemoryFirst (e ∷ ends)) (sym (All-head (λ end. end ≡ OutOfMemory) end ends all)) (all_first ends (All-tail (λ end. end ≡ OutOfMemory) end ends all))
 
-none_first : (ends : List SessionEnd) (end : SessionEnd) → WantsFirst ends → end ≢ OutOfMemory → WantsFirst (ends ++ end ∷ [])
+none_first : (ends : List SessionEnd) (end : SessionEnd) → OutOfMemoryFirst ends → end ≢ OutOfMemory → OutOfMemoryFirst (ends ++ end ∷ [])
 none_first [] Closed first other = All-nil (λ end. end ≢ OutOfMemory)
 none_first [] Asked first other = All-nil (λ end. end ≢ OutOfMemory)
 none_first [] (Refused code) first other = All-nil (λ end. end ≢ OutOfMemory)
@@ -142,53 +142,53 @@ none_first (Spent ∷ ends) end first other = All-push (λ end. end ≢ OutOfMem
 none_first (ReadFault ∷ ends) end first other = All-push (λ end. end ≢ OutOfMemory) ends end first other
 none_first (WriteFault ∷ ends) end first other = All-push (λ end. end ≢ OutOfMemory) ends end first other
 
-is_want : (end : SessionEnd) → (end ≡ OutOfMemory) ⊎ (end ≢ OutOfMemory)
-is_want Closed = inr (λ e. cc)
-is_want Asked = inr (λ e. cc)
-is_want (Refused code) = inr (λ e. cc)
-is_want Cut = inr (λ e. cc)
-is_want Spent = inr (λ e. cc)
-is_want ReadFault = inr (λ e. cc)
-is_want WriteFault = inr (λ e. cc)
-is_want OutOfMemory = inl refl
+is_out_of_memory : (end : SessionEnd) → (end ≡ OutOfMemory) ⊎ (end ≢ OutOfMemory)
+is_out_of_memory Closed = inr (λ e. cc)
+is_out_of_memory Asked = inr (λ e. cc)
+is_out_of_memory (Refused code) = inr (λ e. cc)
+is_out_of_memory Cut = inr (λ e. cc)
+is_out_of_memory Spent = inr (λ e. cc)
+is_out_of_memory ReadFault = inr (λ e. cc)
+is_out_of_memory WriteFault = inr (λ e. cc)
+is_out_of_memory OutOfMemory = inl refl
 
 -- there was no frame so far, or there is one now
 abbrev Framed : Option FrameState → List SessionEnd → Type 0
-Framed frame ends = AllWant ends ⊎ (IsSome frame × WantsFirst ends)
+Framed frame ends = AllWant ends ⊎ (IsSome frame × OutOfMemoryFirst ends)
 
-framed_first : (frame : Option FrameState) (ends : List SessionEnd) → Framed frame ends → WantsFirst ends
+framed_first : (frame : Option FrameState) (ends : List SessionEnd) → Framed frame ends → OutOfMemoryFirst ends
 framed_first frame ends (inl all) = all_first ends all
 framed_first frame ends (inr some) = some.1
 
 framed_push : (frame frame' : Option FrameState) (ends : List SessionEnd) (end : SessionEnd) → Framed frame ends → (IsSome frame → IsSome frame' × (end ≢ OutOfMemory)) → (end ≢ OutOfMemory → IsSome frame')
     → Framed frame' (ends ++ end ∷ [])
 framed_push frame frame' ends end (inr some) stays was = inr ((stays some.0).0, none_first ends end some.1 (stays some.0).1)
-framed_push frame frame' ends end (inl all) stays was = elim (is_want end) [
+framed_push frame frame' ends end (inl all) stays was = elim (is_out_of_memory end) [
   | inl want ↦ inl (All-push (λ end. end ≡ OutOfMemory) ends end all want)
   | inr other ↦ inr (was other, none_first ends end (all_first ends all) other)
 ]
 
 -- what was done so far: the board's history goes on by the connections that were taken, and none is out
 pub record SoFar (old now : BoardContent) (door door' : Option Connections) (count : ℕ) (wanted : Bool) (frame : Option FrameState) (owns : List (List ℕ)) : Type 0 where
-  pub takens : List Numbered
-  pub backs : List Numbered
+  pub opened : List Numbered
+  pub closed : List Numbered
   pub ends : List SessionEnd
-  pub run : PlaceRun now.conf now.opening old.history takens backs ends owns now.history
-  pub handed : HandsOut door takens backs door'
-  pub count_is : length takens ≡ count
-  pub backs_are : length backs ≡ count
+  pub run : PlaceRun now.conf now.opening old.history opened closed ends owns now.history
+  pub handed : OpenedAndClosed door opened closed door'
+  pub count_is : length opened ≡ count
+  pub backs_are : length closed ≡ count
   pub framed : Framed frame ends
   pub none_wanted : wanted ≡ false → All (λ end. end ≢ OutOfMemory) ends
   pub some_wanted : wanted ≡ true → Contains ends OutOfMemory
 
-none_handed : (door : Option Connections) → HandsOut door [] [] door
+none_handed : (door : Option Connections) → OpenedAndClosed door [] [] door
 none_handed None = tt
 none_handed (Some told) = (refl, grind (arith, common_steps), grind (arith, common_steps), tt)
 
 pub begins_place : (board : BoardContent) (door : Option Connections) (frame : Option FrameState) → SoFar board board door door 0 false frame []
 begins_place board door frame = record {
-  takens = [];
-  backs = [];
+  opened = [];
+  closed = [];
   ends = [];
   run = refl;
   handed = none_handed door;
@@ -203,20 +203,20 @@ pub one_more : (old now new : BoardContent) (door door1 door2 : Option Connectio
     → SoFar old now door door1 count wanted frame owns → (goes : Goes now new) → TakesOne door1 door2 now new end → (wanted' ≡ false → (wanted ≡ false) × (end ≢ OutOfMemory))
     → (wanted' ≡ true → (wanted ≡ true) ⊎ (end ≡ OutOfMemory)) → (IsSome frame → IsSome frame' × (end ≢ OutOfMemory)) → (end ≢ OutOfMemory → IsSome frame')
     → SoFar old new door door2 (count + 1) wanted' frame' (owns ++ goes.own ∷ [])
-one_more old now new door door1 door2 count wanted wanted' frame frame' end owns all s goes one wants some stays was =
-    let run : PlaceRun new.conf new.opening old.history s.takens s.backs s.ends owns now.history
-    = subst (λ (c : Description). PlaceRun c new.opening old.history s.takens s.backs s.ends owns now.history) (sym goes.conf)
-    (subst (λ (l : LeafTiles). PlaceRun now.conf l old.history s.takens s.backs s.ends owns now.history) (sym goes.opening) s.run) in
+one_more old now new door door1 door2 count wanted wanted' frame frame' end owns all s goes one memory_faults some stays was =
+    let run : PlaceRun new.conf new.opening old.history s.opened s.closed s.ends owns now.history
+    = subst (λ (c : Description). PlaceRun c new.opening old.history s.opened s.closed s.ends owns now.history) (sym goes.conf)
+    (subst (λ (l : LeafTiles). PlaceRun now.conf l old.history s.opened s.closed s.ends owns now.history) (sym goes.opening) s.run) in
     record {
-      takens = s.takens ++ one.taken ∷ [];
-      backs = s.backs ++ one.back ∷ [];
+      opened = s.opened ++ one.taken ∷ [];
+      closed = s.closed ++ one.back ∷ [];
       ends = s.ends ++ end ∷ [];
-      run = place_push new.conf new.opening old.history s.takens s.backs s.ends owns now.history new.history one.taken one.back end goes.own run one.same (one.served goes.own goes.own_is);
-      handed = hands_push door door1 one.mid door2 s.takens s.backs one.taken one.back all (s.count_is ∙ sym s.backs_are) s.handed one.takes one.returned;
-      count_is = length-append s.takens (one.taken ∷ []) ∙ ap (λ n. n + 1) s.count_is;
-      backs_are = length-append s.backs (one.back ∷ []) ∙ ap (λ n. n + 1) s.backs_are;
+      run = place_push new.conf new.opening old.history s.opened s.closed s.ends owns now.history new.history one.taken one.back end goes.own run one.same (one.served goes.own goes.own_is);
+      handed = hands_push door door1 one.mid door2 s.opened s.closed one.taken one.back all (s.count_is ∙ sym s.backs_are) s.handed one.takes one.returned;
+      count_is = length-append s.opened (one.taken ∷ []) ∙ ap (λ n. n + 1) s.count_is;
+      backs_are = length-append s.closed (one.back ∷ []) ∙ ap (λ n. n + 1) s.backs_are;
       framed = framed_push frame frame' s.ends end s.framed stays was;
-      none_wanted = λ is. All-push (λ end. end ≢ OutOfMemory) s.ends end (s.none_wanted (wants is).0) (wants is).1;
+      none_wanted = λ is. All-push (λ end. end ≢ OutOfMemory) s.ends end (s.none_wanted (memory_faults is).0) (memory_faults is).1;
       some_wanted = λ is. elim (some is) [
         | inl before ↦ Contains-append_left s.ends (end ∷ []) OutOfMemory (s.some_wanted before)
         | inr here ↦ Contains-append_right s.ends (end ∷ []) OutOfMemory (0, omega arith, here)
@@ -229,51 +229,51 @@ abbrev end_of : Bool → PlaceEnd
 end_of wanted = if wanted then placed.OutOfMemory else Done
 
 -- no accept was refused
-pub ends_sound : (door door' : DoorContent) (wanted : Bool) (end : PlaceEnd) → end ≡ end_of wanted → door'.faults ≡ door.faults → door'.wants ≡ door.wants → EndsBy door door' end
-ends_sound door door' wanted end is faults wants = subst (λ (e : PlaceEnd). EndsBy door door' e) (sym is) (so wanted)
+pub ends_sound : (door door' : DoorContent) (wanted : Bool) (end : PlaceEnd) → end ≡ end_of wanted → door'.faults ≡ door.faults → door'.memory_faults ≡ door.memory_faults → EndsBy door door' end
+ends_sound door door' wanted end is faults memory_faults = subst (λ (e : PlaceEnd). EndsBy door door' e) (sym is) (so wanted)
   where
     so : (wanted : Bool) → EndsBy door door' (end_of wanted)
-    so false = (faults, wants)
-    so true = (faults, inr wants)
+    so false = (faults, memory_faults)
+    so true = (faults, inr memory_faults)
 
 -- one was
 pub ends_refused : (door door' : DoorContent) (why : DoorFault) (end : PlaceEnd) → (why ≡ fault.Failed → end ≡ Failed) → (why ≡ fault.OutOfMemory → end ≡ placed.OutOfMemory)
-    → (why ≡ fault.Failed → Rises door.faults door'.faults × (door'.wants ≡ door.wants)) → (why ≡ fault.OutOfMemory → Rises door.wants door'.wants × (door'.faults ≡ door.faults))
+    → (why ≡ fault.Failed → Rises door.faults door'.faults × (door'.memory_faults ≡ door.memory_faults)) → (why ≡ fault.OutOfMemory → Rises door.memory_faults door'.memory_faults × (door'.faults ≡ door.faults))
     → EndsBy door door' end
-ends_refused door door' fault.Failed end failed wanted rises wants = subst (λ (e : PlaceEnd). EndsBy door door' e) (sym (failed refl)) (rises refl)
-ends_refused door door' fault.OutOfMemory end failed wanted rises wants =
-    subst (λ (e : PlaceEnd). EndsBy door door' e) (sym (wanted refl)) ((wants refl).1, inl (wants refl).0)
+ends_refused door door' fault.Failed end failed wanted rises memory_faults = subst (λ (e : PlaceEnd). EndsBy door door' e) (sym (failed refl)) (rises refl)
+ends_refused door door' fault.OutOfMemory end failed wanted rises memory_faults =
+    subst (λ (e : PlaceEnd). EndsBy door door' e) (sym (wanted refl)) ((memory_faults refl).1, inl (memory_faults refl).0)
 
 module _ (old now new : BoardContent) (door door' : DoorContent) (now_told : Option Connections) (count most : ℕ) (wanted : Bool) (frame : Option FrameState) (end : PlaceEnd) (owns : List (List ℕ))
     (s : SoFar old now door.connections now_told count wanted frame owns) (board_is : new ≡ now) (door_is : door'.connections ≡ now_told) (few : count ≤ most) where
-  place_of : EndsAfter door door' most s.takens s.ends end → IsPlace old new door door' most end owns
+  place_of : EndsAfter door door' most s.opened s.ends end → IsPlace old new door door' most end owns
   place_of ended = record {
-    takens = s.takens;
-    backs = s.backs;
+    opened = s.opened;
+    closed = s.closed;
     ends = s.ends;
-    run = subst (λ (b : BoardContent). PlaceRun b.conf b.opening old.history s.takens s.backs s.ends owns b.history) (sym board_is) s.run;
-    handed = subst (λ (told : Option Connections). HandsOut door.connections s.takens s.backs told) (sym door_is) s.handed;
+    run = subst (λ (b : BoardContent). PlaceRun b.conf b.opening old.history s.opened s.closed s.ends owns b.history) (sym board_is) s.run;
+    handed = subst (λ (told : Option Connections). OpenedAndClosed door.connections s.opened s.closed told) (sym door_is) s.handed;
     few = (let same = s.count_is in omega (arith, same, few));
     ended = ended;
-    wants_first = framed_first frame s.ends s.framed;
+    memory_first = framed_first frame s.ends s.framed;
   }
 
   -- it took all
   pub place_took : end ≡ end_of wanted → (count ≡ most) ⊎ NoneWaits door'.connections → IsPlace old new door door' most end owns
   place_took is all =
-      let took : TookAll most s.takens door' = elim all [ inl whole ↦ inl (s.count_is ∙ whole) | inr waits ↦ inr waits ] in
-      place_of (subst (λ (e : PlaceEnd). EndsAfter door door' most s.takens s.ends e) (sym is) (after wanted took s.none_wanted s.some_wanted))
+      let took : TookAll most s.opened door' = elim all [ inl whole ↦ inl (s.count_is ∙ whole) | inr waits ↦ inr waits ] in
+      place_of (subst (λ (e : PlaceEnd). EndsAfter door door' most s.opened s.ends e) (sym is) (after wanted took s.none_wanted s.some_wanted))
     where
-      after : (wanted : Bool) → TookAll most s.takens door' → (wanted ≡ false → All (λ end. end ≢ OutOfMemory) s.ends) → (wanted ≡ true → Contains s.ends OutOfMemory)
-          → EndsAfter door door' most s.takens s.ends (end_of wanted)
+      after : (wanted : Bool) → TookAll most s.opened door' → (wanted ≡ false → All (λ end. end ≢ OutOfMemory) s.ends) → (wanted ≡ true → Contains s.ends OutOfMemory)
+          → EndsAfter door door' most s.opened s.ends (end_of wanted)
       after false took none some = (took, none refl)
       after true took none some = inr (took, some refl)
 
   -- an accept was refused
-  pub place_refused : (why : DoorFault) → (why ≡ fault.Failed → end ≡ Failed) → (why ≡ fault.OutOfMemory → end ≡ placed.OutOfMemory) → (why ≡ fault.OutOfMemory → Rises door.wants door'.wants)
+  pub place_refused : (why : DoorFault) → (why ≡ fault.Failed → end ≡ Failed) → (why ≡ fault.OutOfMemory → end ≡ placed.OutOfMemory) → (why ≡ fault.OutOfMemory → Rises door.memory_faults door'.memory_faults)
       → IsPlace old new door door' most end owns
-  place_refused fault.Failed failed wants rises = place_of (subst (λ (e : PlaceEnd). EndsAfter door door' most s.takens s.ends e) (sym (failed refl)) tt)
-  place_refused fault.OutOfMemory failed wants rises = place_of (subst (λ (e : PlaceEnd). EndsAfter door door' most s.takens s.ends e) (sym (wants refl)) (inl (rises refl)))
+  place_refused fault.Failed failed memory_faults rises = place_of (subst (λ (e : PlaceEnd). EndsAfter door door' most s.opened s.ends e) (sym (failed refl)) tt)
+  place_refused fault.OutOfMemory failed memory_faults rises = place_of (subst (λ (e : PlaceEnd). EndsAfter door door' most s.opened s.ends e) (sym (memory_faults refl)) (inl (rises refl)))
 
 concat_push : (owns : List (List ℕ)) (own : List ℕ) → concat (owns ++ own ∷ []) ≡ concat owns ++ own
 concat_push [] own = append-nil own
@@ -324,6 +324,6 @@ pub record IsLoop (old now : BoardContent) (door door' : DoorContent) (steps ste
   pub owns : List (List ℕ)
   pub goes : PlaceGoes old now count owns
   pub no_faults : door'.faults ≡ door.faults
-  pub no_wants : door'.wants ≡ door.wants
+  pub no_wants : door'.memory_faults ≡ door.memory_faults
   pub steps_never_fall : steps ≤ steps'
   pub so_far : AllReturned door.connections → SoFar old now door.connections door'.connections count wanted frame owns

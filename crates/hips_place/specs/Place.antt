@@ -12,7 +12,7 @@ use Rattle.survey_core.specs.History.{SurveyState, opening_state, IsHistory, Beg
 use Rattle.shared_history.specs.Histories.{places_of}
 use Rattle.reader_pin.specs.Board.{BoardSeat, BoardContent, KeepsSeat}
 use Rattle.hips_http.specs.declared.served.SessionEnd.{SessionEnd}
-use Rattle.hips_http.specs.declared.served.SessionEnd.TheVariants.{OutOfMemory as WantOfMemory}
+use Rattle.hips_http.specs.declared.served.SessionEnd.TheVariants.{OutOfMemory as SessionOutOfMemory}
 use Rattle.hips_http.specs.SessionRun.{Flushes, SessionRun, most_requests}
 use Rattle.hips_place.specs.declared.place.PlaceEnd.{PlaceEnd}
 use Rattle.hips_place.specs.declared.place.PlaceEnd.TheVariants.{Done, Failed, OutOfMemory}
@@ -27,7 +27,7 @@ pub record IsSession (conf : Description) (opening : LeafTiles) (states : List S
   pub read : List ℕ
   pub rest : List ℕ
   pub out : List ℕ
-  pub wants : ℕ
+  pub memory_faults : ℕ
   pub input_is : input ≡ read ++ rest
   pub left_is : back.unread ≡ Some rest
   pub appended : Appends taken.written back.written out
@@ -44,7 +44,7 @@ pub record IsSession (conf : Description) (opening : LeafTiles) (states : List S
         sink_faults = taken.sink_faults;
         sink_faults_then = back.sink_faults;
       })
-      own states' end wants
+      own states' end memory_faults
 
 -- a connection as it was taken and as it was given back: the history goes on, and by a session where the source told its bytes
 pub record IsServedOnce (conf : Description) (opening : LeafTiles) (states : List SurveyState) (taken back : Connection) (states' : List SurveyState) (end : SessionEnd) (own : List ℕ) : Type 0 where
@@ -63,11 +63,11 @@ pub record HasSameEnds (taken back : Numbered) : Type 0 where
 -- each, lead one after another from the states seen before to those seen then
 abbrev pub PlaceRun : Description → LeafTiles → List SurveyState → List Numbered → List Numbered → List SessionEnd → List (List ℕ) → List SurveyState → Type 0
 PlaceRun conf opening states [] [] [] [] states' = states' ≡ states
-PlaceRun conf opening states (taken ∷ takens) (back ∷ backs) (end ∷ ends) (own ∷ owns) states' = (mid : List SurveyState)
+PlaceRun conf opening states (taken ∷ opened) (back ∷ closed) (end ∷ ends) (own ∷ owns) states' = (mid : List SurveyState)
     × HasSameEnds taken back
     × IsServedOnce conf opening states taken.told back.told mid end own
-    × PlaceRun conf opening mid takens backs ends owns states'
-PlaceRun conf opening states takens backs ends owns states' = ⊥
+    × PlaceRun conf opening mid opened closed ends owns states'
+PlaceRun conf opening states opened closed ends owns states' = ⊥
 
 -- all connections that were taken from a door were given back, where it tells them
 abbrev pub AllReturned : Option Connections → Type 0
@@ -75,57 +75,57 @@ AllReturned None = ⊤
 AllReturned (Some told) = length told.returned ≡ length told.taken
 
 -- the door has handed out these connections, each with a number of its own, and got them back like that, where it tells them
-abbrev pub HandsOut : Option Connections → List Numbered → List Numbered → Option Connections → Type 0
-HandsOut None takens backs new = ⊤
-HandsOut (Some old) takens backs None = ⊥
-HandsOut (Some old) takens backs (Some new) =
-    (old.waiting ≡ takens ++ new.waiting) × (new.taken ≡ old.taken ++ takens) × (new.returned ≡ old.returned ++ backs)
-    × AreNumbered (length old.taken) takens
+abbrev pub OpenedAndClosed : Option Connections → List Numbered → List Numbered → Option Connections → Type 0
+OpenedAndClosed None opened closed new = ⊤
+OpenedAndClosed (Some old) opened closed None = ⊥
+OpenedAndClosed (Some old) opened closed (Some new) =
+    (old.waiting ≡ opened ++ new.waiting) × (new.taken ≡ old.taken ++ opened) × (new.returned ≡ old.returned ++ closed)
+    × AreNumbered (length old.taken) opened
 
 -- a door at one moment: its connections, where it tells them, how often it has failed, and how often it had no memory to accept
 -- a connection
 pub record DoorContent : Type 0 where
   pub connections : Option Connections
   pub faults : ℕ
-  pub wants : ℕ
+  pub memory_faults : ℕ
 
 abbrev pub door_of : {D I O : Type 0} → DoorTells D I O → D → DoorContent
-door_of told door = record { connections = told.connections door; faults = told.faults door; wants = told.wants door }
+door_of told door = record { connections = told.connections door; faults = told.faults door; memory_faults = told.memory_faults door }
 
 -- what a place's end tells of its door's counts: `Failed` if and only if an accept failed, and `Done` only where none was refused
 abbrev pub EndsBy : DoorContent → DoorContent → PlaceEnd → Type 0
-EndsBy door door' Done = (door'.faults ≡ door.faults) × (door'.wants ≡ door.wants)
-EndsBy door door' Failed = Rises door.faults door'.faults × (door'.wants ≡ door.wants)
-EndsBy door door' OutOfMemory = (door'.faults ≡ door.faults) × (Rises door.wants door'.wants ⊎ (door'.wants ≡ door.wants))
+EndsBy door door' Done = (door'.faults ≡ door.faults) × (door'.memory_faults ≡ door.memory_faults)
+EndsBy door door' Failed = Rises door.faults door'.faults × (door'.memory_faults ≡ door.memory_faults)
+EndsBy door door' OutOfMemory = (door'.faults ≡ door.faults) × (Rises door.memory_faults door'.memory_faults ⊎ (door'.memory_faults ≡ door.memory_faults))
 
 -- as many connections were taken as were to be, or none is left
 abbrev pub TookAll : ℕ → List Numbered → DoorContent → Type 0
-TookAll most takens door' = (length takens ≡ most) ⊎ NoneWaits door'.connections
+TookAll most opened door' = (length opened ≡ most) ⊎ NoneWaits door'.connections
 
 -- what a place's end tells of its connections, whatever became of other places. Done: it took all, and no session ended for want
 -- of memory. Out of memory: an accept wanted it, or the place took all and a session ended so
 abbrev pub EndsAfter : DoorContent → DoorContent → ℕ → List Numbered → List SessionEnd → PlaceEnd → Type 0
-EndsAfter door door' most takens ends Done = TookAll most takens door' × All (λ end. end ≢ WantOfMemory) ends
-EndsAfter door door' most takens ends OutOfMemory = Rises door.wants door'.wants ⊎ (TookAll most takens door' × Contains ends WantOfMemory)
-EndsAfter door door' most takens ends Failed = ⊤
+EndsAfter door door' most opened ends Done = TookAll most opened door' × All (λ end. end ≢ SessionOutOfMemory) ends
+EndsAfter door door' most opened ends OutOfMemory = Rises door.memory_faults door'.memory_faults ⊎ (TookAll most opened door' × Contains ends SessionOutOfMemory)
+EndsAfter door door' most opened ends Failed = ⊤
 
 -- those that ran out of memory come before all others
-abbrev pub WantsFirst : List SessionEnd → Type 0
-WantsFirst [] = ⊤
-WantsFirst (WantOfMemory ∷ ends) = WantsFirst ends
-WantsFirst (end ∷ ends) = All (λ each. each ≢ WantOfMemory) ends
+abbrev pub OutOfMemoryFirst : List SessionEnd → Type 0
+OutOfMemoryFirst [] = ⊤
+OutOfMemoryFirst (SessionOutOfMemory ∷ ends) = OutOfMemoryFirst ends
+OutOfMemoryFirst (end ∷ ends) = All (λ each. each ≢ SessionOutOfMemory) ends
 
 -- what a place whose sessions had these events of their own did to its board and its door, of which it was to take so many
 -- connections
 pub record IsPlace (old new : BoardContent) (door door' : DoorContent) (most : ℕ) (end : PlaceEnd) (owns : List (List ℕ)) : Type 0 where
-  pub takens : List Numbered
-  pub backs : List Numbered
+  pub opened : List Numbered
+  pub closed : List Numbered
   pub ends : List SessionEnd
-  pub run : PlaceRun new.conf new.opening old.history takens backs ends owns new.history
-  pub handed : HandsOut door.connections takens backs door'.connections
-  pub few : length takens ≤ most
-  pub ended : EndsAfter door door' most takens ends end
-  pub wants_first : WantsFirst ends
+  pub run : PlaceRun new.conf new.opening old.history opened closed ends owns new.history
+  pub handed : OpenedAndClosed door.connections opened closed door'.connections
+  pub few : length opened ≤ most
+  pub ended : EndsAfter door door' most opened ends end
+  pub memory_first : OutOfMemoryFirst ends
 
 -- what is true of it, also where nothing is told: the history that its board sees goes on, by the events of its sessions and
 -- those of other boards, with no more of its own than so many connections may make
@@ -230,14 +230,14 @@ pub record DoorRun : Type 0 where
 -- a door: the connections that it handed out and got back lead from the survey's first state to those that its place had seen
 -- in the end
 pub record ServesDoor (conf : Description) (opening : LeafTiles) (most : ℕ) (served : DoorRun) : Type 0 where
-  pub takens : List Numbered
-  pub backs : List Numbered
+  pub opened : List Numbered
+  pub closed : List Numbered
   pub ends : List SessionEnd
-  pub run : PlaceRun conf opening (opening_state ∷ []) takens backs ends served.owns served.seen
-  pub handed : HandsOut served.door.connections takens backs served.door_then.connections
-  pub few : length takens ≤ most
-  pub ended : EndsAfter served.door served.door_then most takens ends served.end
-  pub wants_first : WantsFirst ends
+  pub run : PlaceRun conf opening (opening_state ∷ []) opened closed ends served.owns served.seen
+  pub handed : OpenedAndClosed served.door.connections opened closed served.door_then.connections
+  pub few : length opened ≤ most
+  pub ended : EndsAfter served.door served.door_then most opened ends served.end
+  pub memory_first : OutOfMemoryFirst ends
 
 -- the doors of a server, each by itself: a legal history of its own, and its run where it had got back all that it had handed
 -- out. All in all their places ended so

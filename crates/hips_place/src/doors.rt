@@ -63,7 +63,7 @@ where
     ensures kept { result ≡ Err NotOpened → doors.new ≡ doors.old }
     ensures failed { result ≡ Ok Failed → SomeRises (map D.faults doors.old) (map D.faults doors.new) }
     ensures sound { IfOk result (λ end. end ≢ Failed → map D.faults doors.new ≡ map D.faults doors.old) }
-    ensures done { result ≡ Ok Done → map D.wants doors.new ≡ map D.wants doors.old }
+    ensures done { result ≡ Ok Done → map D.memory_faults doors.new ≡ map D.memory_faults doors.old }
 {
     serve_named::<Brand, R, D, G>(rt, alloc, SurveyBook::new(), state, most, gate, doors)
 }
@@ -93,7 +93,7 @@ where
     ensures kept { result ≡ Err NotOpened → doors.new ≡ doors.old }
     ensures failed { result ≡ Ok Failed → SomeRises (map D.faults doors.old) (map D.faults doors.new) }
     ensures sound { IfOk result (λ end. end ≢ Failed → map D.faults doors.new ≡ map D.faults doors.old) }
-    ensures done { result ≡ Ok Done → map D.wants doors.new ≡ map D.wants doors.old }
+    ensures done { result ≡ Ok Done → map D.memory_faults doors.new ≡ map D.memory_faults doors.old }
 {
     match open_shared::<J, R>(rt, alloc, book, state, doors.len()) {
         Ok((survey, seats)) => {
@@ -130,7 +130,7 @@ where
     ensures kept { result ≡ Err NotOpened → doors.new ≡ doors.old }
     ensures failed { result ≡ Ok Failed → SomeRises (map D.faults doors.old) (map D.faults doors.new) }
     ensures sound { IfOk result (λ end. end ≢ Failed → map D.faults doors.new ≡ map D.faults doors.old) }
-    ensures done { result ≡ Ok Done → map D.wants doors.new ≡ map D.wants doors.old }
+    ensures done { result ≡ Ok Done → map D.memory_faults doors.new ≡ map D.memory_faults doors.old }
 {
     match boards_at(alloc, survey, seats) {
         Ok(mut boards) => {
@@ -166,7 +166,7 @@ where
     ensures opened { result ≢ Err NotOpened }
     ensures failed { result ≡ Ok Failed → SomeRises (map D.faults doors.old) (map D.faults doors.new) }
     ensures sound { IfOk result (λ end. end ≢ Failed → map D.faults doors.new ≡ map D.faults doors.old) }
-    ensures done { result ≡ Ok Done → map D.wants doors.new ≡ map D.wants doors.old }
+    ensures done { result ≡ Ok Done → map D.memory_faults doors.new ≡ map D.memory_faults doors.old }
 {
     places_are_own();
     each_is_one_seats();

@@ -208,9 +208,9 @@ fn serve_next<
     ensures frame_stays { IfOk result (λ next. IfSome next (λ end. IsSome frame.old → IsSome frame.new × (end ≢ SessionEnd.OutOfMemory))) }
     ensures frame_was { IfOk result (λ next. IfSome next (λ end. end ≢ SessionEnd.OutOfMemory → IsSome frame.new)) }
     ensures kept { OnErr result ((D.connections door.new ≡ D.connections door.old) × (B.content board.new ≡ B.content board.old)) }
-    ensures sound { OnOk result ((D.faults door.new ≡ D.faults door.old) × (D.wants door.new ≡ D.wants door.old)) }
-    ensures failed { IsErrOf result DoorFault.Failed → Rises (D.faults door.old) (D.faults door.new) × (D.wants door.new ≡ D.wants door.old) }
-    ensures wanted { IsErrOf result DoorFault.OutOfMemory → Rises (D.wants door.old) (D.wants door.new) × (D.faults door.new ≡ D.faults door.old) }
+    ensures sound { OnOk result ((D.faults door.new ≡ D.faults door.old) × (D.memory_faults door.new ≡ D.memory_faults door.old)) }
+    ensures failed { IsErrOf result DoorFault.Failed → Rises (D.faults door.old) (D.faults door.new) × (D.memory_faults door.new ≡ D.memory_faults door.old) }
+    ensures wanted { IsErrOf result DoorFault.OutOfMemory → Rises (D.memory_faults door.old) (D.memory_faults door.new) × (D.faults door.new ≡ D.faults door.old) }
     ensures steps_never_fall { steps.old ≤ steps.new }
 {
     // For the prover: what a board has seen is a history.
@@ -266,7 +266,7 @@ fn serve_connection<
     }) result }
     ensures goes { Goes (B.content board.old) (B.content board.new) }
     ensures faults { D.faults door.new ≡ D.faults door.old }
-    ensures wants { D.wants door.new ≡ D.wants door.old }
+    ensures memory_faults { D.memory_faults door.new ≡ D.memory_faults door.old }
     ensures frame_stays { IsSome frame.old → IsSome frame.new × (result ≢ SessionEnd.OutOfMemory) }
     ensures frame_was { result ≢ SessionEnd.OutOfMemory → IsSome frame.new }
     ensures steps_never_fall { steps.old ≤ steps.new }

@@ -6,12 +6,12 @@ use Rattle.std.specs.Io.KnownBytes.{Consumes}
 use Rattle.std.proofs.lemmas.List.{append-nil}
 use Rattle.std.proofs.lemmas.List.Folds.{concat-append}
 use Rattle.std.proofs.lemmas.Option.{none-some, same_Some}
-use Rattle.survey_link.specs.Link.{readings_after, told_count}
+use Rattle.survey_link.specs.Link.{readings_after, visible_count}
 use Rattle.http_frame.specs.Readings.{EachNeeded, ReadsWhile}
 
 -- ---- the number of readings
 
-told_is : (n m : ℕ) → told_count n ≡ Some m → m ≡ n
+told_is : (n m : ℕ) → visible_count n ≡ Some m → m ≡ n
 told_is n m = elim (nat_lt n (2 ^ 64 - 1)) as (λ b. (if b then Some n else None) ≡ Some m → m ≡ n) [
   | true ↦ λ e. sym (same_Some n m e)
   | false ↦ λ e. absurd (none-some m e)

@@ -4,12 +4,12 @@ use Rattle.std.specs.Prelude.{IfSome, nat_lt, if◌then◌else◌}
 use Rattle.std.specs.List.{concat}
 use Rattle.std.proofs.lemmas.List.{append-nil}
 use Rattle.std.proofs.lemmas.List.Folds.{concat-append}
-use Rattle.survey_link.specs.Link.{readings_after, told_count}
+use Rattle.survey_link.specs.Link.{readings_after, visible_count}
 use Rattle.http_frame.specs.Readings.{IsReading, EachNeeded, ReadsWhile}
 
 -- ---- the number of readings
 
-told_some : (n : ℕ) (P : ℕ → Type 0) → P n → IfSome (told_count n) P
+told_some : (n : ℕ) (P : ℕ → Type 0) → P n → IfSome (visible_count n) P
 told_some n P p = elim (nat_lt n (2 ^ 64 - 1)) as (λ b. IfSome (if b then Some n else None) P) [ true ↦ p | false ↦ tt ]
 
 counted_none : (a : Option ℕ) → IfSome a (λ n. IfSome a (λ m. m ≡ n + 0))

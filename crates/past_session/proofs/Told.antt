@@ -72,20 +72,20 @@ module _ (d : Description) (journal : JournalContent) (past : PastContent) (k : 
 
   pub refused_sends : (refusal : PastRefusal) (result : Result (Unit {0}) Halt) (sink sink' : SinkBytes) → TellsPastRefusal journal.batches k refusal → (refusal ≡ OutOfMemory → result ≡ Err halt.OutOfMemory)
       → OnOk result (Sends (refusal_text refusal) sink sink') → OnOk result (Sends (answer_text (kept_content d journal past) (read k path)) sink sink')
-  refused_sends refusal (Ok u) sink sink' tells wants sends = subst (λ t. Sends t sink sink') (refused_told refusal tells (λ is. wants_some u (wants is))) sends
-  refused_sends refusal (Err why) sink sink' tells wants sends = tt
+  refused_sends refusal (Ok u) sink sink' tells memory_faults sends = subst (λ t. Sends t sink sink') (refused_told refusal tells (λ is. wants_some u (memory_faults is))) sends
+  refused_sends refusal (Err why) sink sink' tells memory_faults sends = tt
 
   pub refused_fails : (refusal : PastRefusal) (result : Result (Unit {0}) Halt) (sink sink' : SinkBytes) → TellsPastRefusal journal.batches k refusal → (refusal ≡ OutOfMemory → result ≡ Err halt.OutOfMemory)
       → IfErr result (FailsToSend (refusal_text refusal) sink sink') → IfErr result (FailsToSend (answer_text (kept_content d journal past) (read k path)) sink sink')
-  refused_fails refusal (Ok u) sink sink' tells wants fails = tt
-  refused_fails refusal (Err halt.WriteFault) sink sink' tells wants fails = subst (λ t. FailsToSend t sink sink' halt.WriteFault) (refused_told refusal tells (λ is. wants_none (wants is))) fails
-  refused_fails refusal (Err halt.OutOfMemory) sink sink' tells wants fails = fails
+  refused_fails refusal (Ok u) sink sink' tells memory_faults fails = tt
+  refused_fails refusal (Err halt.WriteFault) sink sink' tells memory_faults fails = subst (λ t. FailsToSend t sink sink' halt.WriteFault) (refused_told refusal tells (λ is. wants_none (memory_faults is))) fails
+  refused_fails refusal (Err halt.OutOfMemory) sink sink' tells memory_faults fails = fails
 
   pub refused_then : (refusal : PastRefusal) (past' : PastContent) (result : Result (Unit {0}) Halt) → TellsPastRefusal journal.batches k refusal → (refusal ≡ OutOfMemory → result ≡ Err halt.OutOfMemory) → past' ≡ past
       → OnOk result (kept_content d journal past' ≡ session_after (kept_content d journal past) (read k path))
-  refused_then refusal past' (Ok u) tells wants same =
-      ap (kept_content d journal) same ∙ same_after d journal past k path (never refusal tells (λ is. wants_some u (wants is)))
-  refused_then refusal past' (Err why) tells wants same = tt
+  refused_then refusal past' (Ok u) tells memory_faults same =
+      ap (kept_content d journal) same ∙ same_after d journal past k path (never refusal tells (λ is. wants_some u (memory_faults is)))
+  refused_then refusal past' (Err why) tells memory_faults same = tt
 
   module _ (law : MoreTouchedIsMoreWork) (steps steps' : ℕ) (most : steps' ≤ steps + past_work past.conf past.opening past.opened (edits_of journal.batches) past.held k) where
     pub found_cost : Contains (ends journal.batches) k → steps' ≤ steps + answer_cost (kept_content d journal past) (read k path)

@@ -91,7 +91,7 @@ pub(crate) fn send_refusal<K: Sink>(
 ) -> Result<(), Halt>
     ensures sends { OnOk result (Sends (refusal_text refusal) (sink_bytes K.Sink sink.old) (sink_bytes K.Sink sink.new)) }
     ensures fails { IfErr result (FailsToSend (refusal_text refusal) (sink_bytes K.Sink sink.old) (sink_bytes K.Sink sink.new)) }
-    ensures wants { refusal ≡ PastRefusal.OutOfMemory → result ≡ Err Halt.OutOfMemory }
+    ensures memory_faults { refusal ≡ PastRefusal.OutOfMemory → result ≡ Err Halt.OutOfMemory }
     ensures failed { IsErrOf result Halt.WriteFault → Rises (K.faults sink.old) (K.faults sink.new) }
     ensures never_falls { K.faults sink.old ≤ K.faults sink.new }
 {

@@ -111,7 +111,7 @@ impl Door for OneDoor {
 
     ghost faults = { λ _. 0 };
 
-    ghost wants = { λ _. 0 };
+    ghost memory_faults = { λ _. 0 };
 
     fn accept(&mut self) -> Result<Option<(Client, Replies)>, DoorFault> {
         Ok(self.comes.take())

@@ -18,7 +18,7 @@ module _ (status : ℕ) (held held' handed handed' : Option (List ℕ)) (other :
   by_line : (own : ℕ) (line : List ℕ) → Says own line status held held' handed handed' → FlushesAll (record { held = held; flushed = handed }) (record { held = held'; flushed = handed' })
   by_line own line (inl said) = inl said.1.flushed
   by_line own line (inr (inl failed)) = absurd (other failed.0)
-  by_line own line (inr (inr wants)) = silent wants.1
+  by_line own line (inr (inr memory_faults)) = silent memory_faults.1
 
   -- what is said was flushed
   pub says_hands : (refusal : LoadRefusal) → SaysWhy refusal status held held' handed handed' → FlushesAll (record { held = held; flushed = handed }) (record { held = held'; flushed = handed' })

@@ -26,8 +26,8 @@ board_of survey = record { conf = survey.conf; opening = survey.leaves; history 
 -- a connection from the first state of the survey on, of which these are all states: each step from one to the next is an
 -- event of its own. So it is answered at the newest state each time
 abbrev pub RunsAlone : OpenedSurvey → Exchange → List SurveyState → SessionEnd → ℕ → Type 0
-RunsAlone survey exchange states end wants =
-    SessionRun survey.conf survey.leaves (opening_state ∷ []) exchange (range_with_len 1 (length states - 1)) states end wants
+RunsAlone survey exchange states end memory_faults =
+    SessionRun survey.conf survey.leaves (opening_state ∷ []) exchange (range_with_len 1 (length states - 1)) states end memory_faults
 
 -- ---- the status
 
@@ -66,8 +66,8 @@ pub record Serves (survey : OpenedSurvey) (input : List ℕ) (old new : Connecti
   pub told : IsTold input old new exchange
   pub states : List SurveyState
   pub end : SessionEnd
-  pub wants : ℕ
-  pub run : RunsAlone survey exchange states end wants
+  pub memory_faults : ℕ
+  pub run : RunsAlone survey exchange states end memory_faults
   pub ended : EndsWith end status exchange old new
 
 -- the files open as this survey, or as none by this refusal, where the proof can see them

@@ -113,7 +113,7 @@ where
     // For the prover: what a board has seen is a history.
     let _alone = board.last();
     match served.end {
-        SessionEnd::Closed if served.wants == 0 => Ok(()),
+        SessionEnd::Closed if served.memory_faults == 0 => Ok(()),
         _ => Err(AllocError),
     }
 }

@@ -11,13 +11,13 @@ abbrev pub Rises : ℕ → ℕ → Type 0
 Rises old new = next_count old ≤ new
 
 -- what a count that stands at the end of a u64 tells: the number, and nothing at the end
-abbrev pub told_count : ℕ → Option ℕ
-told_count n = if nat_lt n (2 ^ 64 - 1) then Some n else None
+abbrev pub visible_count : ℕ → Option ℕ
+visible_count n = if nat_lt n (2 ^ 64 - 1) then Some n else None
 
 -- the number of readings after so many more, where it was told: more by one for each
 abbrev pub readings_after : ℕ → Option ℕ → Option ℕ
 readings_after more None = None
-readings_after more (Some n) = told_count (n + more)
+readings_after more (Some n) = visible_count (n + more)
 
 -- known bytes stay at the front, and grow by some first ones of these
 abbrev pub AppendsPrefix : Option (List ℕ) → Option (List ℕ) → List ℕ → Type 0

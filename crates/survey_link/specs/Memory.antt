@@ -91,7 +91,7 @@ pub record DoorState : Type 0 where
   pub fails : List ℕ
   pub calls : ℕ
   pub faults : ℕ
-  pub wants : ℕ
+  pub memory_faults : ℕ
 
 -- what is told of a connection in memory
 abbrev pub connection_of : SourceState × SinkState → Numbered
@@ -137,8 +137,8 @@ abbrev pub after_failed_accept : DoorState → DoorState
 after_failed_accept door = record door { calls = next_count door.calls; faults = next_count door.faults }
 
 -- there was no memory for the next connection
-abbrev pub after_wanting : DoorState → DoorState
-after_wanting door = record door { wants = next_count door.wants }
+abbrev pub after_memory_fault : DoorState → DoorState
+after_memory_fault door = record door { memory_faults = next_count door.memory_faults }
 
 -- a connection was given back: it is kept where fewer were given back than handed out
 abbrev pub after_done : SourceState × SinkState → DoorState → DoorState

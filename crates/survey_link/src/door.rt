@@ -22,7 +22,7 @@ pub trait Door {
     ghost faults: { Self → ℕ };
 
     /// How often there was no memory to accept a connection. The count never falls.
-    ghost wants: { Self → ℕ };
+    ghost memory_faults: { Self → ℕ };
 
     /// The next connection; `None` if and only if none is left, where the proof can see that. Its ends have the same number, and no other
     /// connection of the door has it, where the proof can see the connections.
@@ -46,9 +46,9 @@ pub trait Door {
               };
             }))) }
         ensures kept { OnErr result (connections self.new ≡ connections self.old) }
-        ensures sound { OnOk result ((faults self.new ≡ faults self.old) × (wants self.new ≡ wants self.old)) }
-        ensures failed { IsErrOf result DoorFault.Failed → Rises (faults self.old) (faults self.new) × (wants self.new ≡ wants self.old) }
-        ensures wanted { IsErrOf result DoorFault.OutOfMemory → Rises (wants self.old) (wants self.new) × (faults self.new ≡ faults self.old) }
+        ensures sound { OnOk result ((faults self.new ≡ faults self.old) × (memory_faults self.new ≡ memory_faults self.old)) }
+        ensures failed { IsErrOf result DoorFault.Failed → Rises (faults self.old) (faults self.new) × (memory_faults self.new ≡ memory_faults self.old) }
+        ensures wanted { IsErrOf result DoorFault.OutOfMemory → Rises (memory_faults self.old) (memory_faults self.new) × (faults self.new ≡ faults self.old) }
         ensures never_falls { faults self.old ≤ faults self.new };
 
     /// How often the door has failed.
@@ -69,5 +69,5 @@ pub trait Door {
           };
         })) (connections self.old) }
         ensures faults { faults self.new ≡ faults self.old }
-        ensures wants { wants self.new ≡ wants self.old };
+        ensures memory_faults { memory_faults self.new ≡ memory_faults self.old };
 }

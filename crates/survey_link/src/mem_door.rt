@@ -1,7 +1,7 @@
 //! A door in memory that fails where the proof can see it to.
 ghost use Rattle.std.specs.Prelude.{◌≡◌, ◌≤◌, ◌↔◌, [], Some, Contains, length, slice_get, IfOk, IsErrOf, MatchOption, option_copied, option_map};
 ghost use Rattle.survey_link.specs.Door.{Takes, NoneWaits, given_back};
-ghost use Rattle.survey_link.specs.Memory.{connection_of, connections_of, numbered, after_accept, after_none, after_failed_accept, after_wanting, after_done};
+ghost use Rattle.survey_link.specs.Memory.{connection_of, connections_of, numbered, after_accept, after_none, after_failed_accept, after_memory_fault, after_done};
 
 use crate::calls::Calls;
 use crate::door::Door;
@@ -20,7 +20,7 @@ pub struct MemDoor {
     returned: Vec<(MemSource, MemSink)>,
     calls: Calls,
     // How many accepts found no memory.
-    wants: u64,
+    memory_faults: u64,
 }
 
 impl Model for MemDoor {
@@ -36,7 +36,7 @@ impl Model for MemDoor {
       fails = a.calls.fails.items;
       calls = a.calls.made;
       faults = a.calls.faults;
-      wants = a.wants;
+      memory_faults = a.memory_faults;
     } };
 
     ghost invariant = { λ a. (a.next ≤ length a.connections.items) × (vec_len a.returned ≤ a.next) × (length a.connections.items ≤ vec_capacity a.returned) };
@@ -61,7 +61,7 @@ impl MemDoor {
           fails = fails.items;
           calls = 0;
           faults = 0;
-          wants = 0;
+          memory_faults = 0;
         }) }
     {
         let returned = Vec::with_capacity(alloc, connections.len())?;
@@ -71,7 +71,7 @@ impl MemDoor {
             next: 0,
             returned,
             calls: Calls::new(fails),
-            wants: 0,
+            memory_faults: 0,
         })
     }
 
@@ -92,7 +92,7 @@ impl Door for MemDoor {
 
     ghost faults = { λ s. s.faults };
 
-    ghost wants = { λ s. s.wants };
+    ghost memory_faults = { λ s. s.memory_faults };
 
     fn accept(&mut self) -> Result<Option<(MemSource, MemSink)>, DoorFault>
         ensures fails { IsErrOf result DoorFault.Failed ↔ Contains self.old.fails self.old.calls }
@@ -102,7 +102,7 @@ impl Door for MemDoor {
             (NoneWaits (Some (connections_of self.old)) × (Some (connections_of self.new) ≡ Some (connections_of self.old)))
             (λ ends. Takes (Some (connections_of self.old)) (Some (connections_of self.new)) (connection_of ends))) }
         ensures refused { IsErrOf result DoorFault.Failed → self.new ≡ after_failed_accept self.old }
-        ensures out_of_memory { IsErrOf result DoorFault.OutOfMemory → self.new ≡ after_wanting self.old }
+        ensures out_of_memory { IsErrOf result DoorFault.OutOfMemory → self.new ≡ after_memory_fault self.old }
         ensures never_falls { self.old.faults ≤ self.new.faults }
     {
         if self.calls.fails_next() {
@@ -121,7 +121,7 @@ impl Door for MemDoor {
                     Ok(Some(numbered))
                 }
                 Err(_) => {
-                    self.wants = self.wants.saturating_add(1);
+                    self.memory_faults = self.memory_faults.saturating_add(1);
                     Err(DoorFault::OutOfMemory)
                 }
             },

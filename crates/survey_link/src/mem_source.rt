@@ -1,7 +1,7 @@
 //! A source in memory that fails where the proof can see it to.
 ghost use Rattle.std.specs.Prelude.{◌≡◌, ◌<◌, ◌≤◌, ◌↔◌, None, Some, Contains, length, take, IfOk, OnErr, IsErr};
 ghost use Rattle.std.specs.Io.KnownBytes.{Consumes, IsAtEnd};
-ghost use Rattle.survey_link.specs.Link.{told_count, readings_after};
+ghost use Rattle.survey_link.specs.Link.{visible_count, readings_after};
 ghost use Rattle.survey_link.specs.Memory.{piece_of, after_read, after_failed_read};
 
 use crate::calls::Calls;
@@ -80,7 +80,7 @@ impl MemSource {
 impl Source for MemSource {
     ghost left = { λ s. Some s.unread };
 
-    ghost readings = { λ s. told_count s.calls };
+    ghost readings = { λ s. visible_count s.calls };
 
     ghost faults = { λ s. s.faults };
 
@@ -95,7 +95,7 @@ impl Source for MemSource {
         ensures count { IfOk result (λ m. m ≤ length buf.old) }
         ensures taken { IfOk result (λ m. Consumes (Some self.old.unread) (Some self.new.unread) (take m buf.new)) }
         ensures end { result ≡ Ok 0 → IsAtEnd (Some self.new.unread) }
-        ensures counted { told_count self.new.calls ≡ readings_after 1 (told_count self.old.calls) }
+        ensures counted { visible_count self.new.calls ≡ readings_after 1 (visible_count self.old.calls) }
         ensures never_falls { self.old.faults ≤ self.new.faults }
     {
         if self.calls.fails_next() {

@@ -1,7 +1,7 @@
 //! A source in memory that never fails.
 ghost use Rattle.std.specs.Prelude.{◌≡◌, ◌<◌, ◌≤◌, None, Some, length, take, min, IfOk, IsOk};
 ghost use Rattle.std.specs.Io.KnownBytes.{Consumes};
-ghost use Rattle.survey_link.specs.Link.{told_count, readings_after};
+ghost use Rattle.survey_link.specs.Link.{visible_count, readings_after};
 ghost use Rattle.survey_link.specs.Memory.{after_sure_read};
 
 use crate::faults::Failed;
@@ -43,7 +43,7 @@ impl SureSource {
 impl Source for SureSource {
     ghost left = { λ s. Some s.unread };
 
-    ghost readings = { λ s. told_count s.calls };
+    ghost readings = { λ s. visible_count s.calls };
 
     ghost faults = { λ _. 0 };
 
@@ -56,7 +56,7 @@ impl Source for SureSource {
         ensures given { IfOk result (λ m. self.new ≡ after_sure_read m self.old) }
         ensures count { IfOk result (λ m. m ≤ length buf.old) }
         ensures taken { IfOk result (λ m. Consumes (Some self.old.unread) (Some self.new.unread) (take m buf.new)) }
-        ensures counted { told_count self.new.calls ≡ readings_after 1 (told_count self.old.calls) }
+        ensures counted { visible_count self.new.calls ≡ readings_after 1 (visible_count self.old.calls) }
     {
         self.calls = self.calls.saturating_add(1);
         let rest = &self.bytes[self.at..];

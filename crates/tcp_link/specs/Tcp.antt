@@ -10,7 +10,7 @@ use Rattle.tcp_link.specs.declared.refusal.Refusal.TheVariants.{Listen, Accept, 
 -- last refused
 pub record DoorState : Type 0 where
   pub faults : ℕ
-  pub wants : ℕ
+  pub memory_faults : ℕ
   pub refusal : Option Refusal
 
 -- an error after which the call is made again: the system interrupted it, or the client that it was for has gone
@@ -20,9 +20,9 @@ passes ConnectionAborted = true
 passes _ = false
 
 -- an error that tells want of memory, the program's own or the system's
-abbrev pub is_want : ErrorKind → Bool
-is_want OutOfMemory = true
-is_want _ = false
+abbrev pub is_out_of_memory : ErrorKind → Bool
+is_out_of_memory OutOfMemory = true
+is_out_of_memory _ = false
 
 -- a refusal that stops an accept: not that of one which passes
 abbrev pub Lasts : Refusal → Type 0
@@ -30,20 +30,20 @@ Lasts (Accept error) = passes (error_kind error) ≡ false
 Lasts _ = ⊤
 
 -- a refusal for want of memory
-abbrev pub tells_want : Refusal → Bool
-tells_want (Listen error) = is_want (error_kind error)
-tells_want (Accept error) = is_want (error_kind error)
-tells_want (Split error) = is_want (error_kind error)
+abbrev pub says_out_of_memory : Refusal → Bool
+says_out_of_memory (Listen error) = is_out_of_memory (error_kind error)
+says_out_of_memory (Accept error) = is_out_of_memory (error_kind error)
+says_out_of_memory (Split error) = is_out_of_memory (error_kind error)
 
 -- a refusal for which an accept fails: one that stops it, and not for want of memory
 abbrev pub FailsAccept : Option Refusal → Type 0
 FailsAccept None = ⊥
-FailsAccept (Some refusal) = Lasts refusal × (tells_want refusal ≡ false)
+FailsAccept (Some refusal) = Lasts refusal × (says_out_of_memory refusal ≡ false)
 
 -- a refusal for which an accept finds no memory
-abbrev pub WantsMemory : Option Refusal → Type 0
-WantsMemory None = ⊥
-WantsMemory (Some refusal) = tells_want refusal ≡ true
+abbrev pub RunsOutOfMemory : Option Refusal → Type 0
+RunsOutOfMemory None = ⊥
+RunsOutOfMemory (Some refusal) = says_out_of_memory refusal ≡ true
 
 -- a refusal to listen
 abbrev pub StopsListening : Option Refusal → Type 0

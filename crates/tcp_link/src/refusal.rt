@@ -1,6 +1,6 @@
 //! What a door was refused.
 ghost use Rattle.std.specs.Prelude.{◌≡◌};
-ghost use Rattle.tcp_link.specs.Tcp.{is_want, tells_want};
+ghost use Rattle.tcp_link.specs.Tcp.{is_out_of_memory, says_out_of_memory};
 
 use std::io::ErrorKind;
 use std::{fmt, io};
@@ -18,19 +18,19 @@ pub enum Refusal {
 
 impl Refusal {
     /// Whether it is for want of memory, the program's own or the system's.
-    pub(crate) fn tells_want(&self) -> bool
-        ensures { result ≡ tells_want self.now }
+    pub(crate) fn says_out_of_memory(&self) -> bool
+        ensures { result ≡ says_out_of_memory self.now }
     {
         match self {
             Refusal::Listen(error) | Refusal::Accept(error) | Refusal::Split(error) => {
-                is_want(error.kind())
+                is_out_of_memory(error.kind())
             }
         }
     }
 }
 
-fn is_want(kind: ErrorKind) -> bool
-    ensures { result ≡ is_want kind }
+fn is_out_of_memory(kind: ErrorKind) -> bool
+    ensures { result ≡ is_out_of_memory kind }
 {
     matches!(kind, ErrorKind::OutOfMemory)
 }

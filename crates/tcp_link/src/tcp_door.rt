@@ -1,7 +1,7 @@
 //! The doors of an address.
 ghost use Rattle.std.specs.Prelude.{◌≡◌, ◌≤◌, None, Some, replicate, IfOk, IfErr, IfSome, IsSome, IsErrOf, OnOk, OnErr};
 ghost use Rattle.survey_link.specs.Link.{next_count};
-ghost use Rattle.tcp_link.specs.Tcp.{Lasts, FailsAccept, WantsMemory, StopsListening, tells_want};
+ghost use Rattle.tcp_link.specs.Tcp.{Lasts, FailsAccept, RunsOutOfMemory, StopsListening, says_out_of_memory};
 
 use crate::connection::Connection;
 use crate::listening::Listening;
@@ -40,7 +40,7 @@ pub struct TcpDoor<R, N> {
     taken: u64,
     faults: u64,
     // How many accepts found no memory.
-    wants: u64,
+    memory_faults: u64,
     refusal: Option<Refusal>,
 }
 
@@ -49,7 +49,7 @@ impl<R, N> Model for TcpDoor<R, N> {
 
     ghost Value = { DoorState };
 
-    ghost view = { λ a. record { faults = a.faults; wants = a.wants; refusal = a.refusal } };
+    ghost view = { λ a. record { faults = a.faults; memory_faults = a.memory_faults; refusal = a.refusal } };
 }
 
 /// So many doors of an address: an IP address or a host's name with `:` and a port, or the path of a Unix socket, with a `/`.
@@ -69,7 +69,7 @@ pub fn tcp_doors<R, N>(
 where
     R: AllocGlobal + Clone + Drop,
     N: Clone + Drop,
-    ensures { IfOk result (λ doors. doors.items ≡ replicate count (record { faults = 0; wants = 0; refusal = None })) }
+    ensures { IfOk result (λ doors. doors.items ≡ replicate count (record { faults = 0; memory_faults = 0; refusal = None })) }
 {
     patient_doors(rt, net, address, count, Patience::usual())
 }
@@ -89,7 +89,7 @@ pub fn patient_doors<R, N>(
 where
     R: AllocGlobal + Clone + Drop,
     N: Clone + Drop,
-    ensures { IfOk result (λ doors. doors.items ≡ replicate count (record { faults = 0; wants = 0; refusal = None })) }
+    ensures { IfOk result (λ doors. doors.items ≡ replicate count (record { faults = 0; memory_faults = 0; refusal = None })) }
 {
     let alloc = rt.alloc();
     let listening = Arc::new(alloc, Listening::new(String::from_str(alloc, address)?))?;
@@ -103,7 +103,7 @@ where
             place: at + 1,
             taken: 0,
             faults: 0,
-            wants: 0,
+            memory_faults: 0,
             refusal: None,
         })?;
     }
@@ -132,9 +132,9 @@ impl<R, N> TcpDoor<R, N> {
     // Counts what is answered as `OutOfMemory`.
     fn want(&mut self, refusal: Refusal) -> DoorFault
         ensures fault { result ≡ DoorFault.OutOfMemory }
-        ensures counted { self.new ≡ record self.old { wants = next_count self.old.wants; refusal = Some refusal } }
+        ensures counted { self.new ≡ record self.old { memory_faults = next_count self.old.memory_faults; refusal = Some refusal } }
     {
-        self.wants = self.wants.saturating_add(1);
+        self.memory_faults = self.memory_faults.saturating_add(1);
         self.refusal = Some(refusal);
         DoorFault::OutOfMemory
     }
@@ -153,7 +153,7 @@ where
     /// `DoorFault::Failed` only where the count of faults rose.
     pub fn listen(&mut self) -> Result<Option<SocketAddr>, DoorFault>
         ensures sound { OnOk result (self.new ≡ self.old) }
-        ensures failed { OnErr result ((self.new.faults ≡ next_count self.old.faults) × (self.new.wants ≡ self.old.wants)) }
+        ensures failed { OnErr result ((self.new.faults ≡ next_count self.old.faults) × (self.new.memory_faults ≡ self.old.memory_faults)) }
         ensures only { IfErr result (λ fault. fault ≡ DoorFault.Failed) }
         ensures cause { OnErr result (StopsListening self.new.refusal) }
     {
@@ -229,16 +229,16 @@ where
 
     ghost faults = { λ door. door.faults };
 
-    ghost wants = { λ door. door.wants };
+    ghost memory_faults = { λ door. door.memory_faults };
 
     // A real door has no last connection.
     fn accept(&mut self) -> Result<Option<(TcpIn<R>, TcpOut<R>)>, DoorFault>
         ensures comes { IfOk result (λ next. IfSome next (λ halves. (halves.0 ≡ 0) × (halves.1 ≡ 0)) × IsSome next) }
         ensures sound { OnOk result (self.new ≡ self.old) }
-        ensures failed { IsErrOf result DoorFault.Failed → (self.new.faults ≡ next_count self.old.faults) × (self.new.wants ≡ self.old.wants) }
+        ensures failed { IsErrOf result DoorFault.Failed → (self.new.faults ≡ next_count self.old.faults) × (self.new.memory_faults ≡ self.old.memory_faults) }
         ensures cause { IsErrOf result DoorFault.Failed → FailsAccept self.new.refusal }
-        ensures wanted { IsErrOf result DoorFault.OutOfMemory → (self.new.wants ≡ next_count self.old.wants) × (self.new.faults ≡ self.old.faults) }
-        ensures want_cause { IsErrOf result DoorFault.OutOfMemory → WantsMemory self.new.refusal }
+        ensures wanted { IsErrOf result DoorFault.OutOfMemory → (self.new.memory_faults ≡ next_count self.old.memory_faults) × (self.new.faults ≡ self.old.faults) }
+        ensures want_cause { IsErrOf result DoorFault.OutOfMemory → RunsOutOfMemory self.new.refusal }
         ensures never_falls { self.old.faults ≤ self.new.faults }
     {
         match self.next() {
@@ -247,7 +247,7 @@ where
                 Ok(Some(halves))
             }
             Err(refusal) => {
-                if refusal.tells_want() {
+                if refusal.says_out_of_memory() {
                     Err(self.want(refusal))
                 } else {
                     Err(self.fail(refusal))

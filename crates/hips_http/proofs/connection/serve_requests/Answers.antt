@@ -14,7 +14,7 @@ loop-count-init g c =
     let connection = c.args.connection.now in
     let r = c.requires in (
       record { frame = refl; board = refl; src = refl; sink = refl; steps = refl },
-      begins_loop c.args.top (moment_of g.S.Source g.K.Sink g.B.Board.content connection) r.released r.legal r.owned r.wants r.empty r.turn r.room r.top,
+      begins_loop c.args.top (moment_of g.S.Source g.K.Sink g.B.Board.content connection) r.released r.legal r.owned r.memory_faults r.empty r.turn r.room r.top,
       λ _. has_read_none g.S.Source.left g.S.Source.readings connection.frame.now.room connection.frame.now.held connection.src.now r.empty,
     )
 

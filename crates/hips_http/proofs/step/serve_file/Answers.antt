@@ -23,7 +23,7 @@ returns-in-Err-clause-serves g c =
         write_fault = λ is. let wrote : c.body_end.result ≡ WriteFault = cc in absurd (body_reads c.in-Err.stop (sym ended ∙ wrote));
         memory = c.body_end.ensures.memory;
       };
-      never_falls = record { source = e.never_falls; sink = omega arith; steps = omega arith; wants = omega arith; room = e.room };
+      never_falls = record { source = e.never_falls; sink = omega arith; steps = omega arith; memory_faults = omega arith; room = e.room };
     }
 
 pub returns-in-Ok-send_path-clause-serves : goal.returns-in-Ok-send_path-clause-serves
@@ -37,13 +37,13 @@ returns-in-Ok-send_path-clause-serves g c =
     let answer = file_answer state.conf state.opening (survey_state state) told in
     let serves = shown_serves (record { asked = c.args.due.now.request; path = connection.frame.now.path; body = t.0 }) c.args.file.now told path connection.steps.now
     (g.B.Board.content connection.board.now) (g.B.Board.content c.look.new.board) state c.last-legal.ensures.legal c.last-legal.ensures.owned c.look.ensures c.shown-state.ensures in
-    let wants = sym (wants_found connection.wants answer (file_found state.conf state.opening (survey_state state) told)) in
+    let memory_faults = sym (wants_found connection.memory_faults answer (file_found state.conf state.opening (survey_state state) told)) in
     record {
-      ok = (answer, record { body = t.0; takes = t.1; serves = serves; wants_is = wants }, e.sends.whole);
+      ok = (answer, record { body = t.0; takes = t.1; serves = serves; memory_faults_is = memory_faults }, e.sends.whole);
       broken = λ is. absurd (cc);
       halted = tt;
       hands = record { flushed = e.hands.flushed; stays = tt; unwritten = tt; write_fault = λ is. absurd (cc); memory = tt };
-      never_falls = record { source = c.in-Ok.ensures.never_falls; sink = e.hands.never_falls; steps = omega arith; wants = omega arith; room = c.in-Ok.ensures.room };
+      never_falls = record { source = c.in-Ok.ensures.never_falls; sink = e.hands.never_falls; steps = omega arith; memory_faults = omega arith; room = c.in-Ok.ensures.room };
     }
 
 pub returns-in-Err-send_path-clause-serves : goal.returns-in-Err-send_path-clause-serves
@@ -57,11 +57,11 @@ returns-in-Err-send_path-clause-serves g c =
     let answer = file_answer state.conf state.opening (survey_state state) told in
     let serves = shown_serves (record { asked = c.args.due.now.request; path = connection.frame.now.path; body = t.0 }) c.args.file.now told path connection.steps.now
     (g.B.Board.content connection.board.now) (g.B.Board.content c.look.new.board) state c.last-legal.ensures.legal c.last-legal.ensures.owned c.look.ensures c.shown-state.ensures in
-    let wants = sym (wants_found connection.wants answer (file_found state.conf state.opening (survey_state state) told)) in
+    let memory_faults = sym (wants_found connection.memory_faults answer (file_found state.conf state.opening (survey_state state) told)) in
     record {
       ok = tt;
-      broken = λ _. (answer, record { body = t.0; takes = t.1; serves = serves; wants_is = wants }, e.sends.part);
+      broken = λ _. (answer, record { body = t.0; takes = t.1; serves = serves; memory_faults_is = memory_faults }, e.sends.part);
       halted = λ other. absurd (other refl);
       hands = record { flushed = tt; stays = e.hands.stays; unwritten = λ other. absurd (other refl); write_fault = λ _. e.hands.failed; memory = λ is. cc };
-      never_falls = record { source = c.in-Ok.ensures.never_falls; sink = e.hands.never_falls; steps = omega arith; wants = omega arith; room = c.in-Ok.ensures.room };
+      never_falls = record { source = c.in-Ok.ensures.never_falls; sink = e.hands.never_falls; steps = omega arith; memory_faults = omega arith; room = c.in-Ok.ensures.room };
     }

@@ -31,7 +31,7 @@ returns-in-Err-clause-serves g c =
         write_fault = λ is. let ended : c.end_at.result ≡ WriteFault = cc in e.failed ended;
         memory = e.memory;
       };
-      never_falls = record { source = c.in-Err.ensures.never_falls; sink = e.never_falls; steps = omega arith; wants = omega arith; room = c.in-Err.ensures.room };
+      never_falls = record { source = c.in-Err.ensures.never_falls; sink = e.never_falls; steps = omega arith; memory_faults = omega arith; room = c.in-Err.ensures.room };
     }
 
 pub returns-in-Err-grant-clause-serves : goal.returns-in-Err-grant-clause-serves
@@ -47,7 +47,7 @@ returns-in-Err-grant-clause-serves g c =
       turn = tt;
       hands = record { flushed = tt; flushes = λ other. absurd (other refl); breaks = λ _. ([], inr (e.stays, refl)) };
       faults = record { read_fault = λ is. absurd (cc); write_fault = λ _. e.failed; memory = λ is. cc };
-      never_falls = record { source = c.in-Ok.ensures.never_falls; sink = e.never_falls; steps = omega arith; wants = omega arith; room = c.in-Ok.ensures.room };
+      never_falls = record { source = c.in-Ok.ensures.never_falls; sink = e.never_falls; steps = omega arith; memory_faults = omega arith; room = c.in-Ok.ensures.room };
     }
 
 pub returns-in-Ok-serve_file-clause-serves : goal.returns-in-Ok-serve_file-clause-serves

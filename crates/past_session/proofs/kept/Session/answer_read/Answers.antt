@@ -30,17 +30,17 @@ returns-in-Ok-clause-steps g c =
 pub returns-in-Err-clause-sends : goal.returns-in-Err-clause-sends
 returns-in-Err-clause-sends g c =
     let inside = c.self.inside in
-    rw (sym c.self.view_is) (refused_sends (arc_value inside.conf) inside.journal inside.past c.args.k c.args.path.now c.self.invariant c.in-Err.refusal c.send_refusal.result (sink_bytes g.K.Sink c.args.sink.now) (sink_bytes g.K.Sink c.send_refusal.new.sink) c.in-Err.ensures.refused c.send_refusal.ensures.wants c.send_refusal.ensures.sends)
+    rw (sym c.self.view_is) (refused_sends (arc_value inside.conf) inside.journal inside.past c.args.k c.args.path.now c.self.invariant c.in-Err.refusal c.send_refusal.result (sink_bytes g.K.Sink c.args.sink.now) (sink_bytes g.K.Sink c.send_refusal.new.sink) c.in-Err.ensures.refused c.send_refusal.ensures.memory_faults c.send_refusal.ensures.sends)
 
 pub returns-in-Err-clause-fails : goal.returns-in-Err-clause-fails
 returns-in-Err-clause-fails g c =
     let inside = c.self.inside in
-    rw (sym c.self.view_is) (refused_fails (arc_value inside.conf) inside.journal inside.past c.args.k c.args.path.now c.self.invariant c.in-Err.refusal c.send_refusal.result (sink_bytes g.K.Sink c.args.sink.now) (sink_bytes g.K.Sink c.send_refusal.new.sink) c.in-Err.ensures.refused c.send_refusal.ensures.wants c.send_refusal.ensures.fails)
+    rw (sym c.self.view_is) (refused_fails (arc_value inside.conf) inside.journal inside.past c.args.k c.args.path.now c.self.invariant c.in-Err.refusal c.send_refusal.result (sink_bytes g.K.Sink c.args.sink.now) (sink_bytes g.K.Sink c.send_refusal.new.sink) c.in-Err.ensures.refused c.send_refusal.ensures.memory_faults c.send_refusal.ensures.fails)
 
 pub returns-in-Err-clause-after : goal.returns-in-Err-clause-after
 returns-in-Err-clause-after g c =
     let inside = c.self.inside in
-    rw (sym c.self.view_is) (refused_then (arc_value inside.conf) inside.journal inside.past c.args.k c.args.path.now c.self.invariant c.in-Err.refusal c.at.new.self c.send_refusal.result c.in-Err.ensures.refused c.send_refusal.ensures.wants c.in-Err.ensures.kept)
+    rw (sym c.self.view_is) (refused_then (arc_value inside.conf) inside.journal inside.past c.args.k c.args.path.now c.self.invariant c.in-Err.refusal c.at.new.self c.send_refusal.result c.in-Err.ensures.refused c.send_refusal.ensures.memory_faults c.in-Err.ensures.kept)
 
 pub returns-in-Err-clause-steps : goal.returns-in-Err-clause-steps
 returns-in-Err-clause-steps g c =
