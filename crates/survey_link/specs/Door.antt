@@ -1,8 +1,8 @@
 -- The connections that come through a door.
 use Rattle.std.specs.Prelude.{◌≡◌, ℕ, ◌+◌, List, [], ◌∷◌, ◌++◌, length, Option, Some, None, ⊤, if◌then◌else◌, nat_lt}
 
--- a connection: the bytes left in its source, those held by its sink and those of them that were flushed, where they are
--- told, and the counts of faults of both
+-- a connection: the bytes left in its source, those held by its sink and those of them that were flushed, where the proof
+-- can see them, and the counts of faults of both
 pub record Connection : Type 0 where
   pub unread : Option (List ℕ)
   pub written : Option (List ℕ)
@@ -43,7 +43,7 @@ abbrev pub NoneWaits : Option Connections → Type 0
 NoneWaits None = ⊤
 NoneWaits (Some told) = told.waiting ≡ []
 
--- the connection is the last of those given back, where fewer were given back than taken; all else stays
+-- the connection is the last of those given back, if fewer were given back than taken; all else stays
 abbrev pub given_back : Numbered → Connections → Connections
 given_back connection old = if nat_lt (length old.returned) (length old.taken)
     then record old { returned = old.returned ++ connection ∷ [] } else old

@@ -10,8 +10,8 @@ use Rattle.survey_link.specs.declared.file_fault.Meaning.{Meaning}
 use Rattle.survey_link.specs.declared.file_fault.Meaning.TheVariants.{Absent, OutOfMemory, Failed}
 use Rattle.survey_link.specs.declared.file_fault.Meaning.TheVariants as Says
 
--- what an error of this kind says of a call on a file: that it was interrupted, and is to be made again; that there is no such
--- file, also where a folder on the way isn't there or is none; that there was no memory; else that it failed
+-- what an error of this kind says of a call on a file: that it was interrupted and must be made again; that there is no
+-- such file, also if a folder on the way isn't there or is none; that there was no memory; else that it failed
 abbrev pub meaning_of : ErrorKind → Meaning
 meaning_of Interrupted = Says.Interrupted
 meaning_of NotFound = Absent
@@ -19,7 +19,7 @@ meaning_of NotADirectory = Absent
 meaning_of Kind.OutOfMemory = OutOfMemory
 meaning_of _ = Failed
 
--- the file that stood at the one path stands at the other, in place of what stood there
+-- the file that was at the one path is at the other, in place of what was there
 abbrev pub moved_file : List ℕ → List ℕ → ShelfFiles → Option (List ℕ) → ShelfFiles
 moved_file from to files None = files
 moved_file from to files (Some bytes) = insert (remove files from) to bytes

@@ -2,24 +2,24 @@
 use Rattle.std.specs.Prelude.{◌≡◌, ℕ, ◌+◌, ◌-◌, ◌^◌, ◌≤◌, min, List, ◌++◌, take, length, flat_map, Option, Some, None, ⊤, if◌then◌else◌, nat_lt}
 use Rattle.std.specs.Borrow.{Bor}
 
--- a count after one more: it stands at the end of a u64
+-- a count after one more: it stays at a u64's maximum
 abbrev pub next_count : ℕ → ℕ
 next_count n = min (n + 1) (2 ^ 64 - 1)
 
--- the count of faults rose: by one or more, or to its type's end, where it stands
+-- the count of faults rose: by one or more, or to its type's maximum, where it stays
 abbrev pub Rises : ℕ → ℕ → Type 0
 Rises old new = next_count old ≤ new
 
--- what a count that stands at the end of a u64 tells: the number, and nothing at the end
+-- what a count that stays at a u64's maximum shows: the number, and nothing at the maximum
 abbrev pub visible_count : ℕ → Option ℕ
 visible_count n = if nat_lt n (2 ^ 64 - 1) then Some n else None
 
--- the number of readings after so many more, where it was told: more by one for each
+-- the number of readings after so many more, where the proof can see it: more by one for each
 abbrev pub readings_after : ℕ → Option ℕ → Option ℕ
 readings_after more None = None
 readings_after more (Some n) = visible_count (n + more)
 
--- known bytes stay at the front, and grow by some first ones of these
+-- known bytes stay at the front, and grow by a prefix of these
 abbrev pub AppendsPrefix : Option (List ℕ) → Option (List ℕ) → List ℕ → Type 0
 AppendsPrefix None new bytes = ⊤
 AppendsPrefix (Some xs) None bytes = ⊥

@@ -82,7 +82,7 @@ after_call files shelf = record shelf { files = files; calls = next_count shelf.
 abbrev pub after_failed_call : ShelfState → ShelfState
 after_failed_call shelf = record shelf { calls = next_count shelf.calls; faults = next_count shelf.faults }
 
--- a door: the connections it was given, how many of them it handed out, those given back, the calls that fail, how many calls
+-- a door: the connections it was given, how many of them were taken, those given back, the calls that fail, how many calls
 -- came and failed, and how many found no memory
 pub record DoorState : Type 0 where
   pub all : List (SourceState × SinkState)
@@ -93,7 +93,7 @@ pub record DoorState : Type 0 where
   pub faults : ℕ
   pub memory_faults : ℕ
 
--- what is told of a connection in memory
+-- what the proof can see of a connection in memory
 abbrev pub connection_of : SourceState × SinkState → Numbered
 connection_of ends = record {
   source = ends.0.number;
@@ -107,7 +107,7 @@ connection_of ends = record {
   };
 }
 
--- a connection as the door hands it out: with its number
+-- a connection as it is taken: with its number
 abbrev pub numbered : ℕ → SourceState × SinkState → SourceState × SinkState
 numbered number ends = (record ends.0 { number = Some number }, record ends.1 { number = Some number })
 
@@ -116,7 +116,7 @@ abbrev pub numbered_from : ℕ → List (SourceState × SinkState) → List Numb
 numbered_from number [] = []
 numbered_from number (ends ∷ rest) = connection_of (numbered number ends) ∷ numbered_from (number + 1) rest
 
--- what is told of the connections of a door in memory
+-- what the proof can see of the connections of a door in memory
 abbrev pub connections_of : DoorState → Connections
 connections_of door = record {
   waiting = numbered_from door.next (drop door.next door.all);
@@ -124,7 +124,7 @@ connections_of door = record {
   returned = map connection_of door.returned;
 }
 
--- the next connection was handed out
+-- the next connection was taken
 abbrev pub after_accept : DoorState → DoorState
 after_accept door = record door { next = door.next + 1; calls = next_count door.calls }
 
@@ -140,6 +140,6 @@ after_failed_accept door = record door { calls = next_count door.calls; faults =
 abbrev pub after_memory_fault : DoorState → DoorState
 after_memory_fault door = record door { memory_faults = next_count door.memory_faults }
 
--- a connection was given back: it is kept where fewer were given back than handed out
+-- a connection was given back: it is kept if fewer were given back than taken
 abbrev pub after_done : SourceState × SinkState → DoorState → DoorState
 after_done ends door = if nat_lt (length door.returned) door.next then record door { returned = door.returned ++ ends ∷ [] } else door

@@ -14,7 +14,7 @@ abbrev pub Lists : Option ShelfFiles → List (String Global) → Type 0
 Lists None paths = ⊤
 Lists (Some files) paths = IsPermutation (map string_bytes paths) (keys files)
 
--- this is what stands at the path
+-- this is what is at the path
 abbrev pub Finds : Option ShelfFiles → List ℕ → Option (Vec ℕ Global) → Type 0
 Finds None path found = ⊤
 Finds (Some files) path found = option_map (λ bytes. bytes.items) found ≡ get files path

@@ -4,7 +4,7 @@ use Rattle.std.specs.Prelude.{ℕ, ◌^◌, Bool, not, ◌&&◌, ◌==◌, List,
 use Rattle.std.specs.List.{list_any, list_all, slice_split, ends_with}
 use Rattle.std.specs.Cmp.Lexicographic.{pointwise}
 
--- this is what stands in a path between two slashes
+-- this is the text in a path between two slashes
 abbrev pub is_text : List ℕ → List ℕ → Bool
 is_text text part = pointwise (◌==◌) part text
 
@@ -19,11 +19,11 @@ stays_in_folder path = list_all is_name (slice_split (λ byte. byte == 47) path)
 abbrev pub has_nul : List ℕ → Bool
 has_nul path = list_any (λ byte. byte == 0) path
 
--- what stands behind a path in the name of the file that is still being written
+-- what follows a path in the name of the file that is still being written
 abbrev pub unfinished_mark : List ℕ
 unfinished_mark = codes ".unfinished"
 
--- the file beside the one at the path, which is to take its place once it is whole
+-- the file beside the one at the path, which takes its place once it is whole
 abbrev pub unfinished : List ℕ → List ℕ
 unfinished path = path ++ unfinished_mark
 

@@ -24,13 +24,13 @@ pub trait Door {
     /// How often there was no memory to accept a connection. The count never falls.
     ghost memory_faults: { Self → ℕ };
 
-    /// The next connection; `None` if and only if none is left, where the proof can see that. Its ends have the same number, and no other
-    /// connection of the door has it, where the proof can see the connections.
+    /// The next connection; `None` if and only if none is left. Its ends have the same number, which no other connection of
+    /// the door has. Both where the proof can see the connections.
     ///
     /// # Errors
     ///
-    /// `DoorFault::Failed` if and only if the count of faults rose, `DoorFault::OutOfMemory` if and only if that of wants did, but
-    /// for a count that stands at its type's end. The connections stay.
+    /// `DoorFault::Failed` if and only if the count of faults rose, `DoorFault::OutOfMemory` if and only if that of memory
+    /// faults did, except for a count that is already at its type's maximum. The connections stay.
     fn accept(&mut self) -> Result<Option<(Self::In, Self::Out)>, DoorFault>
         ensures next { IfOk result (λ next. MatchOption next
             (NoneWaits (connections self.old) × (connections self.new ≡ connections self.old))
@@ -55,7 +55,8 @@ pub trait Door {
     fn faults(&self) -> u64
         ensures { result ≡ faults self.now };
 
-    /// Takes a connection back. A door that tells keeps it where fewer were given back than taken, and else drops it.
+    /// Takes a connection back. A door whose connections the proof can see keeps it if fewer were given back than taken,
+    /// and else drops it.
     fn done(&mut self, input: Self::In, output: Self::Out)
         ensures returned { connections self.new ≡ option_map (given_back (record {
           source = Self.In.number input;

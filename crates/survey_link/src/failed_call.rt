@@ -37,7 +37,7 @@ impl fmt::Display for FileCall {
 /// A call on a file that failed. It is shown as the call, the path and what the system answered, as in
 /// `can't write Norder3/Dir0/Npix5.fits.unfinished: No space left on device (os error 28)`.
 ///
-/// Of the path all but printable ASCII is shown as `\n`, `\xff` and the like. Where there was no memory for it, it isn't told.
+/// Of the path all but printable ASCII is shown as `\n`, `\xff` and the like. It is left out if there was no memory for it.
 #[derive(Drop)]
 pub struct FailedCall {
     call: FileCall,

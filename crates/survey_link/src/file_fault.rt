@@ -19,7 +19,7 @@ pub(crate) enum FileFault {
 /// What an error says of a call on a file.
 #[derive(Clone, Copy, Debug, PartialEq, Eq)]
 pub(crate) enum Meaning {
-    /// The call was interrupted, and is to be made again.
+    /// The call was interrupted: make it again.
     Interrupted,
     /// There is no such file or folder.
     Absent,

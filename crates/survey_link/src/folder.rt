@@ -19,7 +19,7 @@ pub(crate) trait Folder {
         ensures done { OnOk result (files self.new ≡ with_file path.now bytes.now (files self.old)) }
         ensures refused { OnErr result (OthersStay path.now (files self.old) (files self.new)) };
 
-    /// Moves a file to another path, in place of what stands there; at each moment one of the two stands there.
+    /// Moves a file to another path, in place of what is there; at each moment one of the two is there.
     fn rename(&mut self, from: &str, to: &str) -> Result<(), FileFault>
         ensures done { OnOk result (files self.new ≡ with_moved from.now to.now (files self.old)) }
         ensures refused { OnErr result (files self.new ≡ files self.old) };
@@ -30,8 +30,8 @@ pub(crate) trait Folder {
         ensures refused { OnErr result (files self.new ≡ files self.old) };
 }
 
-/// Puts a file in place of what stands at the path, by way of a new one beside it. After a refusal what stood at the path
-/// stands there still.
+/// Puts a file in place of what is at the path, by way of a new one beside it. After a refusal what was at the path is
+/// still there.
 pub(crate) fn put_by_way_of<F: Folder>(
     folder: &mut F,
     beside: &str,

@@ -19,12 +19,13 @@ use std::io::ErrorKind;
 use std::marker::Model;
 use std::rt::Files;
 
-/// A shelf over the regular files below the current folder, by their paths with `/` between names. It tells nothing of them.
+/// A shelf over the regular files below the current folder, by their paths with `/` between names. Its files are opaque to
+/// the proof.
 ///
-/// A link counts as the regular file that it leads to; `put` and `remove` take the link itself away. A link to a folder is a
-/// fault: nothing is listed, read, written or removed behind one. Whether one stands on the way is looked up before each call,
-/// not in the same one. A file is written beside the old one and renamed once it is whole, so that whoever looks sees whole
-/// files; what a stop in the middle leaves isn't listed, and the next `put` there clears it.
+/// A link counts as the regular file that it leads to; `put` and `remove` take the link itself away. A link to a folder is
+/// a fault: nothing is listed, read, written or removed behind one. Whether one is on the way is looked up before each
+/// call, not in the same one. A file is written beside the old one and renamed once it is whole, so that whoever looks sees
+/// whole files; what a stop in the middle leaves isn't listed, and the next `put` there clears it.
 ///
 /// What it answers as `Failed` counts as a fault: also a name that isn't UTF-8; to `get` what is no regular file, as a folder
 /// or a pipe, or has more than 2^29 bytes; and a path that no file on the shelf may have, since it would leave the folder,
@@ -127,7 +128,7 @@ impl<R> FolderShelf<R> {
     }
 }
 
-// Puts a file in place of what stands at the path, by way of one beside it.
+// Puts a file in place of what is at the path, by way of one beside it.
 fn put_at<F: Folder>(
     folder: &mut F,
     alloc: Global,

@@ -1,12 +1,12 @@
 //! What is passed before each merge of tiles.
 
-/// What is passed before each merge of tiles. It has no meaning of its own: tests hold a worker there.
+/// What is passed before each merge of tiles. It does nothing to the tiles: tests hold a worker there.
 pub trait Gate {
     /// Returns, sooner or later.
     fn pass(&self, order: u8, npix: u64);
 }
 
-/// A gate that stands open.
+/// A gate that is always open.
 #[derive(Drop)]
 pub struct OpenGate;
 

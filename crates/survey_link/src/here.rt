@@ -19,7 +19,7 @@ use std::{fs, io};
 // No file of a survey has more bytes.
 const LONGEST_FILE: usize = 1 << 29;
 
-/// The current folder. It tells nothing of its files, and has none behind a link of a folder.
+/// The current folder. Its files are opaque to the proof; it has none behind a link to a folder.
 #[derive(Drop)]
 pub(crate) struct Here<R> {
     alloc: Global,
@@ -28,7 +28,7 @@ pub(crate) struct Here<R> {
 }
 
 impl<R> Here<R> {
-    /// The current folder; what is said of a failed call is kept in memory of the allocator.
+    /// The current folder; the path of a failed call is kept in memory of the allocator.
     pub(crate) fn new(alloc: Global, runtime: R) -> Here<R> {
         Here {
             alloc,
@@ -78,7 +78,7 @@ impl<R> Here<R> {
         FileFault::Failed(FailedCall::new(self.alloc, call, path, error))
     }
 
-    // A link stands where a folder has to.
+    // There is a link in place of a folder.
     fn linked(&self, folder: &str) -> FileFault {
         let error = io::Error::new(
             ErrorKind::InvalidInput,
@@ -125,7 +125,7 @@ impl<R: Files> Folder for Here<R> {
 }
 
 impl<R: Files> Here<R> {
-    /// The bytes of a regular file, of which there are at most so many; `None` where nothing stands at the path.
+    /// The bytes of a regular file, of which there are at most so many; `None` if nothing is at the path.
     pub(crate) fn read(&self, alloc: Global, path: &str) -> Result<Option<Vec<u8>>, FileFault>
         ensures { IfOk result (λ found. IfSome found (λ bytes. vec_len bytes ≤ longest_file)) }
     {
@@ -165,7 +165,7 @@ impl<R: Files> Here<R> {
         }
     }
 
-    // What stands at a path that a folder lists.
+    // What is at a path that a folder lists.
     fn kind_at(&self, path: &str) -> Result<Kind, FileFault> {
         let look = || fs::symlink_metadata(&self.runtime, path);
         match found(self.ask(FileCall::Look, path, look))? {
@@ -175,7 +175,7 @@ impl<R: Files> Here<R> {
         }
     }
 
-    // What stands behind a link, which may be a file's alone.
+    // What a link leads to; it must be a file.
     fn kind_behind(&self, link: &str) -> Result<Kind, FileFault> {
         let look = || fs::metadata(&self.runtime, link);
         match found(self.ask(FileCall::Look, link, look))? {
@@ -187,8 +187,8 @@ impl<R: Files> Here<R> {
 }
 
 impl<R: Files + AllocGlobal + Clone + Drop + Log> Here<R> {
-    /// The paths of all regular files below the folder, without left-overs. The first time the log gets how many entries have a
-    /// tile's name and are no files.
+    /// The paths of all regular files below the folder, without left-overs. The first time, how many entries have a tile's
+    /// name and are no files is logged.
     pub(crate) fn paths(&mut self, alloc: Global) -> Result<Vec<String>, FileFault>
         ensures { IfOk result (λ paths. All (λ path. is_left_over (string_bytes path) ≡ false) paths.items) }
     {
@@ -260,7 +260,7 @@ fn create_new<R: Files>(files: &R, path: &str) -> io::Result<R::File> {
         .open(files, path)
 }
 
-// The bytes of a regular file, no more of them than show that they are too many. What stands there is looked at before it is
+// The bytes of a regular file, no more of them than show that they are too many. What is there is looked at before it is
 // opened, since opening a pipe waits for a writer.
 fn read_file<R: Files>(files: &R, alloc: Global, path: &str) -> io::Result<Vec<u8>> {
     let metadata = fs::metadata(files, path)?;

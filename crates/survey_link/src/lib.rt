@@ -1,7 +1,8 @@
 //! The outside, as a survey sees it.
 //!
 //! Bytes come from a `Source` and go to a `Sink`; files lie on a `Shelf`; connections come through a `Door`; a `Gate` is
-//! passed before each merge of tiles. Each counts its faults. An `Inbox` keeps what was read and not yet used. Those in memory tell what they hold; the real ones don't.
+//! passed before each merge of tiles. Each counts its faults. An `Inbox` keeps what was read and not yet used. The proof
+//! can see what those in memory hold, and not what the real ones do.
 #![tactic(auto)]
 
 mod calls;

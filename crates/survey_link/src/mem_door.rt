@@ -1,4 +1,4 @@
-//! A door in memory that fails where the proof can see it to.
+//! A door in memory that fails at given calls.
 ghost use Rattle.std.specs.Prelude.{◌≡◌, ◌≤◌, ◌↔◌, [], Some, Contains, length, slice_get, IfOk, IsErrOf, MatchOption, option_copied, option_map};
 ghost use Rattle.survey_link.specs.Door.{Takes, NoneWaits, given_back};
 ghost use Rattle.survey_link.specs.Memory.{connection_of, connections_of, numbered, after_accept, after_none, after_failed_accept, after_memory_fault, after_done};
@@ -43,7 +43,7 @@ impl Model for MemDoor {
 }
 
 impl MemDoor {
-    /// A door that hands out these connections from the front, and then none. The accepts numbered in `fails`, from 0,
+    /// A door through which these connections come from the front, and then none. The accepts numbered in `fails`, from 0,
     /// fail. Room for those given back is reserved here.
     ///
     /// # Errors
@@ -75,7 +75,7 @@ impl MemDoor {
         })
     }
 
-    /// The connection that was given back as the `i`-th, from 0; `None` exactly past the last.
+    /// The connection that was given back as the `i`-th, from 0; `None` if and only if `i` is past the last.
     pub fn given(&self, i: usize) -> Option<&(MemSource, MemSink)>
         ensures { option_copied result ≡ slice_get self.now.returned i }
     {

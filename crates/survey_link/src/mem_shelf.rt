@@ -1,4 +1,4 @@
-//! A shelf in memory that fails where the proof can see it to.
+//! A shelf in memory that fails at given calls.
 ghost use Rattle.std.specs.Prelude.{◌≡◌, ◌≤◌, ◌↔◌, Some, Contains, String, Vec, map, string_bytes, IfOk, OnOk, OnErr, IsErr, IsErrOf, option_map};
 ghost use Rattle.std.specs.FinMap.{empty, keys, get, insert, remove};
 ghost use Rattle.survey_link.specs.Shelf.{Lists};
@@ -107,7 +107,7 @@ fn insert_copy(
     Ok(())
 }
 
-/// Removes what stands at the path.
+/// Removes what is at the path.
 fn remove_at(files: &mut BTreeMap<String, Vec<u8>>, path: &str)
     ensures done { files_of files.new ≡ remove (files_of files.old) path.now }
     ensures ordered { IsOrdered string_cmp files.new }

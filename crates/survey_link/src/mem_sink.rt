@@ -1,4 +1,4 @@
-//! A sink in memory that fails where the proof can see it to.
+//! A sink in memory that fails at given calls.
 ghost use Rattle.std.specs.Prelude.{◌≡◌, ◌<◌, ◌≤◌, ◌↔◌, [], None, Some, Contains, length, take, IfOk, OnOk, OnErr, IsErr};
 ghost use Rattle.survey_link.specs.Link.{parts_bytes};
 ghost use Rattle.survey_link.specs.Memory.{WriteFails, taken_of, after_write, after_flush, after_failed_write};

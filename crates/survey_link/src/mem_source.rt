@@ -1,4 +1,4 @@
-//! A source in memory that fails where the proof can see it to.
+//! A source in memory that fails at given calls.
 ghost use Rattle.std.specs.Prelude.{◌≡◌, ◌<◌, ◌≤◌, ◌↔◌, None, Some, Contains, length, take, IfOk, OnErr, IsErr};
 ghost use Rattle.std.specs.Io.KnownBytes.{Consumes, IsAtEnd};
 ghost use Rattle.survey_link.specs.Link.{visible_count, readings_after};

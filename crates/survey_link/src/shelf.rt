@@ -36,7 +36,7 @@ pub trait Shelf {
         ensures failed { IsErrOf result LinkFault.Failed → Rises (faults self.old) (faults self.new) }
         ensures never_falls { faults self.old ≤ faults self.new };
 
-    /// Puts a file in place of what stands at the path. After a refusal this one path may hold anything, or be absent.
+    /// Puts a file in place of what is at the path. After a refusal this one path may hold anything, or be absent.
     ///
     /// # Errors
     ///

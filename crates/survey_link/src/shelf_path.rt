@@ -4,7 +4,7 @@ ghost use Rattle.survey_link.specs.ShelfPath.{has_nul, is_name, stays_in_folder,
 
 use std::alloc::{AllocError, Global};
 
-// What stands behind a path in the name of the file that is still being written.
+// What follows a path in the name of the file that is still being written.
 const UNFINISHED: &str = ".unfinished";
 
 fn is_name(part: &[u8]) -> bool
@@ -20,7 +20,7 @@ pub(crate) fn is_left_over(path: &str) -> bool
     path.as_bytes().ends_with(UNFINISHED.as_bytes())
 }
 
-/// The path of the file beside this one that is to take its place once it is whole.
+/// The path of the file beside this one that takes its place once it is whole.
 pub(crate) fn unfinished(alloc: Global, path: &str) -> Result<String, AllocError>
     ensures { IfOk result (λ beside. string_bytes beside ≡ unfinished path.now) }
 {

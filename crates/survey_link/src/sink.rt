@@ -17,10 +17,11 @@ pub trait Sink {
     /// How often it has failed. The count never falls.
     ghost faults: { Self → ℕ };
 
-    /// The number of its connection among those of the door that it came through, where the proof can see it. It stays.
+    /// The number of its connection among those of the door that it came through, where the proof can see it. It never
+    /// changes.
     ghost number: { Self → Option ℕ };
 
-    /// Writes a prefix of `buf`, at least one, and answers how many. What was flushed stays.
+    /// Writes a prefix of `buf`, at least one byte, and answers how many. What was flushed stays.
     ///
     /// # Errors
     ///

@@ -10,13 +10,14 @@ pub trait Source {
     /// The bytes left, where the proof can see them.
     ghost left: { Self → Option (List ℕ) };
 
-    /// The number of its readings, where the proof can see it: one for each call of `read`, refused or not, and for no other call.
+    /// The number of calls of `read`, refused or not, where the proof can see it.
     ghost readings: { Self → Option ℕ };
 
     /// How often it has failed. The count never falls.
     ghost faults: { Self → ℕ };
 
-    /// The number of its connection among those of the door that it came through, where the proof can see it. It stays.
+    /// The number of its connection among those of the door that it came through, where the proof can see it. It never
+    /// changes.
     ghost number: { Self → Option ℕ };
 
     /// Reads the next bytes to the front of `buf`, and answers how many: 0 if and only if nothing is left.

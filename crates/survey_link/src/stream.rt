@@ -11,7 +11,7 @@ use std::io;
 use std::io::{ErrorKind, IoSlice, Read, Write};
 use std::marker::Model;
 
-/// A source over a reader of std. It tells nothing of the bytes left and of its readings.
+/// A source over a reader of std. The bytes left and its readings are opaque to the proof.
 ///
 /// What it answers as `Failed` counts as a fault; an interrupted call is made again and counts as none.
 #[derive(Drop)]
@@ -99,7 +99,7 @@ impl<R: Read> Source for StreamSource<R> {
     }
 }
 
-/// A sink over a writer of std. It tells nothing of the bytes written.
+/// A sink over a writer of std. The bytes written are opaque to the proof.
 ///
 /// What it answers as `Failed` counts as a fault, also a write that takes nothing; an interrupted call is made again and
 /// counts as none.

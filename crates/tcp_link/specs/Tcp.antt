@@ -1,4 +1,4 @@
--- What a door over TCP tells, which refusals of the system it goes past, and which tell want of memory.
+-- What the proof sees of a door over TCP, which refusals of the system it tries again, and which are out of memory.
 use Rattle.std.specs.Prelude.{◌≡◌, ℕ, Bool, true, false, Option, Some, None, ⊤}
 use Rattle.std.specs.IoError.{error_kind}
 use Rattle.std.specs.declared.io.ErrorKind.{ErrorKind}
@@ -13,13 +13,13 @@ pub record DoorState : Type 0 where
   pub memory_faults : ℕ
   pub refusal : Option Refusal
 
--- an error after which the call is made again: the system interrupted it, or the client that it was for has gone
+-- an error after which the call is made again: the system interrupted it, or its client has gone
 abbrev pub passes : ErrorKind → Bool
 passes Interrupted = true
 passes ConnectionAborted = true
 passes _ = false
 
--- an error that tells want of memory, the program's own or the system's
+-- an error that says that memory ran out, the program's own or the system's
 abbrev pub is_out_of_memory : ErrorKind → Bool
 is_out_of_memory OutOfMemory = true
 is_out_of_memory _ = false
@@ -29,13 +29,13 @@ abbrev pub Lasts : Refusal → Type 0
 Lasts (Accept error) = passes (error_kind error) ≡ false
 Lasts _ = ⊤
 
--- a refusal for want of memory
+-- a refusal because memory ran out
 abbrev pub says_out_of_memory : Refusal → Bool
 says_out_of_memory (Listen error) = is_out_of_memory (error_kind error)
 says_out_of_memory (Accept error) = is_out_of_memory (error_kind error)
 says_out_of_memory (Split error) = is_out_of_memory (error_kind error)
 
--- a refusal for which an accept fails: one that stops it, and not for want of memory
+-- a refusal for which an accept fails: one that stops it, and not because memory ran out
 abbrev pub FailsAccept : Option Refusal → Type 0
 FailsAccept None = ⊥
 FailsAccept (Some refusal) = Lasts refusal × (says_out_of_memory refusal ≡ false)

@@ -7,6 +7,6 @@ abbrev pub seconds_earned : ℕ → ℕ → ℕ
 seconds_earned zero bytes = 0
 seconds_earned (suc n) bytes = bytes / suc n
 
--- the nanoseconds left of `base` and the seconds that the bytes add, at most the longest time that std tells
+-- the nanoseconds left of `base` and the seconds that the bytes add, at most the longest time that std can hold
 abbrev pub nanos_left : ℕ → ℕ → ℕ → ℕ → ℕ
 nanos_left base pace bytes elapsed = min (base + seconds_earned pace bytes * 1_000_000_000) max_nanos - elapsed

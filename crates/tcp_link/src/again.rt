@@ -6,7 +6,7 @@ ghost use Rattle.tcp_link.specs.Tcp.{passes};
 use std::io;
 use std::io::ErrorKind;
 
-/// Makes a call again while what it is refused for passes: the system interrupted it, or the client that it was for has gone.
+/// Makes a call again while what it is refused for passes: the system interrupted it, or its client has gone.
 ///
 /// # Errors
 ///
@@ -28,7 +28,7 @@ pub fn again<T, F: Fn() -> io::Result<T> + Drop>(call: F) -> io::Result<T>
     Err(ErrorKind::Other.into())
 }
 
-// Whether a refusal passes: the system interrupted the call, or the client that it was for has gone.
+// Whether a refusal passes: the system interrupted the call, or its client has gone.
 fn passes(kind: ErrorKind) -> bool
     ensures { result ≡ passes kind }
 {

@@ -5,7 +5,7 @@ use std::io;
 use std::io::ErrorKind;
 use std::sync::atomic::{AtomicBool, Ordering};
 
-/// A stream, the clock by which its peer is judged, and whether a turn is to begin.
+/// A stream, the clock by which its peer is judged, and whether the next byte begins a turn.
 #[derive(Drop)]
 pub(crate) struct Connection<R> {
     pub(crate) runtime: R,

@@ -17,8 +17,8 @@ pub type DialIn<R> = TcpIn<R>;
 /// What the other side of a dialed connection is sent.
 pub type DialOut<R> = TcpOut<R>;
 
-/// The two halves of one stream to an address: an IP address or a host's name with `:` and a port, or the path of a Unix socket,
-/// with a `/`. Where connecting is refused, the log gets why, and each call that reads or writes is a fault.
+/// The two halves of one stream to an address: an IP address or a host's name with `:` and a port, or the path of a Unix
+/// socket, with a `/`. If connecting is refused, why is logged, and each call that reads or writes is a fault.
 ///
 /// Its peer has the time that a client of a server's doors has. Names are looked up by `net`.
 ///

@@ -11,7 +11,7 @@ use std::time::Duration;
 /// the accept.
 #[derive(Clone, Copy)]
 pub struct Patience {
-    /// How long a connection may rest until a turn begins.
+    /// How long a connection may be idle until a turn begins.
     pub rest: Duration,
     /// How long a request may take from its first byte on, and a reply, beside what its bytes add.
     pub turn: Duration,

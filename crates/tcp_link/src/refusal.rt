@@ -17,7 +17,7 @@ pub enum Refusal {
 }
 
 impl Refusal {
-    /// Whether it is for want of memory, the program's own or the system's.
+    /// Whether memory ran out, the program's own or the system's.
     pub(crate) fn says_out_of_memory(&self) -> bool
         ensures { result ≡ says_out_of_memory self.now }
     {

@@ -9,7 +9,7 @@ const PATIENCE: u64 = 300;
 
 const PAUSE: u64 = 100;
 
-// How many seconds after one line the log gets the next.
+// How many seconds after one line of the log the next one comes.
 const SILENCE: u64 = 60;
 
 // Linux's numbers: all descriptors of the system are in use, all of the process are, there is no room for a buffer.
@@ -19,7 +19,7 @@ const EMFILE: i32 = 24;
 
 const ENOBUFS: i32 = 105;
 
-/// What the doors of one address know of it: when the log last got a line.
+/// What the doors of one address know of it: when it was last logged.
 #[derive(Drop)]
 pub(crate) struct Shortage {
     said: Mutex<Option<Instant>>,
@@ -32,8 +32,9 @@ impl Shortage {
         }
     }
 
-    /// Whether what was refused so is to be tried again, after the pause that has then passed: it was refused for a lack which
-    /// may pass, since `begun`, where that is some, or now, and not for minutes yet. The log gets a line, at most once a minute.
+    /// Whether to try the refused call again, after a pause that has then passed: the error is a lack that may pass, and this
+    /// has lasted for less than five minutes since `begun` (set to now if it was `None`). A line is logged at most once a
+    /// minute.
     pub(crate) fn may_pass<R: Wait + Clock + Log>(
         &self,
         rt: &R,
@@ -63,7 +64,7 @@ impl Shortage {
         true
     }
 
-    // Whether the log is to get a line now, which it then has.
+    // Whether a line must be logged now; the time of it is kept.
     fn is_due<R: Wait>(&self, rt: &R, now: Instant) -> bool {
         let mut said = self.said.lock(rt);
         if let Some(before) = *said {
@@ -76,7 +77,7 @@ impl Shortage {
     }
 }
 
-// Whether it tells a lack which may pass.
+// Whether the error is a lack which may pass.
 fn is_shortage(error: io::Error) -> bool {
     match error.raw_os_error() {
         Some(code) => code == EMFILE || code == ENFILE || code == ENOBUFS,

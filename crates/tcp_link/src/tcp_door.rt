@@ -20,16 +20,17 @@ use std::sync::{Arc, Wait};
 use std::time::Clock;
 use survey_link::{Door, DoorFault};
 
-/// A door of an address, over TCP or a Unix socket. It tells nothing of its connections.
+/// A door of an address, over TCP or a Unix socket. Its connections are opaque to the proof.
 ///
-/// The doors of one address share a listener, which the first call that needs it binds. What it answers as `Failed` counts as
-/// a fault: that the system refuses to listen, to accept, or to split a stream into its halves. An accept that the system
-/// interrupts, or whose client has gone, is made again and counts as none; one for which the system has no descriptor or no
-/// buffer is made again for five minutes, after a pause each time, before it counts. Nor does one for which there is no memory, which has
-/// a count of its own; its client is dropped. A connection that is given back is closed.
+/// The doors of one address share a listener, which the first call that needs it binds. What it answers as `Failed` counts
+/// as a fault: that the system refuses to listen, to accept, or to split a stream into its halves. An accept that the
+/// system interrupts, or whose client has gone, is made again and counts as none; one for which the system has no
+/// descriptor or no buffer is made again for five minutes, after a pause each time, before it counts. Nor does one for
+/// which there is no memory, which has a count of its own; its client is dropped. A connection that is given back is
+/// closed.
 ///
 /// The log gets each connection's client, with the place of the door among those of its address and the connection's number
-/// at it, both from 1 on. A Unix socket doesn't tell its clients apart.
+/// at it, both from 1 on. Over a Unix socket clients have no address.
 #[derive(Drop)]
 pub struct TcpDoor<R, N> {
     runtime: R,
@@ -55,7 +56,7 @@ impl<R, N> Model for TcpDoor<R, N> {
 /// So many doors of an address: an IP address or a host's name with `:` and a port, or the path of a Unix socket, with a `/`.
 /// Nothing is bound yet. A socket that a dead server left at the path is then replaced.
 ///
-/// Each keeps a copy of `rt`, which gives the leave to wait, and of `net`, since no call of a door is passed one.
+/// Each keeps a copy of `rt`, which allows it to wait, and of `net`, since no call of a door is passed one.
 ///
 /// # Errors
 ///
@@ -179,7 +180,7 @@ where
             .map_err(Refusal::Listen)
     }
 
-    // The halves of the next connection. Want of memory for what they share is a refusal to split its stream.
+    // The halves of the next connection. No memory for what they share is a refusal to split its stream.
     fn next(&self) -> Result<(TcpIn<R>, TcpOut<R>), Refusal>
         ensures fresh { IfOk result (λ halves. (halves.0 ≡ 0) × (halves.1 ≡ 0)) }
         ensures cause { IfErr result Lasts }

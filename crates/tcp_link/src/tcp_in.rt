@@ -12,10 +12,10 @@ use std::sync::Arc;
 use std::time::{Clock, Duration};
 use survey_link::{Failed, Source};
 
-/// What a peer sends. It tells nothing of it; contracts see its count of faults.
+/// What a peer sends. Its bytes are opaque to the proof; contracts see its count of faults.
 ///
-/// A peer that rests longer than its door waits, or doesn't end its request in time, is a fault, as is one that breaks the
-/// connection off.
+/// A peer that is idle longer than its door waits, or doesn't end its request in time, is a fault, as is one that breaks
+/// the connection off.
 #[derive(Drop)]
 pub struct TcpIn<R> {
     connection: Arc<Connection<R>>,

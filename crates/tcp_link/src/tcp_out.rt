@@ -19,7 +19,7 @@ const LINGER: u64 = 1000;
 
 const LINGERING_READS: usize = 1024;
 
-/// What a peer is sent. It tells nothing of it; contracts see its count of faults.
+/// What a peer is sent. Its bytes are opaque to the proof; contracts see its count of faults.
 ///
 /// A peer that doesn't take its reply in time is a fault, as is one that has gone. A flush ends the reply.
 #[derive(Drop)]

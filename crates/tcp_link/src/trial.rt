@@ -16,7 +16,7 @@ pub enum Trial {
     Nowhere(io::Error),
 }
 
-/// Tries whether one could listen at an address, as the doors of that address would, and lets it go again.
+/// Tries whether one could listen at an address, as the doors of that address would, and stops listening.
 pub fn try_address<N: Net + Files>(net: &N, address: &str) -> Trial {
     if is_path(address) {
         return try_path(net, address);

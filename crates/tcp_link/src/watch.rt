@@ -34,8 +34,8 @@ impl Watch {
         self.bytes = self.bytes.saturating_add(bytes as u64);
     }
 
-    /// The time-out that the socket has to get, so that its next call ends before `base` and a second for each `pace` bytes
-    /// have passed; `None` where the one that it has will do.
+    /// The time-out that the socket needs, so that its next call ends before `base` and a second for each `pace` bytes have
+    /// passed; `None` where the one that it has will do.
     ///
     /// # Errors
     ///
@@ -60,8 +60,8 @@ impl Watch {
         Ok(Some(left))
     }
 
-    /// Whether the call that was refused so is to be made again, if there is time: it was interrupted, or the time-out of the
-    /// socket has passed, which may have been shorter than what was left.
+    /// Whether to make the refused call again, if there is time: it was interrupted, or the time-out of the socket has
+    /// passed, which may have been shorter than what was left.
     pub(crate) fn goes_on(&mut self, kind: ErrorKind) -> bool {
         match kind {
             ErrorKind::Interrupted => true,
