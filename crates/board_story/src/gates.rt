@@ -1,4 +1,4 @@
-//! The gate that publications of tales pass.
+//! The gate that the publications of scenario tests pass.
 use std::sync::atomic::{AtomicU64, Ordering};
 use std::thread::yield_now;
 use survey_link::Gate;
@@ -35,7 +35,7 @@ impl TestGate {
         self.opened.store(1, Ordering::SeqCst);
     }
 
-    /// Whether nobody's turns were spent.
+    /// Whether nobody's turns ran out.
     pub(crate) fn is_in_time(&self) -> bool {
         self.spent.load(Ordering::SeqCst) == 0
     }

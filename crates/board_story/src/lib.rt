@@ -1,6 +1,6 @@
-//! Boards that tell what they were answered, whether one history explains it, and tales of several boards.
+//! Boards that record what they were answered, whether one history explains it, and scenario tests of several boards.
 //!
-//! The program `board_tests` plays one, and its tests the others. They stand here so that each is proved once, and so that what
+//! The program `board_tests` plays one, and its tests the others. They are here so that each is proved once, and so that what
 //! they drop is.
 #![tactic(auto)]
 

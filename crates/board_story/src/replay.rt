@@ -1,11 +1,11 @@
-//! One history, and whether it explains what boards told.
+//! One history, and whether it explains what boards recorded.
 use crate::calling::{ADD, Answer, Asked, Call, PUT, REMOVE, REPLACE, Seen, Told};
 use edit_journal::{Edit, Journal};
 use reader_pin::Published;
 use std::alloc::{AllocError, Global};
 use survey_core::State;
 
-/// What the history is after so many edits, and what boards told of it.
+/// What the history is after so many edits, and what boards recorded of it.
 #[derive(Clone, Copy)]
 struct Place {
     // The edit behind it, and the leaves before that one, a bit each.
@@ -26,7 +26,7 @@ struct Place {
 // No edit, of none of the four kinds.
 const NONE: Asked = Asked { kind: 4, leaf: 0 };
 
-// What nobody told of, and where no history leads.
+// What nobody recorded, and where no history leads.
 const NOWHERE: Place = Place {
     edit: Asked { kind: 4, leaf: 0 },
     leaves: 0,
@@ -156,7 +156,7 @@ impl Replay {
         }
     }
 
-    // Whether a batch of so many edits stands just before there.
+    // Whether a batch of so many edits is just before there.
     fn has_batch(&mut self, first: Asked, count: u32, number: u32) -> bool {
         let Some(start) = number.checked_sub(count) else {
             return false;
@@ -183,7 +183,7 @@ impl Replay {
         place.is_end && number != 0 && fault(leaves, first.behind(at)) == number
     }
 
-    // Whether an edit that is accepted was told whether its leaf was absent.
+    // Whether the answer to an accepted edit says rightly whether its leaf was absent.
     fn tells_created(&self, edit: Asked, answer: Answer) -> bool {
         match answer {
             Answer::Accepted(number, created) => {
@@ -259,7 +259,7 @@ impl Replay {
         }
     }
 
-    /// The history explains all that a board told.
+    /// The history explains all that a board recorded.
     ///
     /// # Errors
     ///

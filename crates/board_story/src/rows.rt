@@ -62,7 +62,7 @@ pub fn is_told<B: ChangedWith<R>, G: Gate + Sync, R: Threads + Sync>(
         && board.held().map(shown) == held
 }
 
-/// How many of these rows, up to the first that isn't told so, the board of a survey's only connection tells.
+/// How many of these rows, up to the first that isn't so, the board of a survey's only connection answers.
 ///
 /// # Errors
 ///

@@ -25,7 +25,7 @@ fn seed(at: usize) -> u32 {
     seed
 }
 
-// The call that a number stands for: of sixteen, seven edits, three batches, one publication, three pins, a hold, a release.
+// The call that a number means: of sixteen, seven edits, three batches, one publication, three pins, a hold, a release.
 fn call_of(number: u32) -> Call {
     let asked = Asked {
         kind: number / 65536 % 4,
@@ -41,7 +41,7 @@ fn call_of(number: u32) -> Call {
     }
 }
 
-/// All calls of the board at that place. It tells fewer where there was no memory.
+/// All calls of the board at that place. It records fewer if there was no memory.
 pub(crate) fn call_all<'a, J: Naming, R: Threads + Wait + Sync>(
     rt: &R,
     alloc: Global,

@@ -1,4 +1,4 @@
-//! A story of three boards, each call of which is made again where memory is refused.
+//! A scenario test of three boards, each call of which is made again if memory is refused.
 use crate::calling::{ADD, Answer, Asked, Call, PUT, REMOVE, REPLACE};
 use crate::teller::{Teller, explained, meet};
 use shared_history::Naming;
@@ -71,7 +71,7 @@ static END: [(usize, Call); 10] = [
     (2, Call::Publish),
 ];
 
-/// Tells the story, and prints `begun` once it begins, and in the end how many edits there are, how many of them are published,
+/// Runs the test, and prints `begun` once it begins, and in the end how many edits there are, how many of them are published,
 /// and how many calls were refused and made again.
 ///
 /// # Errors
@@ -98,7 +98,7 @@ pub fn tell_story<'a, J: Naming, R: Threads + Wait + Print + Sync>(
     .ok_or("no output")
 }
 
-// Memory for what the boards will tell.
+// Memory for what the boards will record.
 fn make_room<'a, J: Naming>(tellers: &mut [Teller<'a, J>]) -> Result<(), &'static str> {
     for teller in tellers {
         if teller.told.reserve(MOST).is_err() {
@@ -128,7 +128,7 @@ fn tell_each<'a, J: Naming, R: Threads + Wait + Sync>(
     Ok(refused)
 }
 
-// A call, which is made again where it is refused: how often it was. A refused one is told as a pin: it made no event.
+// A call, which is made again where it is refused: how often it was. A refused one is recorded as a pin: it made no event.
 fn tell_again<'a, J: Naming, R: Threads + Wait + Sync>(
     rt: &R,
     alloc: Global,

@@ -1,4 +1,4 @@
-//! A survey that is open for a tale of its boards.
+//! A survey that is open for a scenario test of its boards.
 ghost use Rattle.std.specs.Prelude.{◌≡◌, ◌<◌, ◌≤◌, []};
 
 use crate::tales::{Tale, tell};
@@ -17,11 +17,12 @@ use std::thread::Threads;
 use survey_core::State;
 use tile_pixels::Tile;
 
-/// Opens the small survey for so many boards, does with them what the tale tells, and ends it.
+/// Opens the small survey for so many boards, runs the test with them, and ends it.
 ///
 /// # Errors
 ///
-/// Where a board answers otherwise than it has to, there are no places or more than 64, or there is no memory to open the survey.
+/// Where a board answers otherwise than it must, there are no places or more than 64, or there is no memory to open the
+/// survey.
 pub fn with_boards<R: Threads + Wait + Print + Sync>(
     rt: &R,
     alloc: Global,

@@ -25,17 +25,17 @@ pub enum Tale {
     OpenLock,
     /// Each board makes random calls, in a thread of its own.
     Storm,
-    /// The story of three boards, each call of which is made again where memory is refused.
+    /// Three boards, each call of which is made again if memory is refused.
     Story,
     /// Three boards make their calls one after another.
     ThreeBoards,
 }
 
-/// Does with the boards what a tale tells, with a tile for their edits.
+/// Runs a scenario test with the boards, with a tile for their edits.
 ///
 /// # Errors
 ///
-/// Where a board answers otherwise than it has to, or there is no memory.
+/// Where a board answers otherwise than it must, or there is no memory.
 pub fn tell<'a, J: Naming + Send + Sync, R: Threads + Wait + Print + Sync>(
     rt: &R,
     alloc: Global,
@@ -154,8 +154,8 @@ fn open_lock<'a, J: Naming + Send + Sync, R: Threads + Wait + Print + Sync>(
     }
 }
 
-// A board, and what it is asked for, before the others look. The second one holds the opening state, and has looked when there
-// was nothing to find: its next look has to find what comes after that.
+// A board, and what it is asked for, before the others look. The second one holds the opening state, and has looked when
+// there was nothing to find: its next look must find what comes after that.
 static FIRST: [(usize, Row); 5] = [
     (
         1,

@@ -1,4 +1,4 @@
-//! Boards that tell what they were answered, and whether one history explains it.
+//! Boards that record what they were answered, and whether one history explains it.
 use crate::calling::{Answer, Call, Seen, Told, made};
 use crate::replay::Replay;
 use reader_pin::{Board, Shared, Survey, SurveySeat};
@@ -10,12 +10,12 @@ use survey_core::State;
 use survey_link::Gate;
 use tile_pixels::Tile;
 
-/// A board with what it told.
+/// A board with what it recorded.
 #[derive(Drop)]
 pub struct Teller<'a, J: Naming> {
     /// The board.
     pub board: Shared<'a, J>,
-    /// What it told.
+    /// What it recorded.
     pub told: Vec<Told>,
 }
 

@@ -14,7 +14,7 @@ IsOtherPath text = (k p : ℕ) → IsTile k p → catalogue_spelling k p ≢ tex
 abbrev pub KeepsOthers : ShelfFiles → ShelfFiles → Type 0
 KeepsOthers old new = (text : List ℕ) → IsOtherPath text → get new text ≡ get old text
 
--- what stands at the path of a tile
+-- what is at the path of a tile
 abbrev pub at_tile : ShelfFiles → ℕ → ℕ → Option (List ℕ)
 at_tile files k p = get files (catalogue_spelling k p)
 
@@ -37,7 +37,7 @@ HasSomeOf expected but files =
 abbrev pub HasSome : Catalogue → ShelfFiles → Type 0
 HasSome catalogue files = (k p : ℕ) → IsTile k p → (at_tile files k p ≡ None) ⊎ (at_tile files k p ≡ tile_text catalogue k p)
 
--- the tiles that the catalogue hasn't got, or has otherwise, are gone
+-- the tiles that the catalogue hasn't got, or has with another text, are gone
 pub record IsCleared (catalogue : Catalogue) (old new : ShelfFiles) : Type 0 where
   pub some : HasSome catalogue new
   pub others : KeepsOthers old new
@@ -48,8 +48,8 @@ pub record IsClearing (old new : ShelfFiles) : Type 0 where
   pub some : HasSomeOf (at_tile old) but new
   pub others : KeepsOthers old new
 
--- the tiles are some of those before, or some of the catalogue's, at each path but one: so where each row of either stands in one
--- tile, no row stands in two tiles meanwhile
+-- the tiles are some of those before, or some of the catalogue's, at each path but one: so if each row of either is in one
+-- tile, no row is in two tiles meanwhile
 pub record IsUnfinished (catalogue : Catalogue) (old new : ShelfFiles) : Type 0 where
   pub but : List ℕ
   pub some : HasSomeOf (at_tile old) but new ⊎ HasSomeOf (tile_text catalogue) but new
@@ -65,7 +65,7 @@ pub record IsFilling (catalogue : Catalogue) (old new : ShelfFiles) : Type 0 whe
   pub some : HasSome catalogue old → HasSomeOf (tile_text catalogue) but new
   pub others : KeepsOthers old new
 
--- ---- where a shelf tells its files
+-- ---- where the proof can see a shelf's files
 
 abbrev pub OnFiles : (ShelfFiles → ShelfFiles → Type 0) → Option ShelfFiles → Option ShelfFiles → Type 0
 OnFiles R None new = ⊤

@@ -1,4 +1,4 @@
--- What stands next in the input, judged as the line of its number.
+-- What comes next in the input, judged as the line of its number.
 use Rattle.std.specs.Prelude.{◌≡◌, ℕ, ◌+◌, Bool, true, false, nat_lt, List, [], Option, Some, None, Result, Ok, Err, if◌then◌else◌}
 use Rattle.hips_catalog.specs.Catalogue.{Catalogue}
 use Rattle.catalog_command.specs.declared.stop.LineFault.TheVariants.{Long, Many}

@@ -47,20 +47,20 @@ most_lines = 2000000
 abbrev pub most_bytes : ℕ
 most_bytes = 512
 
--- what stands before, between and after the line feeds of some bytes
+-- what is before, between and after the line feeds of some bytes
 abbrev pub parts : List ℕ → List (List ℕ)
 parts bytes = slice_split (λ byte. byte == line_feed) bytes
 
 abbrev pub bad_line : {X : Type 0} → ℕ → LineFault → Result X Stop
 bad_line number fault = Err (Line (record { line = number; fault = fault }))
 
--- where what stands there is allowed as line of this number: there aren't too many lines, and it isn't too long
+-- if what is there is allowed as line of this number: there aren't too many lines, and it isn't too long
 abbrev pub where_allowed : ℕ → List ℕ → Result Catalogue Stop → Result Catalogue Stop
 where_allowed number part otherwise =
     if nat_lt most_lines number then bad_line number Many
     else (if nat_le most_bytes (length part) then bad_line number Long else otherwise)
 
--- what stands after the last line feed is no line: nothing, at the end of the input; else the input ends within a line
+-- what is after the last line feed is no line: nothing, at the end of the input; else the input ends within a line
 abbrev pub at_last : Catalogue → ℕ → List ℕ → Result Catalogue Stop
 at_last catalogue number [] = Ok catalogue
 at_last catalogue number (byte ∷ bytes) = where_allowed number (byte ∷ bytes) (Err Cut)

@@ -14,7 +14,7 @@ use Rattle.catalog_command.specs.declared.counts.Counts.{Counts}
 use Rattle.catalog_command.specs.Lines.{catalogue_of}
 use Rattle.catalog_command.specs.Files.{OnFiles, IsReplaced, IsUnfinished}
 
--- ---- what is said
+-- ---- what is written
 
 -- the number of a fault of a line
 abbrev pub kind_of : LineFault → ℕ
@@ -67,8 +67,8 @@ SaysOutcome (Err OutOfMemory) = EndsBy 11
 abbrev pub counts_of : Catalogue → Counts
 counts_of catalogue = record { rows = length catalogue.rows; tiles = length (existing_tiles catalogue) }
 
--- the outcome of what the input gives, over the files before and after: the tiles of its catalogue are on the shelf; or it gives
--- none, and the shelf stays. A shelf that fails, or want of memory, may stop it midway
+-- the outcome of what the input gives, over the files before and after: the tiles of its catalogue are on the shelf; or it
+-- gives none, and the shelf stays. A shelf that fails, or running out of memory, may stop it midway
 abbrev pub IsOutcome : Result Catalogue Stop → Option ShelfFiles → Option ShelfFiles → Result Counts Stop → Type 0
 IsOutcome given old new (Ok counts) = IsOkAnd given (λ catalogue. (counts ≡ counts_of catalogue) × OnFiles (IsReplaced catalogue) old new)
 IsOutcome given old new (Err (Line bad)) = (given ≡ Err (Line bad)) × (new ≡ old)

@@ -18,11 +18,11 @@ pub record IsTilePath (path : List ℕ) : Type 0 where
   pub is : IsTile order npix
   pub spelled : catalogue_spelling order npix ≡ path
 
--- what stands at the path is the tile of the cell
+-- what is at the path is the tile of the cell
 abbrev pub HasRight : Catalogue → NestedCell → List ℕ → ShelfFiles → Type 0
 HasRight catalogue cell path files = get files path ≡ tile_text catalogue cell.order cell.npix
 
--- what stands at the path is the tile of its cell, if it has one
+-- what is at the path is the tile of its cell, if it has one
 abbrev pub IsSettled : Catalogue → List ℕ → ShelfFiles → Type 0
 IsSettled catalogue path files = (k p : ℕ) → IsTile k p → catalogue_spelling k p ≡ path → get files path ≡ tile_text catalogue k p
 

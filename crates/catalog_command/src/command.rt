@@ -90,7 +90,7 @@ where
     Ok(Counts { rows, tiles })
 }
 
-// Says why there is no catalogue, where it is said, and answers the status.
+// Writes why there is no catalogue, if that is written, and answers the status.
 fn end_by<K: Sink>(alloc: Global, sink: &mut K, stop: Stop) -> u8
     ensures said { SaysOutcome (Err stop) result (K.held sink.old) (K.held sink.new) (K.flushed sink.old) (K.flushed sink.new) }
     ensures not_usage { result ≢ 1 }

@@ -1,6 +1,6 @@
-//! What stands next in the input.
+//! What comes next in the input.
 
-/// What stands next in the input.
+/// What comes next in the input.
 #[derive(Clone, Copy, Debug, PartialEq, Eq)]
 pub(crate) enum Found {
     /// A line of so many bytes, and its line feed.

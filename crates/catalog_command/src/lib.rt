@@ -1,7 +1,7 @@
 //! The command `catalog`.
 //!
-//! `run_catalog` reads rows and removals from a source, a line each, and puts the tiles of their catalogue on a shelf. It is the
-//! whole command over the ends that it is given: it writes what there is to say, and answers the exit status.
+//! `run_catalog` reads rows and removals from a source, a line each, and puts the tiles of their catalogue on a shelf. It is
+//! the whole command over the ends that it is given: it writes its output, and answers the exit status.
 #![tactic(auto)]
 
 mod command;

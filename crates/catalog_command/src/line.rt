@@ -20,7 +20,7 @@ pub(crate) enum LineRefusal {
     OutOfMemory,
 }
 
-/// Puts the row of a line in, or takes out the one that it names. The line stands without its line feed.
+/// Puts the row of a line in, or takes out the one that it names. The line is given without its line feed.
 #[tactic(auto, unfolding(crate::specs::Lines::after_line))]
 pub(crate) fn use_line(
     alloc: Global,

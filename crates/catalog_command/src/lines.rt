@@ -15,7 +15,7 @@ const MOST_BYTES: usize = 512;
 /// How many bytes are read at once at most.
 pub(crate) const ROOM: usize = 65_536;
 
-/// What stands next in the input, of which no more is read than tells it.
+/// What comes next in the input, of which no more is read than decides it.
 ///
 /// # Errors
 ///
@@ -54,7 +54,7 @@ fn read_more<S: Source>(inbox: &mut Inbox, source: &mut S) -> Result<usize, Fail
     inbox.read(source, ROOM)
 }
 
-// What stands next, where the bytes that are held tell it.
+// What comes next, if the bytes held decide it.
 fn told(held: &[u8]) -> Option<Found>
     ensures found { IfSome result (λ found. (left : Option (List ℕ)) → IsFound held.now left found) }
     ensures few { IsNone result → length held.now < most_bytes }
@@ -72,7 +72,7 @@ fn told(held: &[u8]) -> Option<Found>
     }
 }
 
-// What stands next, where the bytes that are held don't tell it and nothing follows them.
+// What comes next, if the bytes held don't decide it and nothing follows them.
 fn at_end(held: &[u8]) -> Found
     requires few { length held.now < most_bytes }
     requires none { place_of_feed held.now ≡ None }
@@ -85,7 +85,7 @@ fn at_end(held: &[u8]) -> Found
     }
 }
 
-// Where the first line feed stands.
+// Where the first line feed is.
 fn place_of_feed(bytes: &[u8]) -> Option<usize>
     ensures { result ≡ place_of_feed bytes.now }
 {

@@ -58,7 +58,7 @@ pub(crate) fn read_catalog<R: AllocGlobal + Clock + Log, S: Source>(
     }
 }
 
-// Uses the line of this number, which stands next in the input; false at the end of the input.
+// Uses the line of this number, which comes next in the input; false at the end of the input.
 fn take_line<S: Source>(
     alloc: Global,
     inbox: &mut Inbox,
@@ -96,7 +96,7 @@ fn take_line<S: Source>(
     }
 }
 
-// How many bytes the line of this number has, by what stands next; `None` at the end of the input.
+// How many bytes the line of this number has, by what comes next; `None` at the end of the input.
 fn judged(number: u64, found: Found) -> Result<Option<usize>, Stop>
     ensures judged { result ≡ judged number found }
     ensures kinds { IfErr result IsReading }

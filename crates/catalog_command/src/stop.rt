@@ -7,7 +7,7 @@ use std::alloc::AllocError;
 use std::fmt;
 use survey_link::{Failed, LinkFault};
 
-/// What is wrong with a line. Where several stand, it is the last of these or else `Long`, or else the first.
+/// What is wrong with a line. If several apply, it is the last of these or else `Long`, or else the first.
 #[derive(Clone, Copy, Debug, PartialEq, Eq)]
 pub enum LineFault {
     /// It is no row, or takes out a row by what is no id.

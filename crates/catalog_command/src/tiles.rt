@@ -20,8 +20,8 @@ use tile_path::laws::catalogue_spellings_differ;
 use tile_path::read_tsv;
 
 /// Makes the catalogue tiles on the shelf those of the catalogue, and answers how many these are. No other path is touched.
-/// First each tile that the catalogue hasn't got, or has otherwise, is removed; then all its tiles are put, the lowest orders
-/// first. So no row stands in two tiles meanwhile.
+/// First each extra or stale tile is removed; then all its tiles are put, the lowest orders first. So no row is in two tiles
+/// meanwhile.
 ///
 /// # Errors
 ///
@@ -42,7 +42,7 @@ pub(crate) fn put_tiles<R: AllocGlobal + Clock + Log, H: Shelf>(
     fill(rt, shelf, catalog)
 }
 
-// Removes each catalogue tile on the shelf that the catalogue hasn't got, or has otherwise.
+// Removes each extra or stale catalogue tile on the shelf.
 fn clear<H: Shelf>(alloc: Global, shelf: &mut H, catalog: &Catalog) -> Result<(), LinkFault>
     ensures cleared { OnOk result (OnFiles (IsCleared catalog.now) (H.files shelf.old) (H.files shelf.new)) }
     ensures refused { OnErr result (OnFiles IsClearing (H.files shelf.old) (H.files shelf.new)) }
@@ -53,7 +53,7 @@ fn clear<H: Shelf>(alloc: Global, shelf: &mut H, catalog: &Catalog) -> Result<()
     clear_paths(alloc, shelf, catalog, &paths)
 }
 
-// Removes those of these files that are catalogue tiles which the catalogue hasn't got, or has otherwise.
+// Removes those of these files that are extra or stale catalogue tiles.
 fn clear_paths<H: Shelf>(
     alloc: Global,
     shelf: &mut H,
@@ -71,7 +71,7 @@ fn clear_paths<H: Shelf>(
     Ok(())
 }
 
-// Removes the file at a path where it is a catalogue tile that the catalogue hasn't got, or has otherwise.
+// Removes the file at a path if it is an extra or stale catalogue tile.
 fn clear_path<H: Shelf>(
     alloc: Global,
     shelf: &mut H,

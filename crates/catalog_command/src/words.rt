@@ -1,8 +1,8 @@
-//! What is said to the log.
+//! What is logged.
 use crate::stop::{BadLine, LineFault, Stop};
 use log::{Log, error, info};
 
-/// Says why no catalogue was put on the shelf, where that lies in the input.
+/// Logs why no catalogue was put on the shelf, if the reason lies in the input.
 pub(crate) fn say_stop<R: Log>(rt: &R, stop: Stop) {
     match stop {
         Stop::Cut => error!(rt; "the last line has no line feed: the input may be cut off"),
@@ -11,7 +11,7 @@ pub(crate) fn say_stop<R: Log>(rt: &R, stop: Stop) {
     }
 }
 
-// Says what is wrong with a line, and what is allowed.
+// Logs what is wrong with a line, and what is allowed.
 fn say_bad_line<R: Log>(rt: &R, bad: BadLine) {
     let (line, kind) = (bad.line, bad.fault.kind());
     match bad.fault {
@@ -29,7 +29,7 @@ fn say_bad_line<R: Log>(rt: &R, bad: BadLine) {
     }
 }
 
-/// Says how many rows and tiles are on the shelf.
+/// Logs how many rows and tiles are on the shelf.
 pub(crate) fn say_written<R: Log>(rt: &R, rows: u64, tiles: u64) {
     info!(rt; "{rows} rows in {tiles} tiles");
 }

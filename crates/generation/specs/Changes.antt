@@ -13,7 +13,7 @@ AreTiles leaves = All (λ tile. IsTile tile.depth tile.n tile.numbers) (values_o
 abbrev pub IsTileOf : Option PixelTile → Type 0
 IsTileOf found = IfSome found (λ tile. IsTile tile.depth tile.n tile.numbers)
 
--- the same leaf numbers stand in both lists
+-- the same leaf numbers are in both lists
 pub record AreLeavesOf (all kept : List ℕ) : Type 0 where
   pub each : All (Contains kept) all
   pub only : All (Contains all) kept

@@ -1,5 +1,5 @@
--- The files of a survey (HiPS 1.0, section 4): which paths there are, and what stands at each, by the description and the
--- leaves alone.
+-- The files of a survey (HiPS 1.0, section 4): which paths there are, and what is at each, by the description and the leaves
+-- alone.
 use Rattle.std.specs.Prelude.{ℕ, ◌+◌, ◌-◌, List, [], ◌∷◌, ◌++◌, map, filter, length}
 use Rattle.std.specs.List.{flat_map, range_with_len}
 use Rattle.std.specs.Map.{keys_of}
@@ -32,7 +32,7 @@ existing shape leaves order = filter (exists shape leaves order) (range_with_len
 abbrev pub tile_paths : PyramidShape → LeafMap → ℕ → List Path
 tile_paths shape leaves order = map (λ npix. Tile (record { order = order; npix = npix })) (existing shape leaves order)
 
--- the mosaic is there where there is a leaf
+-- the mosaic is there if there is a leaf
 abbrev pub mosaic_paths : LeafMap → List Path
 mosaic_paths [] = []
 mosaic_paths (_ ∷ _) = Allsky ∷ []
@@ -42,7 +42,7 @@ unfoldable pub paths : PyramidShape → LeafMap → List Path
 paths shape leaves =
     Properties ∷ Moc ∷ (mosaic_paths leaves ++ flat_map (tile_paths shape leaves) (range_with_len shape.low (shape.top + 1 - shape.low)))
 
--- what stands at a path
+-- what is at a path
 unfoldable pub file_of : Description → LeafMap → Path → List ℕ
 file_of d leaves Properties = properties_text d (length leaves)
 file_of d leaves Moc = moc_file d.shape.top (cover d.shape.top (keys_of leaves))

@@ -60,7 +60,7 @@ AllKept shape leaves touched levels =
 abbrev pub SameOrder3 : PyramidShape → List ℕ → LeafMap → LeafMap → Type 0
 SameOrder3 shape touched old new = (cell : ℕ) → (Contains touched cell → ⊥) → value_at cell (tiles_of shape old 3) ≡ value_at cell (tiles_of shape new 3)
 
--- how many bytes the pixels of a mosaic are; in its file they stand first in the blocks at the end
+-- how many bytes the pixels of a mosaic are; in its file they come first in the blocks at the end
 abbrev pub pixel_len : Description → ℕ
 pixel_len d = mosaic_count d.shape.n * (d.shape.depth.bitpix / 8)
 

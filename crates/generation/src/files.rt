@@ -1,4 +1,4 @@
-//! Files as they are handed out.
+//! Files as they are served.
 ghost use Rattle.std.specs.Prelude.{◌≡◌, ◌+◌, ◌^◌, ◌<◌, ◌≤◌, [], ◌++◌, length, replicate, option_map, IfSome, MatchOption};
 ghost use Rattle.std.specs.FinMap.{get};
 ghost use Rattle.fits_header.specs.Cards.{whole_blocks};
@@ -20,7 +20,7 @@ use tile_pixels::Tile;
 // What the last block of a tile file is filled with.
 static ZEROS: [u8; BLOCK_LEN] = [0; BLOCK_LEN];
 
-/// A file that is handed out.
+/// A file that is served.
 #[derive(Drop)]
 pub enum Body<'a> {
     /// It was written at the front of the caller's buffer, and has so many bytes.

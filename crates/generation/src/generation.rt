@@ -267,7 +267,7 @@ impl Generation {
     }
 
     /// Path `i` of the files, from 0: the properties, the coverage, the mosaic where it is, and then the tiles by order and
-    /// number; `None` exactly past the last.
+    /// number; `None` if and only if `i` is past the last.
     pub fn path(&self, i: u64) -> Option<Path>
         ensures path { result ≡ slice_get (paths_in self.now) i }
         ensures known { IfSome result IsPath }

@@ -89,7 +89,7 @@ fn share_or_empty(alloc: Global, store: Option<&Store<Tile>>) -> Result<Store<Ti
     }
 }
 
-// The tiles with each of these in its place; a cell that has none is taken out.
+// The tiles with each of these in its place; a cell that has none is removed.
 fn with_tiles(tiles: Store<Tile>, merged: &[Named]) -> Result<Store<Tile>, AllocError>
     requires { IsAscending tiles }
     ensures tiles { IfOk result (λ after. (cell : ℕ) → value_at cell after ≡ tile_after (all_shown merged.now) cell (value_at cell tiles)) }
@@ -102,7 +102,7 @@ fn with_tiles(tiles: Store<Tile>, merged: &[Named]) -> Result<Store<Tile>, Alloc
     Ok(after)
 }
 
-// Puts a tile in its place, or takes it out where the cell has none.
+// Puts a tile in its place, or removes it if the cell has none.
 fn put_or_remove(tiles: &mut Store<Tile>, named: &Named) -> Result<(), AllocError>
     ensures tiles { OnOk result ((cell : ℕ) → value_at cell tiles.new ≡ tile_at (shown named.now) cell (value_at cell tiles.old)) }
     ensures ascending { OnOk result (IsAscending tiles.new) }

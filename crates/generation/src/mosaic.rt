@@ -60,7 +60,7 @@ pub(crate) fn patched_file(
     Ok(Some(file))
 }
 
-// Makes the file of the mosaic that there was before that of these tiles. The pixels stand first in the blocks at its end.
+// Makes the file of the mosaic that there was before that of these tiles. The pixels come first in the blocks at its end.
 fn patch_pixels(
     alloc: Global,
     conf: &Conf,

@@ -178,7 +178,7 @@ impl Pyramid {
         }
     }
 
-    /// The cell of tile `i`, from 0, by order and number; `None` exactly past the last.
+    /// The cell of tile `i`, from 0, by order and number; `None` if and only if `i` is past the last.
     pub(crate) fn cell(&self, i: u64) -> Option<Cell>
         ensures cell { option_map (λ cell. TilePath cell) result
             ≡ slice_get (flat_map (tile_paths self.now.shape (leaf_map self.now.leaves)) (range_with_len self.now.shape.low (self.now.shape.top + 1 - self.now.shape.low))) i }

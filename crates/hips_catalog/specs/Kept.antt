@@ -18,13 +18,13 @@ pub record IsKeptCatalogue (catalogue : Catalogue) (tiles : List Tile) : Type 0 
   pub full : NoneIsEmpty tiles
   pub tiles_are : AreTilesOf catalogue.top catalogue.per_tile (in_order catalogue.rows) tiles
 
--- the source of the id stands at this place
+-- the source of the id is at this place
 pub record StandsAt (id : List ℕ) (ss : List Source) (at : ℕ) : Type 0 where
   pub there : has_id id ss ≡ true
   pub within : at < length ss
   pub without : remove ss at ≡ without_id id ss
 
--- no source has the id, and one would stand at this place
+-- no source has the id, and one would be at this place
 pub record WouldStandAt (id : List ℕ) (ss : List Source) (at : ℕ) : Type 0 where
   pub absent : has_id id ss ≡ false
   pub within : at ≤ length ss

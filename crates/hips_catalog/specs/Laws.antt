@@ -19,14 +19,14 @@ abbrev pub IsAmong : Source → List Source → Type 0
 IsAmong s [] = ⊥
 IsAmong s (r ∷ rs) = (s ≡ r) ⊎ IsAmong s rs
 
--- the source stands in one tile, of some order, whose cell its own cell lies under, and in no other
+-- the source is in one tile, of some order, whose cell its own cell lies under, and in no other
 pub record StandsInOneTile (catalogue : Catalogue) (s : Source) : Type 0 where
   pub order : ℕ
   pub known : order ≤ catalogue.top
   pub there : IsAmong s (tile_rows catalogue order (s.npix / 4 ^ (catalogue.top - order)))
   pub nowhere_else : (k p : ℕ) → IsAmong s (tile_rows catalogue k p) → (k ≡ order) × (p ≡ s.npix / 4 ^ (catalogue.top - order))
 
--- each row stands in exactly one tile, on the path of its cell
+-- each row is in exactly one tile, on the path of its cell
 abbrev pub EachRowStandsInOneTile : Type 0
 EachRowStandsInOneTile = (catalogue : Catalogue) → AscendById catalogue.rows → (s : Source) → IsAmong s catalogue.rows → StandsInOneTile catalogue s
 

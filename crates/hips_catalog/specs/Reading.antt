@@ -16,7 +16,7 @@ use Rattle.hips_catalog.specs.declared.fault.RowRefusal.TheVariants.{Fault, OutO
 abbrev pub tab : ℕ
 tab = 9
 
--- what stands before, between and after the TABs of a line
+-- what is before, between and after the TABs of a line
 abbrev pub fields : List ℕ → List (List ℕ)
 fields line = slice_split (λ byte. byte == tab) line
 

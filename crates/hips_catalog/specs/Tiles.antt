@@ -35,7 +35,7 @@ AreListed (t ∷ ts) = IsCell t.cell.order t.cell.npix × AllByRecursion (λ s. 
 abbrev pub HasTile : List Tile → ℕ → NestedCell → Type 0
 HasTile tiles at cell = slice_get (map (λ t. t.cell) tiles) at ≡ Some cell
 
--- where a tile of the cell would stand, and doesn't
+-- where a tile of the cell would be, and isn't
 pub record IsGap (tiles : List Tile) (at : ℕ) (cell : NestedCell) : Type 0 where
   pub place : at ≡ leading (λ t. nat_lt (number t) (uniq_number cell.order cell.npix)) tiles
   pub other : (tile : Tile) → slice_get tiles at ≡ Some tile → is_of cell.order cell.npix tile ≡ false

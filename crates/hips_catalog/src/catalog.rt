@@ -139,7 +139,7 @@ impl Catalog {
         self.ids.len() as u64
     }
 
-    /// The cell of tile `i` of those that exist, by order and number, from 0; `None` exactly past the last.
+    /// The cell of tile `i` of those that exist, by order and number, from 0; `None` if and only if `i` is past the last.
     pub fn tile(&self, i: u64) -> Option<Cell>
         ensures { result ≡ slice_get (existing_tiles self.now) i }
     {
@@ -149,7 +149,7 @@ impl Catalog {
         }
     }
 
-    /// Row `i` of the cell's tile, the best first, from 0; `None` exactly past the last.
+    /// Row `i` of the cell's tile, the best first, from 0; `None` if and only if `i` is past the last.
     pub fn row(&self, cell: Cell, i: u64) -> Option<&Row>
         ensures { option_copied result ≡ slice_get (tile_rows self.now cell.order cell.npix) i }
     {
@@ -189,7 +189,7 @@ impl Catalog {
         })
     }
 
-    // The place of the row with the id among the ids, or else where it would stand.
+    // The place of the row with the id among the ids, or else where it would be.
     fn find(&self, id: &[u8]) -> Result<usize, usize>
         ensures there { IfOk result (λ at. StandsAt id.now self.now.rows at) }
         ensures absent { IfErr result (λ at. WouldStandAt id.now self.now.rows at) }

@@ -7,7 +7,7 @@ use std::alloc::AllocError;
 use std::error::Error;
 use std::fmt;
 
-/// What is wrong with the line of a row. Where several stand, it is the first of these. It is shown in words.
+/// What is wrong with the line of a row. If several apply, it is the first of these. It is shown in words.
 #[derive(Clone, Copy, Debug, PartialEq, Eq)]
 pub enum RowFault {
     /// It hasn't exactly three TABs.

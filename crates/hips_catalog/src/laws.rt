@@ -11,7 +11,7 @@ pub fn row_is_read()
     plain_is_read();
 }
 
-/// Each row of a catalogue stands in exactly one tile, that of a cell which its own cell lies under.
+/// Each row of a catalogue is in exactly one tile, that of a cell which its own cell lies under.
 pub fn each_row_stands_in_one_tile()
     ensures { EachRowStandsInOneTile }
 {}

@@ -9,7 +9,7 @@ use decimal_scale::plain_decimal;
 use healpix_nested::cells;
 use std::alloc::Global;
 
-// What stands between two fields.
+// What separates two fields.
 const TAB: u8 = b'\t';
 
 // The longest id and the longest rest, in bytes.
@@ -109,7 +109,7 @@ fn fields_of(line: &[u8]) -> Option<Fields>
     }
 }
 
-// The first field, and what stands behind its TAB; `None` if and only if there is no TAB.
+// The first field, and what follows its TAB; `None` if and only if there is no TAB.
 fn cut(text: &[u8]) -> Option<(&[u8], &[u8])>
     ensures { MatchOption result (spec_fields text.now ≡ text.now ∷ []) (λ parts. spec_fields text.now ≡ parts.0.now ∷ spec_fields parts.1.now) }
 {
@@ -117,7 +117,7 @@ fn cut(text: &[u8]) -> Option<(&[u8], &[u8])>
     Some((&text[..at], &text[at + 1..]))
 }
 
-// Where the first TAB stands.
+// Where the first TAB is.
 fn place_of_tab(text: &[u8]) -> Option<usize>
     ensures { result ≡ position (λ byte. byte == tab) text.now }
 {
@@ -175,7 +175,7 @@ pub fn is_id(text: &[u8]) -> bool
     1 <= text.len() && text.len() <= MOST_ID && is_visible(text)
 }
 
-// Whether each byte is that of a character of ASCII that is seen.
+// Whether each byte is that of a visible character of ASCII.
 fn is_visible(text: &[u8]) -> bool
     ensures { result ≡ list_all (λ byte. nat_le 33 byte && nat_le byte 126) text.now }
 {

@@ -7,7 +7,7 @@ use std::alloc::AllocError;
 use std::error::Error;
 use std::fmt;
 
-/// Why a row isn't put into a catalogue. Where several stand, it is the first of these. It is shown in words.
+/// Why a row isn't put into a catalogue. If several apply, it is the first of these. It is shown in words.
 #[derive(Clone, Copy, Debug, PartialEq, Eq)]
 pub enum InsertRefusal {
     /// A row has its id.

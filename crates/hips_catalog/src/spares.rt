@@ -38,7 +38,7 @@ impl Spares {
         self.nodes.pop().ok_or(AllocError)
     }
 
-    /// Keeps one that wasn't wanted.
+    /// Keeps one that wasn't used.
     pub(crate) fn put_back(&mut self, spare: Option<Item<Tile>>) {
         if let Some(node) = spare {
             let _kept = self.nodes.push(node);

@@ -60,7 +60,7 @@ impl Tile {
     }
 }
 
-/// The cell's tile and its place, or else the place where it would stand.
+/// The cell's tile and its place, or else the place where it would be.
 pub(crate) fn find(tiles: &Tiles, cell: Cell) -> Result<(usize, &Tile), usize>
     requires { AreListed tiles.now }
     ensures there { IfOk result (λ found. HasTile tiles.now found.0 cell) }
@@ -94,7 +94,7 @@ fn with_place(tiles: &Tiles, cell: Cell) -> (usize, &Tile)
     }
 }
 
-// Takes the cell's tile out for a change of its rows. Until it is swapped back, one without rows stands in its place.
+// Takes the cell's tile out for a change of its rows. Until it is swapped back, one without rows is in its place.
 fn lift(tiles: &mut Tiles, cell: Cell, at: usize) -> Tile
     requires listed { AreListed tiles.old }
     requires there { HasTile tiles.old at cell }
@@ -316,7 +316,7 @@ pub(crate) fn offer(
     }
 }
 
-/// The place of a row in the cell's tile, and whether a row stands there than which neither is better.
+/// The place of a row in the cell's tile, and whether a row with its rank and id is there.
 pub(crate) fn seek(tiles: &Tiles, cell: Cell, row: &Row) -> (usize, bool)
     requires { AreListed tiles.now }
     ensures place { HoldsAtFirst (λ s. is_better s row.now) (rows_at tiles.now cell.order cell.npix) → result.0 ≡ leading (λ s. is_better s row.now) (rows_at tiles.now cell.order cell.npix) }

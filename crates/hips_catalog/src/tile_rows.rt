@@ -30,8 +30,8 @@ impl<'a> Probe<Ranked> for Worse<'a> {
     }
 }
 
-/// Rows that several lists share, in some order. The ranks at both ends stand beside them, so that most rows are placed without
-/// a look at any of these, which are elsewhere in memory. Contracts see the shared rows.
+/// Rows that several lists share, in some order. The ranks at both ends are kept beside them, so that most rows are placed
+/// without a look at any of these, which are elsewhere in memory. Contracts see the shared rows.
 #[derive(Drop)]
 pub(crate) struct TileRows {
     list: FrontedList<Ranked>,
@@ -82,7 +82,7 @@ fn last_without(list: &FrontedList<Ranked>, i: usize, before: u64) -> u64
     }
 }
 
-// The place of a row among rows in order, and whether one stands there than which neither is better.
+// The place of a row among rows in order, and whether a row with its rank and id is there.
 fn search(rows: &FrontedList<Ranked>, row: &Row) -> (usize, bool)
     ensures place { HoldsAtFirst (λ s. is_better s row.now) (sources rows.now) → result.0 ≡ leading (λ s. is_better s row.now) (sources rows.now) }
     ensures yes { result.1 ≡ true → (s : Source) × (slice_get (sources rows.now) result.0 ≡ Some s) × (is_better s row.now ≡ false) × (is_better row.now s ≡ false) }
@@ -127,7 +127,7 @@ impl TileRows {
         self.list.len()
     }
 
-    /// Row `i`, from 0; `None` exactly past the last.
+    /// Row `i`, from 0; `None` if and only if `i` is past the last.
     pub(crate) fn get(&self, i: usize) -> Option<&Ranked>
         ensures { option_copied result ≡ slice_get self.now i }
     {
@@ -145,7 +145,7 @@ impl TileRows {
         self.list.to_vec(alloc)
     }
 
-    /// Puts the row in at place `i`; those from there on stand one place later.
+    /// Puts the row in at place `i`; those from there on move one place back.
     pub(crate) fn insert(&mut self, i: usize, row: Item<Ranked>)
         requires place { i ≤ length self.old }
         requires fits { length self.old + 1 < 2 ^ 64 }
@@ -161,7 +161,7 @@ impl TileRows {
         self.list.insert(i, row);
     }
 
-    /// Takes out row `i`; those after it stand one place sooner.
+    /// Takes out row `i`; those after it move one place forward.
     pub(crate) fn remove(&mut self, i: usize) -> Item<Ranked>
         requires { i < length self.old }
         ensures items { self.new ≡ remove self.old i }
@@ -200,7 +200,7 @@ impl TileRows {
         }
     }
 
-    /// The place of the row among these, if they are in order, and whether one stands there than which neither is better.
+    /// The place of the row among these, if they are in order, and whether a row with its rank and id is there.
     pub(crate) fn seek(&self, row: &Row) -> (usize, bool)
         ensures place { HoldsAtFirst (λ s. is_better s row.now) (sources self.now) → result.0 ≡ leading (λ s. is_better s row.now) (sources self.now) }
         ensures yes { result.1 ≡ true → (s : Source) × (slice_get (sources self.now) result.0 ≡ Some s) × (is_better s row.now ≡ false) × (is_better row.now s ≡ false) }
@@ -212,7 +212,7 @@ impl TileRows {
         }
     }
 
-    // The place of a row that isn't among these, where its rank and those at the ends tell it.
+    // The place of a row that isn't among these, where its rank and those at the ends decide it.
     fn place_by_ends(&self, row: &Row) -> Option<usize>
         ensures place { IfSome result (λ at. HoldsAtFirst (λ s. is_better s row.now) (sources self.now) → at ≡ leading (λ s. is_better s row.now) (sources self.now)) }
         ensures within { IfSome result (λ at. at ≤ length self.now) }

@@ -12,7 +12,7 @@ pub record Takes (held held' : List ℕ) (left left' : Option (List ℕ)) : Type
   pub grown : held' ≡ held ++ more
   pub consumed : Consumes left left' more
 
--- the input ends before so many bytes stand behind those that are held
+-- the input ends before so many bytes follow those that are held
 pub record EndsShort (count : ℕ) (held : List ℕ) (left left' : Option (List ℕ)) : Type 0 where
   pub all : List ℕ
   pub taken : Takes held all left left'

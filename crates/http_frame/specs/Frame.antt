@@ -19,7 +19,7 @@ pub record FrameState : Type 0 where
   pub turn : Turn
   pub room : ℕ
 
--- the unread bytes of the connection: those held, and those left in the source where it tells them
+-- the unread bytes of the connection: those held, and those left in the source, where the proof can see them
 abbrev pub unread : FrameState → Option (List ℕ) → Option (List ℕ)
 unread frame left = prepend_known frame.held left
 
@@ -35,11 +35,11 @@ AwaitsBody AtHead = ⊥
 AwaitsBody (AtBody n) = ⊤
 AwaitsBody (Stopped stop) = ⊤
 
--- this stands next in the unread bytes, where the proof can see them
+-- this comes next in the unread bytes, where the proof can see them
 abbrev pub NextIs : ℕ → Option (List ℕ) → NextHead → Type 0
 NextIs room known next = IfSome known (λ bytes. IsNextHead room bytes next)
 
--- a head was read: where the source tells its bytes, it is the next one, and the bytes after it are unread
+-- a head was read: where the proof can see the bytes, it is the next one, and the bytes after it are unread
 pub record ReadsHead (old new : FrameState) (left left' : Option (List ℕ)) (request : Request) : Type 0 where
   pub next : IfSome (unread old left) (λ bytes. IsSomeAnd (unread new left') (λ rest. IsNextHead old.room bytes (found request new.path rest)))
   pub turn : new.turn ≡ AtBody request.length

@@ -25,7 +25,7 @@ pub record IsHeadLength (unread : List ℕ) (n : ℕ) : Type 0 where
 abbrev pub HasNoHead : List ℕ → Type 0
 HasNoHead unread = Nowhere (OccursAt unread head_end) 0 (most_head - 3)
 
--- what stands next in the unread bytes
+-- what comes next in the unread bytes
 pub data NextHead : Type 0 where
   ended : NextHead
   cut_off : NextHead
@@ -57,19 +57,19 @@ IsRefusedNext room unread code =
     (HasNoHead unread × (most_head ≤ length unread) × (code ≡ 431))
     ⊎ ((n : ℕ) × IsHeadLength unread n × IsRefused room (take n unread) code)
 
--- this stands next, where a body may have that many bytes
+-- this comes next, if a body may have that many bytes
 abbrev pub IsNextHead : ℕ → List ℕ → NextHead → Type 0
 IsNextHead room unread ended = unread ≡ []
 IsNextHead room unread cut_off = IsCut unread
 IsNextHead room unread (refused code) = IsRefusedNext room unread code
 IsNextHead room unread (found request path rest) = IsFound room unread request path rest
 
--- more bytes are needed to tell what stands next
+-- more bytes are needed to decide what comes next
 pub record NeedsMore (held : List ℕ) : Type 0 where
   pub short : length held < most_head
   pub none : HasNoHead held
 
--- what stands next with its body: a whole request has its body after its head
+-- what comes next with its body: a whole request has its body after its head
 pub data Next : Type 0 where
   no_request : Next
   cut_request : Next

@@ -95,7 +95,7 @@ IsRefused room text code =
     ⊎ ((names_other_version text ≡ false) × ((head : RequestHead) → ¬ IsOneHead text head) × (code ≡ 400))
     ⊎ ((names_other_version text ≡ false) × (head : RequestHead) × IsOneHead text head × (refusal_of room head ≡ Some code))
 
--- the text is this head, and no reason stands to refuse it
+-- the text is this head, and no reason to refuse it applies
 pub record IsAccepted (room : ℕ) (text : List ℕ) (head : RequestHead) : Type 0 where
   pub version : names_other_version text ≡ false
   pub one : IsOneHead text head

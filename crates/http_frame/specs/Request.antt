@@ -31,7 +31,7 @@ first_number (value ∷ rest) = digits_value 10 value
 abbrev pub body_length : List NamedValue → ℕ
 body_length fields = first_number (values (codes "content-length") fields)
 
--- the connection is to be closed after the reply
+-- the connection must be closed after the reply
 abbrev pub asks_to_close : ℕ → List NamedValue → Bool
 asks_to_close minor fields = (minor == 0) || list_any (has_item (codes "close")) (values (codes "connection") fields)
 

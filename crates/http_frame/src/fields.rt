@@ -11,7 +11,7 @@ use std::marker::Model;
 /// The greatest number of fields in a head.
 pub const MAX_FIELDS: usize = 64;
 
-/// The fields of a head: its bytes, and where in them each name and each value stands.
+/// The fields of a head: its bytes, and where in them each name and each value is.
 #[derive(Drop)]
 pub struct Fields<'a> {
     head: &'a [u8],
@@ -31,7 +31,7 @@ impl<'a> Model for Fields<'a> {
 }
 
 impl<'a> Fields<'a> {
-    /// The fields of a head that stand there.
+    /// The fields of a head at these places.
     pub fn new(head: &'a [u8], spans: &'a [HeaderSpan]) -> Fields<'a>
         requires count { length spans.now ≤ 64 }
         requires within { All (IsHeaderWithin (length head.now)) spans.now }

@@ -91,8 +91,8 @@ impl Frame {
         self.turn = Turn::AtHead;
     }
 
-    /// The next head. The source is read only while the bytes that are held don't tell what stands next, and not after a
-    /// reading that failed.
+    /// The next head. The source is read only while the bytes held don't decide what comes next, and not after a reading that
+    /// failed.
     ///
     /// # Errors
     ///

@@ -14,7 +14,7 @@ use httparse::Status;
 use httparse::spans::{EMPTY_HEADER_SPAN, HeaderSpan, RequestSpans, Span, parse_request};
 use memchr::memmem;
 
-/// What a head asks for, and where its target stands in it.
+/// What a head asks for, and where its target is in it.
 #[derive(Drop)]
 pub(crate) struct Head {
     pub request: Request,
@@ -45,7 +45,7 @@ pub(crate) fn read_head(text: &[u8], room: usize) -> Result<Head, u16>
     })
 }
 
-// Where the parts of the head stand, where the text is exactly one head.
+// Where the parts of the head are, if the text is exactly one head.
 fn parse_head(text: &[u8], spans: &mut [HeaderSpan]) -> Option<RequestSpans>
     requires { length spans.old ≡ 64 }
     ensures parsed { IfSome result (λ parsed. IsParsed text.now spans.new parsed) }
@@ -137,7 +137,7 @@ fn asked(method: Method, version: u8, fields: &Fields<'_>, length: u64) -> Reque
     }
 }
 
-// Whether the connection is to be closed after the reply.
+// Whether the connection must be closed after the reply.
 fn closes(version: u8, fields: &Fields<'_>) -> bool
     ensures { result ≡ asks_to_close version fields.now }
 {
@@ -203,7 +203,7 @@ fn names_other_version(text: &[u8]) -> bool
     ends_in_other_version(first_line(text))
 }
 
-// What stands before the first CR LF, or the whole text where there is none.
+// What is before the first CR LF, or the whole text if there is none.
 fn first_line(text: &[u8]) -> &[u8]
     ensures { result.now ≡ first_line text.now }
 {

@@ -1,8 +1,8 @@
 //! One HTTP/1.1 connection as bytes (RFC 9110, RFC 9112).
 //!
 //! A `Frame` reads the next request from a source, in whatever pieces its bytes come: what its head asks for, its decoded
-//! path, and its body. `write_reply`, `write_reply_parts` and `write_continue` write replies to a sink. `fill_head` and `take_exact`
-//! read a head and so many bytes where no request is due.
+//! path, and its body. `write_reply`, `write_reply_parts` and `write_continue` write replies to a sink. `fill_head` and
+//! `take_exact` read a head and so many bytes where no request is due.
 #![tactic(auto)]
 
 mod fields;

@@ -12,7 +12,7 @@ use survey_link::{Failed, Sink, write_all_parts, write_whole};
 /// The methods that a reply with code 405 allows.
 #[derive(Clone, Copy, Debug, PartialEq, Eq)]
 pub enum Allow {
-    /// The reply says nothing of methods.
+    /// The reply lists no methods.
     Absent,
     /// Those of a control path: `POST`.
     Control,
@@ -36,7 +36,7 @@ pub enum Kind {
 /// The state that a reply is of, by a number of edits.
 #[derive(Clone, Copy, Debug, PartialEq, Eq)]
 pub enum Number {
-    /// The reply says nothing of it.
+    /// The reply doesn't name it.
     Absent,
     /// The edits of the published generation: `Survey-Prefix`.
     Prefix(u32),

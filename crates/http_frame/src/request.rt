@@ -2,7 +2,7 @@
 ghost use Rattle.std.specs.Prelude.{◌≡◌};
 ghost use Rattle.http_frame.specs.Request.{method_of};
 
-/// What is to be done with the path (RFC 9110, section 9). The names are told apart by case.
+/// What to do with the path (RFC 9110, section 9). The names are case-sensitive.
 #[derive(Clone, Copy, Debug, PartialEq, Eq)]
 pub enum Method {
     Get,
@@ -31,7 +31,7 @@ pub struct Request {
     pub method: Method,
     /// How many bytes the body has.
     pub length: u64,
-    /// The connection is to be closed after the reply: version 1.0, or `Connection: close`.
+    /// The connection must be closed after the reply: version 1.0, or `Connection: close`.
     pub close: bool,
     /// The client waits for `100 Continue` before it sends the body.
     pub expects: bool,

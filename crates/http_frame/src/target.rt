@@ -5,7 +5,7 @@ ghost use Rattle.http_frame.specs.Target.{local_part, after_host, question_mark}
 
 use crate::text::same_text;
 
-/// The target before its first `?`, without the host that it may name (RFC 9112, section 3.2).
+/// The target before its first `?`, without the host that it can name (RFC 9112, section 3.2).
 pub(crate) fn local_part(target: &[u8]) -> &[u8]
     ensures value { result.now ≡ local_part (before_first (λ byte. byte == question_mark) target.now) }
     ensures short { length result.now ≤ length target.now + 1 }

@@ -24,7 +24,7 @@ pub record IsProbe (asked : Probe) : Type 0 where
 abbrev pub probe_depth : PixelDepth
 probe_depth = record { bitpix = 16; blank = negsuc 32767; combine = Mean }
 
--- what was asked is of a pyramid of these numbers
+-- the asked tile is of a pyramid of these numbers
 abbrev pub shape_of : Probe → PyramidShape
 shape_of asked = record { top = asked.top; low = 0; n = asked.n; depth = probe_depth }
 
@@ -41,7 +41,7 @@ only_status status = record { status = status; output = [] }
 abbrev pub leaves_read : Probe → List ℕ → LeafMap
 leaves_read asked input = recorded_leaves asked.n input (length input / record_length asked.n)
 
--- the tile of these leaves, or status 10 where no leaf lies at or under it
+-- the tile of these leaves, or status 10 if no leaf lies at or under it
 abbrev pub tile_answer : Probe → LeafMap → Answer
 tile_answer asked leaves = if exists (shape_of asked) leaves asked.order asked.npix
     then record { status = 0; output = stored_bytes 16 (pixels (shape_of asked) leaves asked.order asked.npix) }

@@ -9,20 +9,20 @@ use Rattle.leaf_probe.specs.declared.fault.ProbeFault.TheVariants.{Cut, Read, Wr
 use Rattle.leaf_probe.specs.Records.{record_length, leaf_number, stored_numbers}
 use Rattle.leaf_probe.specs.Status.{status_of}
 
--- a whole record of a leaf stands first in the input, and was taken from it
+-- a whole record of a leaf comes first in the input, and was taken from it
 pub record TakesRecord (top n : ℕ) (input : List ℕ) (left : Option (List ℕ)) (leaf : ℕ) (numbers : List ℤ) : Type 0 where
   pub whole : record_length n ≤ length input
   pub leaf_is : leaf ≡ leaf_number n input 0
   pub numbers_are : numbers ≡ stored_numbers n input 0
   pub rest : left ≡ Some (drop (record_length n) input)
 
--- the input ends within its first record, whose number is a leaf's where it stands whole
+-- the input ends within its first record, whose number is a leaf's if it is there whole
 pub record IsCut (top n : ℕ) (input : List ℕ) : Type 0 where
   pub some : 0 < length input
   pub short : length input < record_length n
   pub number : 8 ≤ length input → leaf_number n input 0 < cell_count top
 
--- the number of the first record stands whole in the input, and is no leaf's
+-- the number of the first record is whole in the input, and is no leaf's
 pub record NamesNoLeaf (top n : ℕ) (input : List ℕ) : Type 0 where
   pub there : 8 ≤ length input
   pub number : cell_count top ≤ leaf_number n input 0
@@ -48,7 +48,7 @@ reading_statuses = 4 ∷ 5 ∷ 11 ∷ 12 ∷ 13 ∷ []
 abbrev pub tile_statuses : List ℕ
 tile_statuses = 10 ∷ 11 ∷ []
 
--- the fault stands for this status of reading; want of memory and a failing source or sink stand for any
+-- the fault fits this status of reading; running out of memory and a failing source or sink fit any
 abbrev pub StandsFor : ProbeFault → ℕ → Type 0
 StandsFor Read status = ⊤
 StandsFor Write status = ⊤

@@ -49,8 +49,8 @@ goes_on n input = nat_lt (most_records * record_length n) (length input)
 abbrev pub ends_within : ℕ → List ℕ → Bool
 ends_within n input = not (length input % record_length n == 0)
 
--- the status by which reading the records ends, by the first place in the input where one stands: 13 for a number that is
--- no leaf's, 12 for an input that goes on, 4 for one that ends within a record, and else 0
+-- the status by which reading the records ends, by the first place in the input where one applies: 13 for a number that is no
+-- leaf's, 12 for an input that goes on, 4 for one that ends within a record, and else 0
 abbrev pub reading_status : ℕ → ℕ → List ℕ → ℕ
 reading_status top n input =
     if names_no_leaf top n input then 13 else (if goes_on n input then 12 else (if ends_within n input then 4 else 0))

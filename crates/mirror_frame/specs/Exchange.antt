@@ -21,7 +21,7 @@ pub record Talk (S K : Type 0) : Type 0 where
   pub sink : K
   pub held : List ℕ
 
--- what the reply to a request has to say, where k edits are published in the state that is pinned
+-- what the reply to a request must say, if k edits are published in the state that is pinned
 abbrev pub due_of : ℕ → Ask → Due
 due_of k Pin = Pinned
 due_of k (File path) = Survey k
@@ -66,7 +66,7 @@ module _ {S K : Type 0} (told_source : source.Ghosts S) (told_sink : sink.Ghosts
   LastOf k Fits NotBegun [] old new = (new ≡ old) × NotBegun
   LastOf k Fits NotBegun (ask ∷ rest) old new = ((new ≡ old) × NotBegun) ⊎ ((stop : Stop) × Fits stop × BreaksOff ask (due_of k ask) old new stop)
 
-  -- some first ones of these requests have their replies, and what was begun behind them is at most the next one
+  -- a prefix of these requests have their replies, and what was begun behind them is at most the next one
   pub record StopsIn (k : ℕ) (Fits : Stop → Type 0) (NotBegun : Type 0) (asks : List Ask) (old new : Talk S K) : Type 0 where
     pub done : List Ask
     pub rest : List Ask

@@ -1,4 +1,4 @@
--- Where the parts of a response's head stand.
+-- Where the parts of a response's head are.
 use Rattle.std.specs.Prelude.{ℕ, ◌≤◌, List, [], length}
 use Rattle.httparse.specs.declared.spans.HeaderSpan.{HeaderSpan}
 use Rattle.httparse.specs.declared.spans.ResponseSpans.{ResponseSpans}

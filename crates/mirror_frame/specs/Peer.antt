@@ -18,7 +18,7 @@ talk peer = record { src = peer.src.now; sink = peer.sink.now; held = held peer.
 abbrev pub body_of : {S K : Type 0} → Peer S K → List ℕ
 body_of peer = peer.received.now.body.items
 
--- the unread bytes: those held and those left, where the source tells them
+-- the unread bytes: those held and those left, where the proof can see them
 abbrev pub unread_at : {S K : Type 0} → source.Ghosts S → Peer S K → Option (List ℕ)
 unread_at told peer = unread (held peer.received.now.inbox) (told.left peer.src.now)
 
@@ -29,7 +29,7 @@ pub record Goes {S K : Type 0} (told_source : source.Ghosts S) (told_sink : sink
   pub same_source : new.src.ghost_name ≡ old.src.ghost_name
   pub same_sink : new.sink.ghost_name ≡ old.sink.ghost_name
 
--- a fault of an end is told only where its count of faults rose
+-- a fault of an end comes only where its count of faults rose
 abbrev pub TellsFault : {S K : Type 0} → source.Ghosts S → sink.Ghosts K → Peer S K → Peer S K → Stop → Type 0
 TellsFault told_source told_sink old new ReadFault = Rises (told_source.faults old.src.now) (told_source.faults new.src.now)
 TellsFault told_source told_sink old new WriteFault = Rises (told_sink.faults old.sink.now) (told_sink.faults new.sink.now)
@@ -37,6 +37,6 @@ TellsFault told_source told_sink old new Wrong = ⊤
 TellsFault told_source told_sink old new Cut = ⊤
 TellsFault told_source told_sink old new OutOfMemory = ⊤
 
--- where the unread bytes are told before, they are told after, and this is so of the two
+-- where the proof can see the unread bytes before, it can see them after, and this is so of the two
 abbrev pub Told : Option (List ℕ) → Option (List ℕ) → (List ℕ → List ℕ → Type 0) → Type 0
 Told before after Relates = IfSome before (λ bytes. IsSomeAnd after (λ rest. Relates bytes rest))

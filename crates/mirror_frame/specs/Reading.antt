@@ -37,12 +37,12 @@ StopsBegin due held left ReadFault = ⊤
 StopsBegin due held left WriteFault = ⊥
 StopsBegin due held left OutOfMemory = ⊥
 
--- the reply to a pin tells the same number twice
+-- the reply to a pin gives the same number twice
 abbrev pub TellsPinned : Due → List ℕ → Option ℕ → Type 0
 TellsPinned due body prefix = due ≡ Pinned → IsSome prefix × IfSome prefix (λ k. body ≡ pinned_line k)
 
--- the reply that is due stood first in these bytes, with this body, and the rest follows it; or why it didn't, where these bytes
--- are left to be read
+-- the reply that is due came first in these bytes, with this body, and the rest follows it; or why it didn't, where these
+-- bytes are left to be read
 abbrev pub ReadsReply : Due → List ℕ → List ℕ → List ℕ → Option (List ℕ) → Result (Option ℕ) Stop → Type 0
 ReadsReply due bytes body rest left (Ok prefix) = IsReply due bytes body rest × FitsPrefix due prefix × TellsPinned due body prefix
 ReadsReply due bytes body rest left (Err Wrong) = IsWrongReply due bytes

@@ -1,5 +1,5 @@
--- When a reply is in form, is cut, or is neither, by the unread bytes that it stands first in (RFC 9112, sections 4 and 6).
--- Which code, version and fields are asked for is this project's profile.
+-- When a reply is well-formed, is cut, or is neither, by the unread bytes that it comes first in (RFC 9112, sections 4 and
+-- 6). Which code, version and fields are asked for is this project's profile.
 use Rattle.std.specs.Prelude.{◌≡◌, ◌⊎◌, ℕ, ◌<◌, ◌≤◌, ◌^◌, ◌&&◌, nat_lt, nat_le, if◌then◌else◌, List, [], ◌∷◌, ◌++◌, length, take, drop, map, codes, decimal, Option, Some, None, IfSome, IsSome, ⊤}
 use Rattle.std.specs.Option.{option_and_then}
 use Rattle.std.specs.Str.Parse.{digits_value}
@@ -26,7 +26,7 @@ length_in value = if is_digits value && nat_le (length value) 8 && nat_le (digit
 abbrev pub prefix_in : List ℕ → Option ℕ
 prefix_in value = option_and_then (λ k. if nat_lt k (2 ^ 32) then Some k else None) (plain_value value)
 
--- what the one value says; nothing where there is none, or more than one
+-- what the one value says; nothing if there is none, or more than one
 abbrev pub of_one : (List ℕ → Option ℕ) → List (List ℕ) → Option ℕ
 of_one read [] = None
 of_one read (value ∷ []) = read value
@@ -52,7 +52,7 @@ pub record SaysReply (text : List ℕ) (body_length : ℕ) (prefix : Option ℕ)
   pub length_is : stated_length (fields_of head) ≡ Some body_length
   pub prefix_is : stated_prefix (fields_of head) ≡ prefix
 
--- ---- what is asked of it
+-- ---- what it must say
 
 -- the body of the reply to a pin
 abbrev pub pinned_line : ℕ → List ℕ
@@ -64,19 +64,19 @@ FitsPrefix Pinned prefix = IsSome prefix
 FitsPrefix (Survey k) prefix = prefix ≡ Some k
 FitsPrefix Any prefix = ⊤
 
--- the body of a reply to a pin tells the same number
+-- the body of a reply to a pin gives the same number
 abbrev pub FitsBody : Due → Option ℕ → List ℕ → Type 0
 FitsBody Pinned prefix body = IfSome prefix (λ k. body ≡ pinned_line k)
 FitsBody (Survey k) prefix body = ⊤
 FitsBody Any prefix body = ⊤
 
--- the head of the reply is the first n bytes, and is in form
+-- the head of the reply is the first n bytes, and is well-formed
 pub record BeginsReply (due : Due) (unread : List ℕ) (n body_length : ℕ) (prefix : Option ℕ) : Type 0 where
   pub ends : IsHeadLength unread n
   pub says : SaysReply (take n unread) body_length prefix
   pub fits : FitsPrefix due prefix
 
--- a reply in form comes first, with this body, and the rest follows it
+-- a well-formed reply comes first, with this body, and the rest follows it
 pub record IsReply (due : Due) (unread body rest : List ℕ) : Type 0 where
   pub head_length : ℕ
   pub prefix : Option ℕ
@@ -84,7 +84,7 @@ pub record IsReply (due : Due) (unread body rest : List ℕ) : Type 0 where
   pub told : FitsBody due prefix body
   pub rest_is : drop head_length unread ≡ body ++ rest
 
--- the head is in form, and less than its body follows it
+-- the head is well-formed, and less than its body follows it
 pub record IsCutInBody (due : Due) (unread : List ℕ) : Type 0 where
   pub head_length : ℕ
   pub body_length : ℕ
@@ -92,7 +92,7 @@ pub record IsCutInBody (due : Due) (unread : List ℕ) : Type 0 where
   pub begins : BeginsReply due unread head_length body_length prefix
   pub short : length (drop head_length unread) < body_length
 
--- the input ends within the head, or the head is in form and the input ends within the body
+-- the input ends within the head, or the head is well-formed and the input ends within the body
 abbrev pub IsCutReply : Due → List ℕ → Type 0
 IsCutReply due unread = ((length unread < most_head) × HasNoHead unread) ⊎ IsCutInBody due unread
 
@@ -105,7 +105,7 @@ pub record IsWrongBody (due : Due) (unread : List ℕ) : Type 0 where
   pub whole : body_length ≤ length (drop head_length unread)
   pub wrong : ¬ FitsBody due prefix (take body_length (drop head_length unread))
 
--- the reply isn't in form, however the input goes on: no head ends where it may at most, or the head isn't in form, or the body
+-- the reply is malformed, however the input goes on: no head ends where it may at most, or the head is malformed, or the body
 abbrev pub IsWrongReply : Due → List ℕ → Type 0
 IsWrongReply due unread =
     (HasNoHead unread × (most_head ≤ length unread))

@@ -13,7 +13,7 @@ request_line Pin = codes "POST /pin HTTP/1.1"
 request_line (File path) = codes "GET /" ++ spelling path ++ codes " HTTP/1.1"
 request_line Unpin = codes "POST /unpin HTTP/1.1"
 
--- the peer is to close the connection after the last reply (RFC 9112, section 9.6)
+-- the peer must close the connection after the last reply (RFC 9112, section 9.6)
 abbrev pub close_line : Ask → List ℕ
 close_line Pin = []
 close_line (File path) = []

@@ -1,10 +1,10 @@
-//! What is asked of the reply that is due.
+//! What the reply that is due must say.
 ghost use Rattle.std.specs.Prelude.{◌≡◌, ◌↔◌, ◌∷◌, ◌++◌, [], decimal, IsTrue};
 ghost use Rattle.mirror_frame.specs.Reply.{FitsPrefix, FitsBody, pinned_line};
 
 use itoa::Buffer;
 
-/// What the reply that is due has to say.
+/// What the reply that is due must say.
 #[derive(Clone, Copy, Debug, PartialEq, Eq)]
 pub enum Due {
     /// Which state was pinned.

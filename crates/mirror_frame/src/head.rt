@@ -26,7 +26,7 @@ pub(crate) struct ReplyHead {
     pub prefix: Option<u32>,
 }
 
-/// What the text says, where it is the head of a reply that went well.
+/// What the text says, if it is the head of a reply that went well.
 pub(crate) fn read_head(text: &[u8]) -> Option<ReplyHead>
     ensures says { IfSome result (λ head. SaysReply text.now head.length head.prefix) }
     ensures exact { (n : ℕ) (prefix : Option ℕ) → SaysReply text.now n prefix → result ≡ Some (record { length = n; prefix = prefix }) }
@@ -45,7 +45,7 @@ pub(crate) fn read_head(text: &[u8]) -> Option<ReplyHead>
     })
 }
 
-/// Where the parts of the head stand, where the text is exactly one head.
+/// Where the parts of the head are, if the text is exactly one head.
 pub(crate) fn parse_head(text: &[u8], spans: &mut [HeaderSpan]) -> Option<ResponseSpans>
     requires { length spans.old ≡ 64 }
     ensures parsed { IfSome result (λ parsed. IsParsed text.now spans.new parsed) }

@@ -2,7 +2,7 @@
 use Rattle.std.specs.Prelude.{◌≡◌, ℕ, List, ◌++◌}
 use Rattle.past_frame.specs.Record.{PastRecord, next_record, no_line, then_rest}
 
--- a record stands first however the input goes on, and so it is where no line of a record comes
+-- a record comes first however the input goes on, and so it is if no line of a record comes
 pub record RecordsStand : Type 0 where
   pub whole : (room : ℕ) (bytes rest more : List ℕ) (first : PastRecord) → next_record room bytes ≡ then_rest first rest →
       next_record room (bytes ++ more) ≡ then_rest first (rest ++ more)

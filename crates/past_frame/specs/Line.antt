@@ -21,7 +21,7 @@ space = 32
 abbrev pub line_feed : ℕ
 line_feed = 10
 
--- what stands before the first space, and what stands after it
+-- what is before the first space, and what is after it
 unfoldable pub cut : List ℕ → Option (List ℕ × List ℕ)
 cut text = option_map (λ at. (take at text, drop (at + 1) text)) (position (λ b. b == space) text)
 

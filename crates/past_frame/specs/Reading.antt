@@ -18,7 +18,7 @@ record_of (Read k) text = read k text
 abbrev pub NeedsMore : ℕ → List ℕ → Type 0
 NeedsMore room bytes = (next_record room bytes ≡ no_more) ⊎ (next_record room bytes ≡ cut_short)
 
--- why no record stands first in these bytes, where these are left to be read
+-- why no record comes first in these bytes, where these are left to be read
 abbrev pub Stops : ℕ → List ℕ → Option (List ℕ) → Stop → Type 0
 Stops room bytes left End = (bytes ≡ []) × IsAtEnd left
 Stops room bytes left Cut = (next_record room bytes ≡ cut_short) × IsAtEnd left
@@ -26,7 +26,7 @@ Stops room bytes left BadLine = next_record room bytes ≡ no_line
 Stops room bytes left ReadFault = NeedsMore room bytes
 Stops room bytes left OutOfMemory = ⊤
 
--- the record with this text stood first in these bytes, and the rest follows it; or why none did
+-- the record with this text came first in these bytes, and the rest follows it; or why none did
 abbrev pub ReadsRecord : ℕ → List ℕ → List ℕ → List ℕ → Option (List ℕ) → Result Record Stop → Type 0
 ReadsRecord room bytes text rest left (Ok asked) = next_record room bytes ≡ then_rest (record_of asked text) rest
 ReadsRecord room bytes text rest left (Err stop) = Stops room bytes left stop

@@ -1,4 +1,4 @@
--- The record that stands first in unread bytes: a line of at most 128 bytes with its line feed, and behind the line of a batch
+-- The record that comes first in unread bytes: a line of at most 128 bytes with its line feed, and behind the line of a batch
 -- its body. This project's profile.
 use Rattle.std.specs.Prelude.{ℕ, ◌+◌, nat_lt, List, [], ◌∷◌, length, take, drop, position, ◌==◌, Option, Some, None, if◌then◌else◌}
 use Rattle.past_frame.specs.Line.{RecordLine, batch_line, read_line, line_of, line_feed}
@@ -8,7 +8,7 @@ pub data PastRecord : Type 0 where
   batch : List ℕ → PastRecord
   read : ℕ → List ℕ → PastRecord
 
--- what stands first: nothing is left, or the input ends within the record, or no line of a record comes, or a record with the
+-- what comes first: nothing is left, or the input ends within the record, or no line of a record comes, or a record with the
 -- bytes that follow it
 pub data NextRecord : Type 0 where
   no_more : NextRecord
@@ -35,7 +35,7 @@ by_end room bytes (Some at) = by_line (line_of room (take at bytes)) (drop (at +
 abbrev pub line_end : List ℕ → Option ℕ
 line_end bytes = position (λ b. b == line_feed) (take most_line bytes)
 
--- what stands first in unread bytes, where the body of a batch has at most `room` bytes
+-- what comes first in unread bytes, if the body of a batch has at most `room` bytes
 unfoldable pub next_record : ℕ → List ℕ → NextRecord
 next_record room [] = no_more
 next_record room (b ∷ bytes) = by_end room (b ∷ bytes) (line_end (b ∷ bytes))

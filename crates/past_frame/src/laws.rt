@@ -1,7 +1,7 @@
 //! What follows from the definitions: the law is the whole contract of its function.
 ghost use Rattle.past_frame.specs.Laws.{RecordsStand};
 
-/// The record that stands first in some bytes stands first in them and any more. Where no line of a record comes, none comes
+/// The record that comes first in some bytes comes first in them and any more. If no line of a record comes, none comes
 /// however the input goes on.
 pub fn records_stand()
     ensures { RecordsStand }

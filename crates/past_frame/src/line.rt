@@ -7,7 +7,7 @@ use decimal_scale::plain_decimal;
 /// What a line asks for.
 #[derive(Clone, Copy, Debug, PartialEq, Eq)]
 pub(crate) enum Line<'a> {
-    /// That the batch is accepted whose body follows.
+    /// That the batch be accepted whose body follows.
     Batch { length: usize },
     /// The file at a path, by the first `k` edits.
     Read { k: u32, path: &'a [u8] },
@@ -70,7 +70,7 @@ fn number_below(limit: u64, text: &[u8]) -> Option<u64>
     plain_decimal(text).filter(|number| *number < limit)
 }
 
-// What stands before the first space, and what stands after it.
+// What is before the first space, and what is after it.
 #[tactic(auto, unfolding(crate::specs::Line::cut))]
 fn cut(text: &[u8]) -> Option<(&[u8], &[u8])>
     ensures { option_map {U = List ℕ × List ℕ} (λ parts. (parts.0.now, parts.1.now)) result ≡ cut text.now }
@@ -79,7 +79,7 @@ fn cut(text: &[u8]) -> Option<(&[u8], &[u8])>
     Some((&text[..at], &text[at + 1..]))
 }
 
-/// Where a byte first stands.
+/// Where a byte first is.
 pub(crate) fn place_of(byte: u8, bytes: &[u8]) -> Option<usize>
     ensures { result ≡ position (λ b. b == byte) bytes.now }
 {

@@ -1,10 +1,10 @@
 //! Records, and why none is read.
 use std::alloc::AllocError;
 
-/// A record. Its text, the body of a batch or the path of a read, stands apart from it.
+/// A record. Its text, the body of a batch or the path of a read, is kept apart from it.
 #[derive(Clone, Copy, Debug, PartialEq, Eq)]
 pub enum Record {
-    /// A batch of edits is to be accepted.
+    /// Accept a batch of edits.
     Batch,
     /// A file is asked for.
     Read {

@@ -1,4 +1,4 @@
--- What the answers of a board tell.
+-- What the answers of a board mean.
 use Rattle.std.specs.Prelude.{◌≡◌, ℕ, ◌≤◌, List, [], ◌∷◌, not, Some}
 use Rattle.dirty_plan.specs.Dirty.{steps_after}
 use Rattle.edit_journal.specs.Edit.{LeafEdit, leaf_of}
@@ -16,7 +16,7 @@ use Rattle.reader_pin.specs.declared.answer.Published.{Published}
 use Rattle.reader_pin.specs.declared.answer.Published.TheVariants.{New, Already}
 use Rattle.reader_pin.specs.Board.{BoardContent, Stays, Happens, InOne, Publishes, IsPublished, last_of, last_seen, edit_count, publish_work}
 
--- the batch stands at the end of the last state's: one event
+-- the batch is at the end of the last state's: one event
 abbrev pub Appends : List LeafEdit → BoardContent → BoardContent → Type 0
 Appends batch old new = Happens (AppendsBatch old.opening batch) old new
 
@@ -40,7 +40,7 @@ pub record AreRefused (opening : LeafTiles) (batch : List LeafEdit) (fault : Bat
   pub has : batch_fault opening (edits_at state) batch ≡ Some fault
   pub count : edit_count state ≡ edits
 
--- what a refusal tells; want of memory tells nothing
+-- what a refusal says; `OutOfMemory` says nothing
 abbrev pub TellsRefusal : LeafEdit → BoardContent → BoardContent → BoardRefusal → Type 0
 TellsRefusal edit old new (Fault fault edits) = InOne old new (IsRefused old.opening edit fault edits)
 TellsRefusal edit old new OutOfMemory = Unit {0}

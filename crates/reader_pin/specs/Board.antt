@@ -55,7 +55,7 @@ pub record KeepsSeat (old new : BoardContent) : Type 0 where
   pub owners : Begins old.owners new.owners
   pub owned : IsOwned new
 
--- no event of its own: what it has seen stands at the front of what it has seen then
+-- no event of its own: what it has seen is at the front of what it has seen then
 pub record Stays (old new : BoardContent) : Type 0 where
   pub conf : new.conf ≡ old.conf
   pub opening : new.opening ≡ old.opening

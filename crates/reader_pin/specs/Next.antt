@@ -31,7 +31,7 @@ pub record FollowsBatch (batch : List LeafEdit) (last next : StateContent) (coun
   pub follows : Follows (AppendsBatch last.opening batch) last next
   pub number : count ≡ length (state_edits next)
 
--- why there is none; want of memory tells nothing
+-- why there is none; `OutOfMemory` says nothing
 abbrev pub TellsRefusedEdit : LeafEdit → StateContent → BoardRefusal → Type 0
 TellsRefusedEdit edit last (Fault fault edits) = IsRefused last.opening edit fault edits (survey_state last)
 TellsRefusedEdit edit last OutOfMemory = Unit {0}

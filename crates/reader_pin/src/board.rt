@@ -6,8 +6,8 @@ ghost use Rattle.reader_pin.specs.Board.{BoardContent, IsOwned, Stays, last_seen
 use survey_core::State;
 
 /// A survey as one connection sees it: a history of states that only grows. Edits and publications are its own events, each
-/// one step of that history; other boards of the same survey may make steps between them. Each step is the event of one board,
-/// which the number of its seat tells.
+/// one step of that history; other boards of the same survey may make steps between them. Each step is the event of one
+/// board, known by the number of its seat.
 ///
 /// The calls here make no event. They take no runtime and no memory, and never wait. Those that make events are `ChangedWith`'s.
 pub trait Board {
@@ -16,8 +16,9 @@ pub trait Board {
     /// What the board has seen and holds.
     ghost content: { Self → BoardContent };
 
-    /// What it tells of the steps, so many before a publication and so many after it, beyond the bounds below. A board that
-    /// other boards share tells nothing more: it builds outside the lock, and what it built may be published by others by then.
+    /// What is known of the steps, so many before a publication and so many after it, beyond the bounds below. Of a board
+    /// that other boards share nothing more is known: it builds outside the lock, and what it built may be published by
+    /// others by then.
     ghost counts: { BoardContent → BoardContent → ℕ → ℕ → Published → Type 0 };
 
     /// Looks for newer states. It makes no event.

@@ -19,15 +19,15 @@ use survey_core::State;
 use survey_link::Gate;
 
 /// A board that is changed with a runtime of the type `R`. Which runtimes change it says whether it may wait: a `Solo` is
-/// changed with any, since it waits for nobody, and a `Shared` with those that may wait. So whoever serves any board with a
-/// runtime of which it doesn't know that it may wait, waits for nobody where the board doesn't.
+/// changed with any, since it waits for nobody, and a `Shared` with those that may wait. So code that serves any board with
+/// any runtime waits only if the board does.
 pub trait ChangedWith<R>: Board {
     /// Accepts an edit on the newest state, as a batch of its own: one event.
     ///
     /// # Errors
     ///
-    /// `Fault` exactly as the journal of one state answers that isn't before the last one seen before the call, with its
-    /// number of edits; `OutOfMemory` where there is no memory for the next state. Neither makes an event.
+    /// `Fault` with what the journal of one state answers, and its number of edits; that state isn't before the last one seen
+    /// before the call. `OutOfMemory` where there is no memory for the next state. Neither makes an event.
     fn edit(&mut self, rt: &R, edit: Edit) -> Result<Accepted, BoardRefusal>
         requires fits { FitsEdit (Self.content self.old).conf.shape (edit_of edit) }
         ensures accepted { IfOk result (Accepts (edit_of edit) (Self.content self.old) (Self.content self.new)) }
@@ -38,8 +38,8 @@ pub trait ChangedWith<R>: Board {
     ///
     /// # Errors
     ///
-    /// `Fault` exactly as the journal of one state answers that isn't before the last one seen before the call, with its
-    /// number of edits; `OutOfMemory` where there is no memory for the next state. Neither makes an event.
+    /// `Fault` with what the journal of one state answers, and its number of edits; that state isn't before the last one seen
+    /// before the call. `OutOfMemory` where there is no memory for the next state. Neither makes an event.
     fn batch(&mut self, rt: &R, edits: Vec<Edit>) -> Result<u32, BoardBatch>
         requires some { 0 < length edits.items }
         requires most { length edits.items ≤ 1024 }
@@ -48,8 +48,8 @@ pub trait ChangedWith<R>: Board {
         ensures unchanged { OnErr result (Stays (Self.content self.old) (Self.content self.new)) }
         ensures refused { IfErr result (TellsBatchRefusal (map edit_of edits.items) (Self.content self.old) (Self.content self.new)) };
 
-    /// The board's own part of `publish`. It has the generations of all edits of a state built by `build`, one or two of them:
-    /// a board has no right to start threads. The counter of steps goes in and comes back.
+    /// The board's own part of `publish`. `build` builds the generations of all edits of a state, one or two of them: a board
+    /// has no right to start threads. The counter of steps goes in and comes back.
     ///
     /// # Errors
     ///

@@ -55,7 +55,7 @@ impl<'a, J: Naming> Shared<'a, J> {
         }
     }
 
-    /// Both boards have then seen what the one that had seen more has.
+    /// Both boards have then seen what the one that had seen more had seen.
     ///
     /// # Errors
     ///

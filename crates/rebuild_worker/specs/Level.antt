@@ -14,7 +14,7 @@ pub record NamedTile : Type 0 where
   pub npix : ℕ
   pub tile : Option PixelTile
 
--- the stored numbers of a tile that is there
+-- the stored numbers of a tile that exists
 abbrev pub numbers_of : Option PixelTile → Option (List ℤ)
 numbers_of tile = option_map (λ t. t.numbers) tile
 
@@ -27,11 +27,11 @@ children_of tiles npix = record {
   fourth = numbers_of (value_at (4 * npix + 3) tiles);
 }
 
--- whether one of the four is there
+-- whether one of the four exists
 abbrev pub any_of : FourTiles → Bool
 any_of four = is_some four.first || is_some four.second || is_some four.third || is_some four.fourth
 
--- the tile above four tiles, and none where none of the four is there
+-- the tile above four tiles, and none if none of the four exists
 abbrev pub tile_above : PyramidShape → FourTiles → Option PixelTile
 tile_above shape four = if any_of four then Some (record { depth = shape.depth; n = shape.n; numbers = merged shape.depth shape.n four }) else None
 

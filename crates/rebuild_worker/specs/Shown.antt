@@ -1,4 +1,4 @@
--- A `Named` as contracts see it: its shared tile stands for the tile itself.
+-- A `Named` as contracts see it: its shared tile counts as the tile itself.
 use Rattle.std.specs.Prelude.{List, map, option_map}
 use Rattle.std.specs.Arc.{arc_value}
 use Rattle.rebuild_worker.specs.declared.named.Named.{Named}

@@ -1,7 +1,7 @@
 //! One order of a survey's pyramid, made from the tiles of the order below it.
 //!
-//! A permit is the leave to merge the tile of one cell. `level_serial` makes the merges of a list of permits one after the
-//! other; `level_parallel` makes the same list with as many workers as the machine has processors.
+//! A permit allows merging the tile of one cell. `level_serial` makes the merges of a list of permits one after the other;
+//! `level_parallel` makes the same list with as many workers as the machine has processors.
 #![tactic(auto)]
 
 mod merge;

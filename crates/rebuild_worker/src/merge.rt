@@ -40,7 +40,7 @@ pub fn merge_cell<G: Gate>(
     Ok(Named { order, npix, tile })
 }
 
-// The tile above those of the cell's children that there are; `None` where there is none of them.
+// The tile above those of the cell's children that exist; `None` if none does.
 fn merge_children(
     alloc: Global,
     shape: Shape,
@@ -67,14 +67,14 @@ fn merge_children(
     Ok(Some(Arc::new(alloc, tile)?))
 }
 
-// Whether one of the four is there.
+// Whether one of the four exists.
 fn any_is_there(c0: Option<&Tile>, c1: Option<&Tile>, c2: Option<&Tile>, c3: Option<&Tile>) -> bool
     ensures { result ≡ (is_some c0.entry || is_some c1.entry || is_some c2.entry || is_some c3.entry) }
 {
     c0.is_some() || c1.is_some() || c2.is_some() || c3.is_some()
 }
 
-// The tile of that number, if it is there.
+// The tile of that number, if it exists.
 fn child(children: &Store<Tile>, npix: u64) -> Option<&Tile>
     ensures { option_map (λ tile. tile.now) result ≡ value_at npix children.now }
 {

@@ -1,4 +1,4 @@
-//! Permits that are spent in order.
+//! Permits that are consumed in order.
 ghost use Rattle.std.specs.Prelude.{◌≡◌, ◌+◌, ◌≤◌, ◌<◌, ◌∷◌, [], length, take, drop, OnOk, IfOk, MatchOption};
 
 use parent_rule::Permit;
@@ -6,7 +6,7 @@ use std::alloc::AllocError;
 use std::collections::VecDeque;
 use std::marker::Model;
 
-/// Permits in order. Those that are left are spent where it is dropped.
+/// Permits in order. Dropping it consumes those that are left.
 pub struct Permits {
     left: VecDeque<Permit>,
 }

@@ -24,7 +24,7 @@ seats_of (first ∷ log) = first.number
 abbrev pub history_of : {S : Type 0} → List (Numbered S) → S → SeenHistory S
 history_of log last = record { states = states_of log; owners = owners_of log; seats = seats_of log; last = last }
 
--- the first word is how long the history is, which may stand from its first state on; the second word isn't used
+-- the first word is how long the history is, which is legal from its first state on; the second word isn't used
 pub record IsKeptHistory {S : Type 0} (Legal : List S → Type 0) (cells : List Cell) (log : List (Numbered S)) : Type 0 where
   pub words : cells ≡ (length log, true) ∷ (0, true) ∷ []
   pub legal : 0 < length log → Legal (states_of log)
@@ -32,7 +32,7 @@ pub record IsKeptHistory {S : Type 0} (Legal : List S → Type 0) (cells : List 
 abbrev pub head_of : Book → Named
 head_of book = record { tracked = true; key = 0; book = book }
 
--- where the history was as long as was known, all of it was, and the state stands behind it now
+-- if the history was as long as was known, all of it was, and the state follows it now
 abbrev pub Adds : {E : Type 0} → Step E → View E ℕ → ℕ → View E ℕ → Type 0
 Adds step before found after = found ≡ step.old → after.0 ≡ before.0 ++ step.ask ∷ []
 

@@ -3,8 +3,8 @@ use Rattle.std.specs.Prelude.{◌≡◌, ℕ, ◌+◌, ◌-◌, ◌<◌, ◌≤�
 use Rattle.std.specs.List.Sorted.{IsStrictlyIncreasing}
 use Rattle.shared_history.specs.Histories.{places_of}
 
--- a place is one of a seat's own if and only if its owner is that seat, and is told once; a state that the seat appends is its
--- own too
+-- a place is one of a seat's own if and only if its owner is that seat, and is listed once; a state that the seat appends is
+-- its own too
 pub record PlacesAreOwn : Type 0 where
   pub owned : (seat place : ℕ) (owners : List ℕ) → Contains (places_of seat owners) place → (0 < place) × (slice_get owners (place - 1) ≡ Some seat)
   pub told : (seat place : ℕ) (owners : List ℕ) → slice_get owners place ≡ Some seat → Contains (places_of seat owners) (place + 1)

@@ -163,7 +163,7 @@ impl<S: Drop, L: Law<S>> Page<S, L> {
         self.made[seat]
     }
 
-    /// A copy of another of the same book, where that one has seen more, and what it has seen more isn't that seat's; `None` where
+    /// A copy of another of the same book, if that one has seen more, and what it has seen more isn't that seat's; `None` if
     /// both have seen the same.
     ///
     /// # Errors
@@ -207,8 +207,8 @@ fn one_more(alloc: Global, made: &[u64], seat: usize) -> Result<Vec<u64>, AllocE
     Ok(more)
 }
 
-/// A value of which `left_right` keeps two copies, where an operation is a whole new value. Each `Page` is one; a type that holds
-/// a `Desk` has to say so by a bound where it is generic in the states or in their law.
+/// A value of which `left_right` keeps two copies, where an operation is a whole new value. Each `Page` is one; a type that
+/// holds a `Desk` must say so by a bound if it is generic in the states or in their law.
 pub trait Showable: Absorb<Self, State = Self> + Drop + Sized {
     ghost use Rattle.std.specs.Prelude.{◌≡◌};
 

@@ -35,7 +35,8 @@ impl<S: Drop, L: Law<S>, J: Naming> Outcome<Page<S, L>, ()> for Finds<J> {
     ghost then = { λ _ _ page _. page.book ≡ J.book };
 }
 
-/// The writer of `left_right`, whose operations are whole new values. Contracts see what it shows. It can't be dropped: end it by `close`.
+/// The writer of `left_right`, whose operations are whole new values. Contracts see what it shows. It can't be dropped: end
+/// it by `close`.
 pub(crate) struct Showing<S: Drop, L: Law<S>, J: Naming>
 where
     Page<S, L>: Showable,

@@ -135,8 +135,8 @@ impl<S: Drop, L: Law<S>, J: Naming> Shown<S, L, J> {
         self.page.seats()
     }
 
-    /// A copy of another of the same history, where that one has seen more, and what it has seen more isn't that seat's; `None`
-    /// where both have seen the same.
+    /// A copy of another of the same history, if that one has seen more, and what it has seen more isn't that seat's; `None`
+    /// if both have seen the same.
     ///
     /// # Errors
     ///

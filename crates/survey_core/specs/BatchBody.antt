@@ -1,5 +1,5 @@
--- The body of a batch: entries one after another up to its end, each a line, and behind it the bytes of a tile file where
--- the line tells their length. This project's profile.
+-- The body of a batch: entries one after another up to its end, each a line, and behind it the bytes of a tile file if the
+-- line gives their length. This project's profile.
 use Rattle.std.specs.Prelude.{ℕ, zero, suc, ◌-◌, nat_lt, List, [], ◌∷◌, ◌++◌, length, take, drop, ℤ, Option, Some, None, Result, Ok, Err, is_some, count_by, if◌then◌else◌}
 use Rattle.survey_conf.specs.Description.{Description}
 use Rattle.tile_pixels.specs.Tile.{PixelTile}
@@ -42,7 +42,7 @@ entry_by d (Remove leaf) bytes = Ok (remove leaf, bytes)
 entry_by d (Tiled verb leaf len) bytes =
     if nat_lt (length bytes) len then Err Short else tiled_by verb leaf (tile_in d (take len bytes)) (drop len bytes)
 
--- an entry where there is a line for it
+-- an entry if there is a line for it
 abbrev pub entry_with : Description → Option (Line × List ℕ) → ReadEntry
 entry_with d None = Err NoLine
 entry_with d (Some found) = entry_by d found.0 found.1

@@ -23,7 +23,7 @@ leaves_at opening state = leaves_of opening (take state.tip (edits_at state))
 abbrev pub opening_state : SurveyState
 opening_state = record { batches = []; tip = 0 }
 
--- the batch, which has edits, and none with a fault after those before it, stands at the end; the tip is kept
+-- the batch, which has edits, and none with a fault after those before it, is at the end; the tip is kept
 pub record AppendsBatch (opening : LeafTiles) (batch : List LeafEdit) (old new : SurveyState) : Type 0 where
   pub some : 0 < length batch
   pub accepted : batch_fault opening (edits_at old) batch ≡ None
@@ -64,7 +64,7 @@ pub record Begins {X : Type 0} (xs ys : List X) : Type 0 where
   pub rest : List X
   pub is : ys ≡ xs ++ rest
 
--- what stays of an earlier state in a later one: its batches and edits stand at the front, its ends are ends, and the tip
+-- what stays of an earlier state in a later one: its batches and edits are at the front, its ends are ends, and the tip
 -- hasn't fallen
 pub record Precedes (earlier later : SurveyState) : Type 0 where
   pub batches : Begins earlier.batches later.batches

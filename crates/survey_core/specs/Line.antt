@@ -19,7 +19,7 @@ space = 32
 abbrev pub line_feed : ℕ
 line_feed = 10
 
--- what stands before the first such byte, and what stands after it
+-- what is before the first such byte, and what is after it
 abbrev pub cut : ℕ → List ℕ → Option (List ℕ × List ℕ)
 cut byte bytes = option_map (λ at. (take at bytes, drop (at + 1) bytes)) (position (λ b. b == byte) bytes)
 

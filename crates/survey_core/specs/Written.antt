@@ -29,7 +29,7 @@ abbrev pub FitsLine : ℕ → Line → Type 0
 FitsLine top (Tiled verb leaf len) = (leaf < cell_count top) × (len < 2 ^ 32)
 FitsLine top (Remove leaf) = leaf < cell_count top
 
--- the edit of a line and of the bytes behind it: as many as the line tells, the file of a tile; or none
+-- the edit of a line and of the bytes behind it: as many as the line says, the file of a tile; or none
 abbrev pub IsEditOf : Description → Line → List ℕ → LeafEdit → Type 0
 IsEditOf d (Tiled verb leaf len) file edit = (tile : PixelTile) × (length file ≡ len) × (tile_in d file ≡ Ok tile) × (edit ≡ edit_by verb leaf tile)
 IsEditOf d (Remove leaf) file edit = (file ≡ []) × (edit ≡ remove leaf)
@@ -60,8 +60,8 @@ abbrev pub BeginsWith : ℕ → Line → List ℕ → List ℕ → Type 0
 BeginsWith top line rest bytes = FitsLine top line × (bytes ≡ line_text line ++ (line_feed ∷ rest))
 
 -- behind so many entries the bytes, which are no entry, have this fault, and none that comes before it: there are as many
--- entries as a body may have; or no line begins the bytes; or fewer bytes follow than their line tells; or as many, which
--- are no tile
+-- entries as a body may have; or no line begins the bytes; or fewer bytes follow than their line says; or as many, which are
+-- no tile
 abbrev pub HasFault : Description → ℕ → List ℕ → EntryFault → Type 0
 HasFault d count bytes Many = count ≡ most_entries
 HasFault d count bytes NoLine = (count < most_entries) × ((line : Line) (rest : List ℕ) → ¬ BeginsWith d.shape.top line rest bytes)

@@ -36,8 +36,8 @@ pub fn batch_room(conf: &Conf) -> usize
 ///
 /// # Errors
 ///
-/// `Entry` with the place of the first entry that has a fault, from 0, and the first of these that stands: `Many` where
-/// 1,024 entries stand before it, `Line` where what is left doesn't begin with a line, as where the body is empty, `Short`
+/// `Entry` with the place of the first entry that has a fault, from 0, and the first of these that applies: `Many` where
+/// 1,024 entries come before it, `Line` where what is left doesn't begin with a line, as where the body is empty, `Short`
 /// where fewer than LENGTH bytes follow, `Tile` where they are not a tile of the survey. `OutOfMemory` where there is no
 /// memory for the edits.
 pub fn read_batch(

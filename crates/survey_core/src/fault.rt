@@ -6,15 +6,15 @@ use fits_tile::TileFault;
 use std::error::Error;
 use std::fmt;
 
-/// What is wrong with an entry of a batch body. Where several stand, it is the first of these. It is shown as one word, or
-/// as the text of the fault of its tile file.
+/// What is wrong with an entry of a batch body. If several apply, it is the first of these. It is shown as one word, or as
+/// the text of the fault of its tile file.
 #[derive(Clone, Copy, Debug, PartialEq, Eq, Hash)]
 pub enum EntryFault {
     /// There are 1,024 entries before it.
     Many,
     /// It doesn't begin with the line of an entry; or there is no entry at all.
     Line,
-    /// Fewer bytes follow its line than the line tells.
+    /// Fewer bytes follow its line than the line says.
     Short,
     /// These bytes are not a tile of the survey.
     Tile(TileFault),

@@ -33,8 +33,8 @@ pub fn bodies_are_entries()
     plain_is_read();
 }
 
-/// A body is refused at a place with a fault if and only if it is written entries, as many as the place tells, and a rest
-/// that has this fault and none that comes before it.
+/// A body is refused at a place with a fault if and only if it is written entries, as many as the place says, and a rest that
+/// has this fault and none that comes before it.
 pub fn refusals_are_faults()
     ensures { RefusalsAreFaults }
 {

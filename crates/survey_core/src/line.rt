@@ -94,7 +94,7 @@ fn number_below(limit: u64, text: &[u8]) -> Option<u64>
     plain_decimal(text).filter(|number| *number < limit)
 }
 
-// What stands before the first such byte, and what stands after it.
+// What is before the first such byte, and what is after it.
 fn cut(byte: u8, bytes: &[u8]) -> Option<(&[u8], &[u8])>
     ensures { option_map {U = List ℕ × List ℕ} (λ parts. (parts.0.now, parts.1.now)) result ≡ cut byte bytes.now }
 {
@@ -102,7 +102,7 @@ fn cut(byte: u8, bytes: &[u8]) -> Option<(&[u8], &[u8])>
     Some((&bytes[..at], &bytes[at + 1..]))
 }
 
-// Where a byte first stands.
+// Where a byte first is.
 fn place_of(byte: u8, bytes: &[u8]) -> Option<usize>
     ensures { result ≡ position (λ b. b == byte) bytes.now }
 {

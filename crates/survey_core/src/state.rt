@@ -69,9 +69,9 @@ impl State {
     ///
     /// # Errors
     ///
-    /// `Fault` with the first that stands: `Exists` if and only if an Add's leaf is there after all edits, `Absent` exactly
-    /// where a Replace's or a Remove's isn't, `Edits` if and only if there are 65,536 edits, `Bytes` if and only if the charge
-    /// would exceed 2^29. `OutOfMemory` where there is no memory for the new state.
+    /// `Fault` with the first that applies: `Exists` if and only if an Add's leaf is there after all edits, `Absent` if and
+    /// only if a Replace's or a Remove's isn't, `Edits` if and only if there are 65,536 edits, `Bytes` if and only if the
+    /// charge would exceed 2^29. `OutOfMemory` where there is no memory for the new state.
     pub fn accept(&self, edit: Edit) -> Result<State, EditRefusal>
         requires fits { FitsEdit self.now.conf.shape (edit_of edit) }
         ensures accepted { IfOk result (λ next. next ≡ record self.now { batches = self.now.batches ++ (edit_of edit ∷ []) ∷ [] }) }
@@ -90,7 +90,7 @@ impl State {
     ///
     /// # Errors
     ///
-    /// `Fault` with the least place of an edit that has a fault after those before it, and that fault, as `accept` tells it;
+    /// `Fault` with the least place of an edit that has a fault after those before it, and that fault, as `accept` gives it;
     /// `OutOfMemory` where there is no memory for the new state.
     pub fn accept_all(&self, edits: Vec<Edit>) -> Result<State, BatchRefusal>
         requires some { 0 < length edits.items }
