@@ -1,8 +1,8 @@
 //! Tests of the boards of `reader_pin`, over the finished crate: in it they would have it proved a second time.
 //!
-//! What they do stands in `board_story`. The program plays a story of it, as `scripts/check-memory.sh` runs it with memory
-//! refused at one request after another. It prints `begun` once the survey is open, and in the end how many edits there are, how
-//! many of them are published, and how many calls were refused and made again.
+//! What they do is in `board_story`. The program runs a scenario test of it, as `scripts/check-memory.sh` runs it with memory
+//! refused at one request after another. It prints `begun` once the survey is open, and in the end how many edits there are,
+//! how many of them are published, and how many calls were refused and made again.
 #![tactic(auto)]
 
 #[cfg(test)]

@@ -8,7 +8,7 @@ use std::test::Fail;
 use std::time::Clock;
 use survey_link::{MemShelf, MemSink, MemSource, Shelf};
 
-/// What stands between two `|` of a row.
+/// What is between two `|` of a row.
 pub(crate) fn field(row: &str, at: usize) -> &str {
     row.split('|').nth(at).unwrap_or("")
 }
@@ -75,7 +75,7 @@ pub(crate) fn goes<R: AllocGlobal + Clock + Log>(
     Ok(ended == status && sink.bytes() == bytes_of(alloc, line)?.as_slice())
 }
 
-// Whether the shelf has the files that stand from field `first` of the row on, each as PATH=TEXT, and no others.
+// Whether the shelf has the files from field `first` of the row on, each as PATH=TEXT, and no others.
 pub(crate) fn has_files(
     alloc: Global,
     shelf: &mut MemShelf,
@@ -123,8 +123,8 @@ fn puts_the_tiles_of_its_input(rt: HostRuntime) -> Result<(), Fail> {
     Ok(())
 }
 
-// A row is a run whose source or sink fails: the number of the read that fails, the room of the sink, the number of the write that
-// fails, and the status.
+// A row is a run whose source or sink fails: the number of the read that fails, the room of the sink, the number of the write
+// that fails, and the status.
 static FAILING: &str = "\
 0|100|-|5
 2|100|-|5

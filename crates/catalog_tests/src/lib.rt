@@ -1,7 +1,7 @@
 //! Tests of a catalogue: `balanced_list` (`lists`), `hips_catalog` (`rows`, `worked`, `runs`, beside a `plain` program) and
 //! `catalog_command` (`commands`; `refused` lines; `shelves` that fail or have tiles of an earlier run).
 //!
-//! They stand over the finished crates, in a crate of their own: in each it would be proved a second time.
+//! They test the finished crates from a crate of their own: in each it would be proved a second time.
 #![tactic(auto)]
 
 #[cfg(test)]

@@ -55,7 +55,7 @@ pub(crate) fn put(
     Ok(put_line(alloc, catalog, top, line.as_bytes()))
 }
 
-/// Takes out the row of a number, and tells whether it was there.
+/// Takes out the row of a number, and answers whether it was there.
 pub(crate) fn take(alloc: Global, catalog: &mut Catalog, top: u8, id: u64) -> Result<bool, Fail>
     requires { catalog.old.top ≡ top }
     ensures { catalog.new.top ≡ top }

@@ -69,7 +69,7 @@ fn makes_the_tiles_of_an_earlier_run_its_own(rt: HostRuntime) -> Result<(), Fail
     Ok(())
 }
 
-// In how many of the two tiles that the earlier run and this one have the row stands.
+// How many of the two tiles that the earlier run and this one have hold the row.
 fn times(alloc: Global, shelf: &mut MemShelf, row: &str) -> Result<usize, Fail> {
     let mut count = 0_usize;
     for path in ["Norder0/Dir0/Npix0.tsv", "Norder1/Dir0/Npix0.tsv"] {
@@ -85,8 +85,8 @@ fn times(alloc: Global, shelf: &mut MemShelf, row: &str) -> Result<usize, Fail> 
     Ok(count)
 }
 
-// The status of a run over a shelf whose call of that number fails, and whether it then left each row at most once, the other files,
-// and the sink as it was.
+// The status of a run over a shelf whose call of that number fails, and whether it then left each row at most once, the other
+// files, and the sink as it was.
 fn stops_soundly<R: AllocGlobal + Clock + Log>(rt: &R, call: u64) -> Result<(u8, bool), Fail> {
     let alloc = rt.alloc();
     let mut shelf = shelf_before(alloc, Some(call))?;

@@ -34,7 +34,7 @@ fn put_lines(alloc: Global, catalog: &mut Catalog, top: u8, lines: &[u8]) -> boo
     true
 }
 
-// Takes out the row of an id, and tells whether it was there.
+// Takes out the row of an id, and answers whether it was there.
 fn take_id(catalog: &mut Catalog, top: u8, id: &[u8]) -> Result<bool, Fail>
     requires { catalog.old.top ≡ top }
     ensures { catalog.new.top ≡ top }

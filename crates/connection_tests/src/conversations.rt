@@ -59,8 +59,8 @@ pub(crate) static EDITED: &str = "201 Created;Content-Length: 0;Survey-Edits: 1
 200 OK;Content-Type: application/fits;Content-Length: 5760;Survey-Prefix: 1|tile 3 0&short -32768 -32768 3 -32768&pad
 ";
 
-// Connections, with an empty line between two. A row begins with its description, how it ends, and what is to be seen; then come
-// the requests and, behind a line with `=`, the replies.
+// Connections, with an empty line between two. A row begins with its description, how it ends, and what is to be seen; then
+// come the requests and, behind a line with `=`, the replies.
 static CONVERSATIONS: &str = "\
 survey closed
 GET /properties

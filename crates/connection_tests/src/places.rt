@@ -62,7 +62,7 @@ fn place<R: Threads + Sync + Clock + Log>(
     Ok((end, served(&door)))
 }
 
-// Each row: how many connections are to be taken, the accept that fails, how the place ends, and how many were served.
+// Each row: the limit of connections, the accept that fails, how the place ends, and how many were served.
 static PLACES: [(u32, u64, PlaceEnd, usize); 5] = [
     (0, 9, PlaceEnd::Done, 0),
     (1, 9, PlaceEnd::Done, 1),

@@ -143,7 +143,7 @@ fn push_coverage(alloc: Global, body: &mut Vec<u8>, counts: &str) -> Result<(), 
     push_header(alloc, body, &cards)
 }
 
-// Appends a part of a body, or changes what stands there.
+// Appends a part of a body, or changes what is there.
 fn push_part(alloc: Global, body: &mut Vec<u8>, part: &str) -> Result<(), Fail> {
     let (word, rest) = part.split_once(' ').unwrap_or((part, ""));
     match word {
@@ -186,7 +186,7 @@ fn push_field(bytes: &mut Vec<u8>, field: &str) -> Result<(), Fail> {
     Ok(())
 }
 
-// Appends a head: its first line stands between `before` and `behind`.
+// Appends a head: its first line is between `before` and `behind`.
 fn push_head(bytes: &mut Vec<u8>, before: &str, head: &str, behind: &str) -> Result<(), Fail> {
     let (first, fields) = head.split_once(';').unwrap_or((head, ""));
     bytes.extend_from_slice(before.as_bytes())?;
@@ -213,7 +213,7 @@ fn push_message(
     push_body(alloc, bytes, parts)
 }
 
-// Appends the bytes of a request. A row that begins with a space stands as it is; to another the version and Host are added.
+// Appends the bytes of a request. A row that begins with a space stays as it is; to another the version and Host are added.
 fn push_request(alloc: Global, bytes: &mut Vec<u8>, row: &str) -> Result<(), Fail> {
     match row.strip_prefix(' ') {
         Some(row) => push_message(alloc, bytes, "", row, ""),

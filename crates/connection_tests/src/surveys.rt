@@ -16,7 +16,7 @@ pub(crate) fn opened<R: Threads + Sync>(rt: &R, alloc: Global, conf: &str) -> Re
     Ok(Solo::new(alloc, first_state(rt, alloc, conf)?)?)
 }
 
-// Serves a connection over the board, and answers how it ends: `OutOfMemory` also where a reply told want of memory.
+// Serves a connection over the board, and answers how it ends: `OutOfMemory` also if a reply was 503.
 pub(crate) fn serve<B: ChangedWith<R>, R: Threads + Sync + Clock + Log>(
     rt: &R,
     alloc: Global,

@@ -404,7 +404,7 @@ fn files_are_written_and_read(rt: HostRuntime) -> Result<(), Fail> {
     Ok(())
 }
 
-// What a file is, its rows, how many bytes of it there are, a place and the byte that stands there in its place.
+// What a file is, its rows, how many bytes of it there are, a place and the byte that is there in its place.
 type OtherRow = (&'static str, &'static [u64], usize, usize, u8);
 
 static OTHERS: [OtherRow; 15] = [

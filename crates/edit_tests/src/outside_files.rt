@@ -1,4 +1,4 @@
-//! Files for tools of others, which `scripts/check-fits.sh` hands them.
+//! Files for tools of others, which `scripts/check-fits.sh` gives them.
 use crate::covers::{cover_of, numbers};
 use std::alloc::{AllocError, Global};
 use std::test::Fail;

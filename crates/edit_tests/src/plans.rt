@@ -124,7 +124,7 @@ fn plans(rt: HostRuntime) -> Result<(), Fail> {
     Ok(())
 }
 
-// Whether the first order comes, and all others are let go.
+// Whether the first order comes, and all others are dropped.
 fn is_let_go(alloc: Global) -> Result<bool, Fail> {
     let mut steps = Steps::new();
     let mut list = planned(alloc, 11, 0, &[7], &mut steps)?;

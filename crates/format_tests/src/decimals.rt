@@ -126,7 +126,7 @@ fn refuses_other_texts(rt: HostRuntime) {
     assert!(rt; other.is_none(), "{other:?}");
 }
 
-// Zeros, and what stands before and after them.
+// Zeros, and what is before and after them.
 fn with_zeros(
     alloc: Global,
     before: &str,
@@ -141,7 +141,7 @@ fn with_zeros(
     Ok(text)
 }
 
-// What stands before some zeros, how many these are, what follows them, and the mantissa and the exponent, or the fault.
+// What is before some zeros, how many these are, what follows them, and the mantissa and the exponent, or the fault.
 type ZerosRow = (
     &'static str,
     usize,

@@ -151,7 +151,7 @@ fn fault_of(text: &[u8], len: usize) -> Option<HeaderFault> {
     }
 }
 
-// How many cards COMMENT stand before the others, the others, and what is said of such a header.
+// How many cards COMMENT come before the others, the others, and what is said of such a header.
 static HEADERS: [(usize, &str, &str); 43] = [
     (0, "END", "2880"),
     (0, "END\nEND\n\u{7}", "2880"),

@@ -1,6 +1,6 @@
 //! Tests of the bytes and texts that a survey consists of: numbers in text, paths, headers, descriptions, tile files.
 //!
-//! They stand over the finished crates, in a crate of their own: in each it would be proved a second time.
+//! They test the finished crates from a crate of their own: in each it would be proved a second time.
 #![tactic(auto)]
 
 #[cfg(test)]

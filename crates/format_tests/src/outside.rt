@@ -1,4 +1,4 @@
-//! Files for tools of others, which `scripts/check-fits.sh` hands them.
+//! Files for tools of others, which `scripts/check-fits.sh` gives them.
 use crate::tile_files::written_again;
 use healpix_nested::Cell;
 use small_files::header;

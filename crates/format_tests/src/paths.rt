@@ -85,7 +85,7 @@ fn cell_of(row: &str) -> Option<Cell> {
     Cell::new(order, npix)
 }
 
-// A text, and what stands behind it.
+// A text, and what follows it.
 fn joined(alloc: Global, text: &str, suffix: &str) -> Result<String, AllocError> {
     let mut all = String::from_str(alloc, text)?;
     all.push_str(suffix)?;

@@ -62,7 +62,7 @@ fn answer(alloc: Global, bytes: &[u8], conf: &Conf) -> Result<String, Fail> {
     }
 }
 
-// A place in the header, the cards that stand there in its place, how many spaces follow the header, and what is said.
+// A place in the header, the cards that are there in its place, how many spaces follow the header, and what is said.
 const FILES: &str = "10|END|8|1 a tile
 10|END|2880|1 a tile
 7|COMMENT|8|1 a tile
@@ -253,7 +253,7 @@ BZERO   =                0.0E0
 BLANK   =               -32768
 END";
 
-// The file of an image of 54 columns and 58 lines of the numbers that stand after the first block.
+// The file of an image of 54 columns and 58 lines of the numbers that come after the first block.
 fn image(alloc: Global, conf: &Conf, file: &[u8]) -> Result<Vec<u8>, Fail> {
     let raw = file.get(2_880..9_144).ok_or("a short file")?;
     if conf.shape().depth.bytes() != 2 {

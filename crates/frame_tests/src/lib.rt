@@ -1,6 +1,7 @@
-//! Tests of the bytes of a connection: those of the server, `http_frame` (`http`), and those of a copy, `mirror_frame` (`mirror`).
+//! Tests of the bytes of a connection: those of the server, `http_frame` (`http`), and those of a copy, `mirror_frame`
+//! (`mirror`).
 //!
-//! They stand over the finished crates, in a crate of their own: in each it would be proved a second time.
+//! They test the finished crates from a crate of their own: in each it would be proved a second time.
 #![tactic(auto)]
 
 #[cfg(test)]

@@ -1,4 +1,4 @@
-//! Requests and replies, byte by byte: in form, not in form, cut at each byte, and over ends that fail.
+//! Requests and replies, byte by byte: well-formed, malformed, cut at each byte, and over ends that fail.
 ghost use Rattle.std.specs.Prelude.{◌≡◌, ◌<◌, ◌≤◌, length};
 ghost use Rattle.mirror_frame.specs.Requests.{HasOrder};
 
@@ -348,7 +348,7 @@ fn long_head(alloc: Global, count: usize) -> Result<Vec<u8>, AllocError> {
 
 #[test]
 fn a_head_has_8192_bytes_at_most(rt: HostRuntime) -> Result<(), Fail> {
-    // 39 bytes stand before the field's value, and 4 end the head.
+    // 39 bytes come before the field's value, and 4 end the head.
     let longest = long_head(rt.alloc(), 8149)?;
     assert!(rt; has_body(rt.alloc(), &longest, 1000, Due::Any, b"a")?);
     let mut longer = long_head(rt.alloc(), 8150)?;

@@ -1,4 +1,5 @@
--- Which requests can be fulfilled, and by which replies they are: what the law of completeness is about. This project's profile.
+-- Which requests can be fulfilled, and by which replies they are: what the law of completeness is about. This project's
+-- profile.
 use Rattle.std.specs.Prelude.{◌≡◌, ◌⊎◌, ℕ, ◌+◌, ◌-◌, ◌==◌, ◌||◌, Bool, true, false, List, [], ◌∷◌, ◌++◌, length, slice_get, All, IsNone, IsOk, Some, Ok, Err, if◌then◌else◌}
 use Rattle.survey_conf.specs.Description.{Description}
 use Rattle.fits_tile.specs.Reading.{reads}
@@ -16,7 +17,7 @@ use Rattle.hips_http.specs.Replies.{leave_bytes}
 use Rattle.hips_http.specs.Answers.{Asking, Point, Asked, asked_put, asked_delete, asked_batch}
 use Rattle.hips_http.specs.SessionRun.{room_of, AreRequests, GoOn, EndsWith, AreAnswered}
 
--- ---- what stands against a request by itself
+-- ---- what is wrong with a request by itself
 
 -- a call with which nothing is wrong: the body of a PUT is a tile file of the survey, that of a batch is entries
 abbrev pub IsSoundCall : Description → List ℕ → Call → Type 0
@@ -44,7 +45,7 @@ pub record IsSoundInput (conf : Description) (input : List ℕ) (requests : List
   pub ends : (GoOn requests × (rest ≡ [])) ⊎ LastCloses requests
   pub sound : All (IsSound conf) requests
 
--- ---- what a state has against a change
+-- ---- why a state refuses a change
 
 -- the place of the state that judges a request: the one before the step that is made by it, and its own where none is
 abbrev pub judging_place : Point → Point → ℕ
@@ -79,8 +80,8 @@ AreAccepted conf opening states count before (request ∷ requests) after (outpu
 
 -- ---- how a request is fulfilled
 
--- the codes of the replies to a call that is fulfilled, and 503, want of memory, where it may want some; a file that isn't
--- there is answered by 404
+-- the codes of the replies to a call that is fulfilled, and 503, out of memory, if it can need some; a file that isn't there
+-- is answered by 404
 abbrev pub fulfils : Call → ℕ → Bool
 fulfils (call.File file) code = (code == 200) || (code == 404)
 fulfils call.Pin code = code == 200
@@ -91,7 +92,7 @@ fulfils (call.Put leaf) code = (code == 201) || (code == 204) || (code == 503)
 fulfils (call.Delete leaf) code = (code == 204) || (code == 503)
 fulfils (call.NotAllowed allow) code = false
 
--- what was written for the request: the leave to send its body, where it waits for it, and a reply with such a code
+-- what was written for the request: 100 Continue, if it waits for that, and a reply with such a code
 pub record IsFulfilled (conf : Description) (request : Asking) (output : List ℕ) : Type 0 where
   pub kind : PathKind
   pub code : ℕ

@@ -40,7 +40,7 @@ abbrev pub EachNewest : {conf : Description} {opening : LeafTiles} {states : Lis
 EachNewest {conf} {opening} {states} c =
     AreNewest states conf opening c.later 0 (first_point states) c.run.requests c.run.last c.run.outputs c.run.answered
 
--- neither a fault nor want of memory ended it
+-- it ended neither by a fault nor out of memory
 abbrev pub IsFaultless : SessionEnd → Type 0
 IsFaultless Closed = Unit {0}
 IsFaultless Asked = Unit {0}

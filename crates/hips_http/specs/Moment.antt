@@ -1,4 +1,5 @@
--- A connection at one moment, in one value: what its source, its frame and its sink tell, its board, and what is counted.
+-- A connection at one moment, in one value: what the proof sees of its source, its frame and its sink, its board, and its
+-- counts.
 use Rattle.std.specs.Prelude.{◌≡◌, ℕ, ◌+◌, ◌≤◌, List, Option}
 use Rattle.survey_link.specs.Door.{Connection}
 use Rattle.survey_link.specs.declared.source.Source as source
@@ -8,14 +9,15 @@ use Rattle.http_frame.specs.Readings.{ReadsWhile}
 use Rattle.reader_pin.specs.Board.{BoardContent}
 use Rattle.hips_http.specs.declared.open_connection.OpenConnection.{OpenConnection}
 
--- what is to be read: the frame, the bytes left in the source where it tells them, and how often the source has failed
+-- what is still to read: the frame, the bytes left in the source, where the proof can see them, and how often the source has
+-- failed
 pub record Input : Type 0 where
   pub frame : FrameState
   pub left : Option (List ℕ)
   pub faults : ℕ
 
--- what was written: the bytes that the sink holds and those of them that it flushed, where it tells them, and how often it
--- has failed
+-- what was written: the bytes that the sink holds and those of them that it flushed, where the proof can see them, and how
+-- often it has failed
 pub record Output : Type 0 where
   pub held : Option (List ℕ)
   pub flushed : Option (List ℕ)
@@ -30,11 +32,11 @@ pub record Moment : Type 0 where
   pub steps : ℕ
   pub memory_faults : ℕ
 
--- the unread bytes: those held, and those left in the source where it tells them
+-- the unread bytes: those held, and those left in the source, where the proof can see them
 abbrev pub unread_of : Input → Option (List ℕ)
 unread_of input = unread input.frame input.left
 
--- the connection as its ends tell it
+-- the connection as the proof sees it
 abbrev pub connection_at : Moment → Connection
 connection_at at = record {
   unread = at.input.left;

@@ -70,7 +70,7 @@ pub record Serves (request : Asking) (call : Call) (old new : BoardContent) (ste
 abbrev pub reply_of : Bool → Request → Answer → List ℕ
 reply_of close asked answer = reply_bytes (head_of close answer) (sent_body asked.method answer.body)
 
--- these bytes were written; or a writing failed, and some first ones of them were
+-- these bytes were written; or a writing failed, and a prefix of them was
 pub record Sends (old new : Output) (bytes : List ℕ) (result : Result (Unit {0}) Failed) : Type 0 where
   pub whole : OnOk result (Appends old.held new.held bytes)
   pub part : OnErr result (AppendsPrefix old.held new.held bytes)
@@ -140,14 +140,14 @@ pub record RepliesTo (asked : Request) (wanted : Call) (old new : Input) (board 
 
 -- ---- writing that fails
 
--- some first ones of these bytes were written
+-- a prefix of these bytes was written
 pub record Breaks (written written' : Option (List ℕ)) (begun : List ℕ) : Type 0 where
   pub part : List ℕ
   pub left : List ℕ
   pub begun_is : begun ≡ part ++ left
   pub appended : Appends written written' part
 
--- what is written next, where no request is answered: the reply to a head that is refused, or the leave to send a body
+-- what is written next, where no request is answered: the reply to a head that is refused, or 100 Continue
 pub record BeginsRefusal (room : ℕ) (all begun : List ℕ) : Type 0 where
   pub code : ℕ
   pub refused : IsRefusedNext room all code
@@ -231,13 +231,13 @@ pub record FlushesOne (old new : Output) (result : Result Bool SessionEnd) : Typ
   pub flushes : IfErr result (λ end. ¬ (end ≡ WriteFault) → FlushesAll old.held new.held old.flushed new.flushed)
   pub breaks : result ≡ Err WriteFault → (more : List ℕ) × Flushes old.held old.flushed new.flushed more
 
--- source or sink failed only where its count of faults rose, and no end is for want of memory
+-- source or sink failed only where its count of faults rose, and no end is out of memory
 pub record FaultsOne (old new : Moment) (result : Result Bool SessionEnd) : Type 0 where
   pub read_fault : result ≡ Err ReadFault → Rises old.input.faults new.input.faults
   pub write_fault : result ≡ Err WriteFault → Rises old.output.faults new.output.faults
   pub memory : IfErr result (λ end. end ≢ OutOfMemory)
 
--- what came of the next request, where `count` others came before it; `Ok` tells whether it asked to close
+-- what came of the next request, where `count` others came before it; `Ok` says whether it asked to close
 pub record ServesOne (count : ℕ) (old new : Moment) (result : Result Bool SessionEnd) : Type 0 where
   pub ok : IfOk result (IsServedOne count old new)
   pub stops : IfErr result (StopsOne count old new)

@@ -19,9 +19,9 @@ pub record NeedsNext (room : ℕ) (came : List ℕ) : Type 0 where
   pub go_on : GoOn requests
   pub needs : NeedsRest room rest
 
--- the bytes that came are requests and the beginning of one more, and the replies to these requests, the first of these outputs,
--- are flushed at the end of the connection. This holds for every sink, also for one whose calls all fail from some moment on, and
--- by which nothing more is flushed. So the replies were flushed before the reading that needed these bytes
+-- the bytes that came are requests and the beginning of one more, and the replies to these requests, the first of these
+-- outputs, are flushed at the end of the connection. This holds for every sink, also for one whose calls all fail from some
+-- moment on, and by which nothing more is flushed. So the replies were flushed before the reading that needed these bytes
 pub record FollowsReplies (room : ℕ) (outputs : List (List ℕ)) (flushed came : List ℕ) : Type 0 where
   pub next : NeedsNext room came
   pub answered : length next.requests ≤ length outputs

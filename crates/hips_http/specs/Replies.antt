@@ -50,7 +50,7 @@ abbrev pub sent_body : Method → List ℕ → List ℕ
 sent_body Head body = []
 sent_body _ body = body
 
--- the bytes that are written where a client waits for leave to send its body
+-- the bytes that are written if a client waits for 100 Continue
 abbrev pub leave_bytes : Request → List ℕ
 leave_bytes asked = if asked.expects then continue_bytes else []
 
@@ -150,7 +150,7 @@ tile_refused fault = text_answer 422 number.Absent (codes "tile refused " ++ fau
 abbrev pub batch_refused : ℕ → EntryFault → Answer
 batch_refused at fault = text_answer 422 number.Absent (codes "batch refused " ++ decimal at ++ codes " " ++ entry_fault_text fault)
 
--- want of memory
+-- out of memory
 abbrev pub no_memory : Answer
 no_memory = text_answer 503 number.Absent (codes "out of memory")
 

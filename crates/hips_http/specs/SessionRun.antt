@@ -68,7 +68,7 @@ pub record EndsWith (requests : List Asking) (last : Asking) : Type 0 where
   pub is : requests ≡ before ++ last ∷ []
   pub went_on : GoOn before
 
--- the input ends within a request, and this is written for it: the leave to send its body, where it was waited for
+-- the input ends within a request, and this is written for it: 100 Continue, if it waited for that
 pub record IsCutInput (room : ℕ) (rest extra : List ℕ) : Type 0 where
   pub cut : (IsCut rest × (extra ≡ [])) ⊎ ((body : IsCutInBody room rest) × (extra ≡ leave_bytes body.asked))
 
@@ -96,7 +96,7 @@ pub record BreaksInRefusal (room : ℕ) (rest : List ℕ) (outputs : List (List 
   pub refused : IsRefusedNext room rest code
   pub broken : BreaksOff outputs (refusal_bytes code) out handed
 
--- it failed in the leave to send a body, which wasn't read
+-- it failed in 100 Continue, and the body wasn't read
 pub record BreaksInLeave (room : ℕ) (rest : List ℕ) (outputs : List (List ℕ)) (out handed : List ℕ) : Type 0 where
   pub asked : Request
   pub path : Option (List ℕ)
@@ -105,7 +105,7 @@ pub record BreaksInLeave (room : ℕ) (rest : List ℕ) (outputs : List (List �
   pub waits : asked.expects ≡ true
   pub broken : BreaksOff outputs continue_bytes out handed
 
--- a connection as its ends tell it: the bytes that were read of it and those left, the bytes that were written and those of
+-- a connection as the proof sees it: the bytes that were read of it and those left, the bytes that were written and those of
 -- them that were flushed, and the counts of faults of its source and of its sink, before and after
 pub record Exchange : Type 0 where
   pub read : List ℕ
@@ -121,7 +121,7 @@ pub record Exchange : Type 0 where
 abbrev pub input_of : Exchange → List ℕ
 input_of exchange = exchange.read ++ exchange.left
 
--- the bytes by which an end is told: where the source failed they are those that were read, as though the input ended there
+-- the bytes that decide an end: those that were read, as though the input ended there, if the source failed; else all
 abbrev pub input_seen : SessionEnd → Exchange → List ℕ
 input_seen ReadFault exchange = exchange.read
 input_seen _ exchange = input_of exchange
@@ -147,7 +147,7 @@ Ends WriteFault room requests rest outputs exchange =
     × (BreaksInRefusal room rest outputs exchange.written exchange.flushed ⊎ BreaksInLeave room rest outputs exchange.written exchange.flushed)))
 Ends OutOfMemory room requests rest outputs exchange = (requests ≡ []) × (exchange.read ≡ []) × (exchange.written ≡ [])
 
--- all that was written was flushed, unless a writing failed: then all but what was begun then, as told there
+-- all that was written was flushed, unless a writing failed: then all but what was begun then, as said there
 abbrev pub FlushesAll : SessionEnd → Exchange → Type 0
 FlushesAll WriteFault exchange = Unit {0}
 FlushesAll _ exchange = exchange.flushed ≡ exchange.written
@@ -156,13 +156,13 @@ FlushesAll _ exchange = exchange.flushed ≡ exchange.written
 abbrev pub first_point : List SurveyState → Point
 first_point states = record { place = length states - 1; held = None; own = []; memory_faults = 0; cost = 0 }
 
--- want of memory at the beginning changes nothing
+-- running out of memory at the beginning changes nothing
 abbrev pub KeepsStates : SessionEnd → List SurveyState → List SurveyState → Type 0
 KeepsStates OutOfMemory states states' = states' ≡ states
 KeepsStates _ states states' = Unit {0}
 
 -- one connection: the states seen before it, its exchange, the places of its own events, the states seen after it, its end,
--- and how many replies of it told want of memory
+-- and its memory faults, how many of its replies were 503
 pub record SessionRun (conf : Description) (opening : LeafTiles) (states : List SurveyState) (exchange : Exchange) (own : List ℕ)
     (states' : List SurveyState) (end : SessionEnd) (memory_faults : ℕ) : Type 0 where
   pub history : IsHistory opening states'
@@ -190,8 +190,8 @@ FlushesAll held held' handed handed' = (handed' ≡ held') ⊎ ((held' ≡ held)
 abbrev pub Flushes : Option (List ℕ) → Option (List ℕ) → Option (List ℕ) → List ℕ → Type 0
 Flushes held handed handed' bytes = Appends held handed' bytes ⊎ ((handed' ≡ handed) × (bytes ≡ []))
 
--- what serving a connection did, whose source had this input: to the board, to the connection as its ends tell it, and to the
--- count of steps
+-- what serving a connection did, whose source had this input: to the board, to the connection as the proof sees it, and to
+-- the count of steps
 pub record IsServed (old new : BoardContent) (input : List ℕ) (taken back : Connection) (steps steps' : ℕ) (served : Served) : Type 0 where
   pub read : List ℕ
   pub rest : List ℕ
@@ -217,7 +217,7 @@ pub record IsServed (old new : BoardContent) (input : List ℕ) (taken back : Co
       own new.history served.end served.memory_faults
   pub steps_are : served.memory_faults ≡ 0 → steps' ≤ steps + run.last.cost
 
--- what is true of it, also where nothing is told
+-- what is true of it, also where the proof can't see its bytes
 pub record Goes (old new : BoardContent) : Type 0 where
   pub conf : new.conf ≡ old.conf
   pub opening : new.opening ≡ old.opening

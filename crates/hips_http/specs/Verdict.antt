@@ -31,7 +31,7 @@ pub data Verdict : Type 0 where
   refused_at : ℕ → Cause → Verdict
   accepted : List LeafEdit → Verdict
 
--- the precondition is false where the leaf is there or isn't, and a limit stands where there are too many edits or bytes
+-- the precondition is false where the leaf is there or isn't, and a limit is reached if there are too many edits or bytes
 abbrev pub cause_of : EditFault → Cause
 cause_of fault.Exists = unmet
 cause_of fault.Absent = unmet

@@ -145,7 +145,7 @@ fn unmet_delete(state: &State, leaf: u64) -> TextReply
     }
 }
 
-// The answer to a DELETE that has a fault: the leaf isn't there, or a limit stands.
+// The answer to a DELETE that has a fault: the leaf isn't there, or a limit is reached.
 fn delete_refused(fault: EditFault, edits: u32) -> TextReply
     ensures { result ≡ refused_answer edits (delete_cause fault) }
 {

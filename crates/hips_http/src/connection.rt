@@ -28,9 +28,9 @@ use survey_link::{Gate, Sink, Source};
 /// request asked to close, 65,536 were answered, or the source or the sink failed. It releases the board's pin first. Each
 /// reply is flushed before the next one is written.
 ///
-/// It ends with `OutOfMemory` if there is no memory for its buffers, before anything is read or written. From then on only PUT,
-/// DELETE, POST batch and POST publish may run out of memory, and they answer code 503; `wants` is the number of these
-/// replies. An event whose reply couldn't be written stays in the history.
+/// It ends with `OutOfMemory` if there is no memory for its buffers, before anything is read or written. From then on only
+/// PUT, DELETE, POST batch and POST publish may run out of memory, and they answer code 503; `memory_faults` is the number of
+/// these replies. An event whose reply couldn't be written stays in the history.
 pub fn session<
     R: Threads + Sync + Clock + Log,
     B: ChangedWith<R>,
@@ -55,13 +55,13 @@ pub fn session<
     ensures source_never_falls { S.faults src.old ≤ S.faults src.new }
     ensures sink_never_falls { K.faults sink.old ≤ K.faults sink.new }
     ensures steps_never_fall { steps.old ≤ steps.new }
-    // Where the source tells its bytes, the connection is a run of the definition, from the states seen before to those seen
-    // then; where the sink doesn't tell its bytes, with some bytes as those written.
+    // Where the proof can see the source's bytes, the connection is a run of the definition, from the states seen before to
+    // those seen then; where it can't see the sink's, with some bytes as those written.
     ensures served { IfSome (S.left src.old) (λ input. IsServed (B.content board.old) (B.content board.new) input
         (connection_of S.Source K.Sink src.old sink.old) (connection_of S.Source K.Sink src.new sink.new) steps.old steps.new result) }
     // There it is read only while what came ends before or within the next request: so not once a request asked to close.
     ensures reads { IsSome (S.left src.old) → (came : List ℕ) × ReadsWhile S.left S.readings (NeedsNext (room_of (B.content board.old).conf)) [] src.old src.new came }
-    // And only after the replies to all requests before were flushed, as far as the sink tells its bytes.
+    // And only after the replies to all requests before were flushed, as far as the proof can see the sink's bytes.
     ensures order { IfSome (S.left src.old) (λ input. (served : IsServed (B.content board.old) (B.content board.new) input
         (connection_of S.Source K.Sink src.old sink.old) (connection_of S.Source K.Sink src.new sink.new) steps.old steps.new result)
         × ReadsWhere S.Source (FollowsReplies (room_of (B.content board.old).conf) served.run.outputs served.passed) [] src.old src.new) }
@@ -70,8 +70,8 @@ pub fn session<
     session_in(rt, alloc, &mut frame, board, src, sink, gate, steps)
 }
 
-/// As `session`, over a frame that is handed in, which has room for the longest body of the board's survey; without one it
-/// ends out of memory, before anything is read or written. What the frame held is dropped first.
+/// As `session`, over a given frame, which has room for the longest body of the board's survey; without one it ends out of
+/// memory, before anything is read or written. What the frame held is dropped first.
 pub fn session_in<
     R: Threads + Sync + Clock + Log,
     B: ChangedWith<R>,
@@ -98,13 +98,13 @@ pub fn session_in<
     ensures source_never_falls { S.faults src.old ≤ S.faults src.new }
     ensures sink_never_falls { K.faults sink.old ≤ K.faults sink.new }
     ensures steps_never_fall { steps.old ≤ steps.new }
-    // Where the source tells its bytes, the connection is a run of the definition, from the states seen before to those seen
-    // then; where the sink doesn't tell its bytes, with some bytes as those written.
+    // Where the proof can see the source's bytes, the connection is a run of the definition, from the states seen before to
+    // those seen then; where it can't see the sink's, with some bytes as those written.
     ensures served { IfSome (S.left src.old) (λ input. IsServed (B.content board.old) (B.content board.new) input
         (connection_of S.Source K.Sink src.old sink.old) (connection_of S.Source K.Sink src.new sink.new) steps.old steps.new result) }
     // There it is read only while what came ends before or within the next request: so not once a request asked to close.
     ensures reads { IsSome (S.left src.old) → (came : List ℕ) × ReadsWhile S.left S.readings (NeedsNext (room_of (B.content board.old).conf)) [] src.old src.new came }
-    // And only after the replies to all requests before were flushed, as far as the sink tells its bytes.
+    // And only after the replies to all requests before were flushed, as far as the proof can see the sink's bytes.
     ensures order { IfSome (S.left src.old) (λ input. (served : IsServed (B.content board.old) (B.content board.new) input
         (connection_of S.Source K.Sink src.old sink.old) (connection_of S.Source K.Sink src.new sink.new) steps.old steps.new result)
         × ReadsWhere S.Source (FollowsReplies (room_of (B.content board.old).conf) served.run.outputs served.passed) [] src.old src.new) }

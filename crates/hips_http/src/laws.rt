@@ -23,8 +23,8 @@ pub fn own_is_newest()
 /// The law of completeness. Where the input of a connection has whole, well-framed requests alone, to its end or to one that
 /// asks to close, each method fits its path, each body of a PUT is a tile file of the survey and each of a batch is entries,
 /// each change is accepted by the state that judges it, and neither the source nor the sink fails, then the connection ends
-/// `Closed` or `Asked`, and what is written is a reply to each request by which it is fulfilled: with code 200, 201 or 204, with
-/// 404 for a file that there isn't, or with 503 if it ran out of memory. Or it ends `OutOfMemory` before it began.
+/// `Closed` or `Asked`, and what is written is a reply to each request by which it is fulfilled: with code 200, 201 or 204,
+/// with 404 for a file that there isn't, or with 503 if it ran out of memory. Or it ends `OutOfMemory` before it began.
 pub fn completeness()
     ensures { Completeness }
 {

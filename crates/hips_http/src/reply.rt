@@ -159,7 +159,7 @@ impl TextReply {
         TextReply::of_words(412, Number::Edits(edits), b"precondition failed")
     }
 
-    // The limit with that number stands, after so many edits.
+    // The limit with that number is reached, after so many edits.
     fn limit(number: u32, edits: u32) -> TextReply
         ensures { result ≡ refused_answer edits (limit number) }
     {
@@ -228,7 +228,7 @@ impl TextReply {
         TextReply::of_line(422, Number::Absent, line)
     }
 
-    /// No memory was found.
+    /// Memory ran out.
     pub(crate) fn no_memory() -> TextReply
         ensures { result ≡ Replies.no_memory }
     {

@@ -9,7 +9,7 @@ use tile_path::Path;
 // The most edits of a survey.
 const MOST_EDITS: u64 = 65_536;
 
-// At how many percent of a limit the log gets a warning.
+// At how many percent of a limit a warning is logged.
 const MARKS: [u64; 3] = [80, 95, 100];
 
 /// Logs how much of a survey's room is used where its server starts, and how many more tiles fit.

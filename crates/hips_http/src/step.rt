@@ -97,7 +97,7 @@ fn reply_code(code: u16) -> u16
     }
 }
 
-/// Gives a client leave to send its body, where it waits for it.
+/// Sends 100 Continue, if the client waits for it.
 ///
 /// # Errors
 ///

@@ -9,7 +9,7 @@ use Rattle.hips_mirror.specs.declared.refusal.MirrorRefusal.TheVariants.{Reply, 
 use Rattle.hips_mirror.specs.Mirror.{IsCopy, Refuses}
 use Rattle.hips_mirror.specs.Peer.{published, peer_bytes, CanBeCopied}
 
--- faults and want of memory are no matter of bytes
+-- faults and running out of memory don't depend on the bytes
 abbrev pub IsNoMatterOfBytes : MirrorRefusal → Type 0
 IsNoMatterOfBytes (Reply told) = ⊥
 IsNoMatterOfBytes Properties = ⊥
@@ -23,7 +23,7 @@ IsNoMatterOfBytes WriteFault = ⊤
 IsNoMatterOfBytes ShelfFault = ⊤
 IsNoMatterOfBytes OutOfMemory = ⊤
 
--- two refusals of the same bytes: they are one, or one of them is no matter of bytes
+-- two refusals of the same bytes: they are one, or one of them doesn't depend on the bytes
 abbrev pub AreOne : MirrorRefusal → MirrorRefusal → Type 0
 AreOne refusal other = (refusal ≡ other) ⊎ IsNoMatterOfBytes refusal ⊎ IsNoMatterOfBytes other
 

@@ -29,9 +29,9 @@ use Rattle.mirror_frame.specs.declared.due.Due.TheVariants.{Pinned, Survey, Any}
 use Rattle.hips_mirror.specs.declared.refusal.MirrorRefusal.{MirrorRefusal}
 use Rattle.hips_mirror.specs.declared.refusal.MirrorRefusal.TheVariants.{Reply, Properties, Cover, TooLarge, Leaf, Differs, Cut, ReadFault, WriteFault, ShelfFault, OutOfMemory}
 
--- ---- what a body has to be
+-- ---- what a body must be
 
--- plain decimals: one or more digits, of which the first is 0 only where it stands alone
+-- plain decimals: one or more digits, of which the first is 0 only if it is the only one
 abbrev pub is_plain : List ℕ → Bool
 is_plain text = is_digits text && (nat_le (length text) 1 || not (slice_index text 0 == 48))
 
@@ -39,13 +39,13 @@ is_plain text = is_digits text && (nat_le (length text) 1 || not (slice_index te
 abbrev pub are_lines : List ℕ → Bool
 are_lines text = length text == 0 || slice_index text (length text - 1) == 10
 
--- the last line tells a number of leaves by these digits, and this text stands before it
+-- the last line gives a number of leaves by these digits, and this text comes before it
 pub record TellsLeaves (body text digits : List ℕ) : Type 0 where
   pub whole : body ≡ text ++ line (codes "survey_leaves", digits)
   pub lines : are_lines text ≡ true
   pub plain : is_plain digits ≡ true
 
--- the body is the properties file of a survey: before that line stands a description without a fault, and this is what it says
+-- the body is the properties file of a survey: before that line comes a description without a fault, and this is what it says
 pub record IsProperties (body : List ℕ) (d : Description) : Type 0 where
   pub text : List ℕ
   pub digits : List ℕ
@@ -68,7 +68,7 @@ is_too_large shape count = nat_lt most_leaves count || nat_lt most_charge (count
 
 -- ---- how far a copy came, and which bytes are unread then
 
--- the description: k edits are published in the state that is held, and this is the body that tells of it
+-- the description: k edits are published in the state that is held, and this is the body that describes it
 pub record Described (bytes : List ℕ) (k : ℕ) (properties : List ℕ) (d : Description) (unread : List ℕ) : Type 0 where
   pub behind : List ℕ
   pub pinned : IsReply Pinned bytes (pinned_line k) behind
@@ -96,7 +96,7 @@ pub record HasLeaves (bytes : List ℕ) (k : ℕ) (properties : List ℕ) (d : D
   pub covered : Covered bytes k properties d (keys_of leaves) behind
   pub are : AreLeaves k d behind leaves unread
 
--- the reply to the request of the mosaic, which is sent where there is a leaf, and what its body has to be
+-- the reply to the request of the mosaic, which is sent where there is a leaf, and what its body must be
 abbrev pub IsMosaicReply : ℕ → Description → LeafMap → List ℕ → List ℕ → Type 0
 IsMosaicReply k d [] unread rest = rest ≡ unread
 IsMosaicReply k d (leaf ∷ leaves) unread rest = IsReply (Survey k) unread (file_of d (leaf ∷ leaves) path.Allsky) rest
@@ -118,7 +118,7 @@ pub record IsCopy (bytes : List ℕ) (d : Description) (leaves : LeafMap) : Type
 
 -- ---- why it came no further
 
--- the reply to this request, counted from 0, isn't in form or is cut; faults and want of memory are no matter of bytes
+-- the reply to this request, counted from 0, is malformed or cut; faults and running out of memory don't depend on the bytes
 abbrev pub RefusesReply : Due → ℕ → List ℕ → MirrorRefusal → Type 0
 RefusesReply due request unread (Reply told) = (told ≡ request) × IsWrongReply due unread
 RefusesReply due request unread Properties = ⊥
@@ -132,7 +132,7 @@ RefusesReply due request unread WriteFault = ⊤
 RefusesReply due request unread ShelfFault = ⊤
 RefusesReply due request unread OutOfMemory = ⊤
 
--- the reply is in form, and its body is refused
+-- the reply is well-formed, and its body is refused
 pub record RefusesBody (due : Due) (unread : List ℕ) (Wrong : List ℕ → Type 0) : Type 0 where
   pub body : List ℕ
   pub rest : List ℕ
@@ -157,7 +157,7 @@ WrongCover d refusal body =
 abbrev pub WrongLeaf : Description → ℕ → MirrorRefusal → List ℕ → Type 0
 WrongLeaf d number refusal body = (fault : TileFault) × (refusal ≡ Leaf (record { order = d.shape.top; npix = number }) fault) × (reads d body ≡ Err fault)
 
--- the leaf behind some first leaves of the cover is the first that is refused
+-- the leaf behind a prefix of the cover's leaves is the first that is refused
 pub record RefusesLeaf (k : ℕ) (d : Description) (numbers unread : List ℕ) (refusal : MirrorRefusal) : Type 0 where
   pub leaves : LeafMap
   pub behind : List ℕ
@@ -173,7 +173,7 @@ WrongMosaic properties d leaves refusal body =
     ((refusal ≡ Differs path.Properties) × (properties ≢ file_of d leaves path.Properties))
     ⊎ ((refusal ≡ Differs path.Allsky) × (properties ≡ file_of d leaves path.Properties) × (body ≢ file_of d leaves path.Allsky))
 
--- where there is no leaf, there is no reply to be judged; faults and want of memory are no matter of bytes
+-- where there is no leaf, there is no reply to be judged; faults and running out of memory don't depend on the bytes
 abbrev pub RefusesFiles : ℕ → List ℕ → Description → LeafMap → List ℕ → MirrorRefusal → Type 0
 RefusesFiles k properties d [] unread refusal =
     ((refusal ≡ Differs path.Properties) × (properties ≢ file_of d [] path.Properties)) ⊎ (refusal ≡ OutOfMemory)
@@ -200,7 +200,8 @@ pub data Refuses (bytes : List ℕ) (refusal : MirrorRefusal) : Type 0 where
 
 -- ---- what a copy does
 
--- the whole conversation: these were the description and the leaves, where the bytes are told, and all requests were sent
+-- the whole conversation: these were the description and the leaves, where the proof can see the bytes, and all requests were
+-- sent
 pub record Talks (left held held' : Option (List ℕ)) : Type 0 where
   pub conf : Description
   pub leaves : LeafMap
@@ -208,18 +209,19 @@ pub record Talks (left held held' : Option (List ℕ)) : Type 0 where
   pub fits : is_too_large conf.shape (length leaves) ≡ false
   pub sent : Appends held held' (mirror_requests conf.shape.top (keys_of leaves))
 
--- after it the shelf has exactly these files of a survey, so many; a step was taken for each leaf and each tile above them, at most
+-- after it the shelf has exactly these files of a survey, so many; a step was taken for each leaf and each tile above them,
+-- at most
 pub record Copies (left held held' : Option (List ℕ)) (old new : Option ShelfFiles) (steps steps' count : ℕ) : Type 0 where
   pub talk : Talks left held held'
   pub replaced : Replaces (files talk.conf talk.leaves) old new
   pub counted : count ≡ len (files talk.conf talk.leaves)
   pub few : steps' ≤ steps + (length talk.leaves + tiles_above talk.conf.shape talk.leaves)
 
--- the leaves with these numbers; which tiles exist above them asks no more
+-- the leaves with these numbers; which tiles exist above them needs no more
 abbrev pub bare : List ℕ → LeafMap
 bare numbers = map (λ number. (number, [])) numbers
 
--- where the bytes are told, these are the leaves of their cover
+-- where the proof can see the bytes, these are the leaves of their cover
 pub record TellsNumbers (bytes : List ℕ) (shape : PyramidShape) (numbers : List ℕ) : Type 0 where
   pub k : ℕ
   pub properties : List ℕ

@@ -1,6 +1,6 @@
--- The order of a copy's requests and replies: each request is sent once the reply to the one before was read, and nothing else
--- is written or read. It holds whatever the ends tell. That it is so also where the very next reading or writing fails, which
--- nobody can know before, is what keeps a request from being sent early.
+-- The order of a copy's requests and replies: each request is sent once the reply to the one before was read, and nothing
+-- else is written or read. It holds whatever the proof sees of the ends. That it is so also where the very next reading or
+-- writing fails, which nobody can know before, is what keeps a request from being sent early.
 use Rattle.std.specs.Prelude.{◌≡◌, ◌⊎◌, ◌≢◌, ℕ, List, [], Result, Ok, Err}
 use Rattle.survey_link.specs.declared.source.Source as source
 use Rattle.survey_link.specs.declared.sink.Sink as sink
@@ -17,7 +17,7 @@ module _ {S K : Type 0} (told_source : source.Ghosts S) (told_sink : sink.Ghosts
     pub leaves : List ℕ
     pub conversed : Converses told_source told_sink k (asks top leaves) old new
 
-  -- some first ones have, the next one is begun at most, and one at least has no reply
+  -- a prefix of them has, the next one is begun at most, and one at least has no reply
   pub record IsBrokenOff (why : MirrorRefusal) (old new : Talk S K) : Type 0 where
     pub k : ℕ
     pub top : ℕ

@@ -1,4 +1,4 @@
--- What the steps of a copy say, where the bytes of the peer are told.
+-- What the steps of a copy say, where the proof can see the bytes of the peer.
 use Rattle.std.specs.Prelude.{◌≡◌, ◌≢◌, ◌⊎◌, ◌↔◌, ℕ, zero, suc, ◌<◌, ◌^◌, ◌+◌, nat_lt, if◌then◌else◌, ℤ, List, [], ◌∷◌, ◌++◌, Ok, Option, Some, IfSome, ⊤}
 use Rattle.survey_link.specs.Link.{Rises}
 use Rattle.survey_link.specs.declared.source.Source as source
@@ -35,7 +35,7 @@ pub record TellsProperties (k : ℕ) (d : Description) (counted : Option ℕ) (b
   pub is : IsProperties body d
   pub counts : Counts d body counted
 
--- the description is read, and what is kept of the body that tells of it is the number of leaves
+-- the description is read, and what is kept of the body that describes it is the number of leaves
 pub record TellsSurvey (k : ℕ) (d : Description) (counted : Option ℕ) (bytes unread : List ℕ) : Type 0 where
   pub properties : List ℕ
   pub described : Described bytes k properties d unread
@@ -96,11 +96,11 @@ of_stop stop.ReadFault request = refusal.ReadFault
 of_stop stop.WriteFault request = refusal.WriteFault
 of_stop stop.OutOfMemory request = refusal.OutOfMemory
 
--- the refusal tells this stop of some request
+-- the refusal is this stop of some request
 abbrev pub Tells : MirrorRefusal → Stop → Type 0
 Tells why stopped = (request : ℕ) × (why ≡ of_stop stopped request)
 
--- the refusal tells of a body that came, or of memory
+-- the refusal is of a body that came, or out of memory
 abbrev pub IsOfBody : MirrorRefusal → Type 0
 IsOfBody (refusal.Reply request) = ⊥
 IsOfBody refusal.Properties = ⊤
@@ -125,7 +125,7 @@ module _ {S K : Type 0} (told_source : source.Ghosts S) (told_sink : sink.Ghosts
     pub told : Told (unread_at told_source old) (unread_at told_source new) Leads
     pub goes : Goes told_source told_sink old new
 
-  -- a fault of an end is told only where its count of faults rose, and none of the shelf
+  -- a fault of an end comes only where its count of faults rose, and none of the shelf
   abbrev pub FaultRose : Peer S K → Peer S K → MirrorRefusal → Type 0
   FaultRose old new refusal.ReadFault = Rises (told_source.faults old.src.now) (told_source.faults new.src.now)
   FaultRose old new refusal.WriteFault = Rises (told_sink.faults old.sink.now) (told_sink.faults new.sink.now)
@@ -139,8 +139,8 @@ module _ {S K : Type 0} (told_source : source.Ghosts S) (told_sink : sink.Ghosts
   FaultRose old new (refusal.Leaf cell fault) = ⊤
   FaultRose old new (refusal.Differs path) = ⊤
 
-  -- some first ones of these requests have their replies, the next one is begun at most, and this is why: so of the unread bytes,
-  -- where the proof can see them
+  -- a prefix of these requests has its replies, the next one is begun at most, and this is why: so of the unread bytes, where
+  -- the proof can see them
   pub record IsRefusedIn (k : ℕ) (asks : List Ask) (Refused : List ℕ → Type 0) (old new : Peer S K) (why : MirrorRefusal) : Type 0 where
     pub stops : StopsIn told_source told_sink k (Tells why) (IsOfBody why) asks (talk old) (talk new)
     pub refused : IfSome (unread_at told_source old) Refused

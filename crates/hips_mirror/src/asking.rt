@@ -15,8 +15,8 @@ use log::Log;
 use mirror_frame::{Due, Peer, Stop};
 use survey_link::{Sink, Source};
 
-/// Sends a request, and reads its reply: its body is then the peer's. It answers the reply's Survey-Prefix. The log gets what is
-/// wrong with a reply.
+/// Sends a request, and reads its reply: its body is then the peer's. It answers the reply's Survey-Prefix. What is wrong
+/// with a reply is logged.
 ///
 /// # Errors
 ///

@@ -30,11 +30,11 @@ use std::thread::Threads;
 use std::time::Clock;
 use survey_link::{Gate, LinkFault, Shelf, Sink, Source};
 
-/// Copies one published state of a peer's survey onto the shelf, and answers how many files these are. It has the peer's newest
-/// state held, reads its description, its coverage, its leaves one after another, and its mosaic, builds all files of the leaves
-/// itself, and compares. Then the pin is released, and the shelf's files of a survey become those of the copy; all other files
-/// stay. The steps rise by one for each leaf and each tile that exists above them, at most. The log gets how far it is, and what
-/// is wrong with what the peer sends.
+/// Copies one published state of a peer's survey onto the shelf, and answers how many files these are. It asks the peer to
+/// hold its newest state, reads its description, its coverage, its leaves one after another, and its mosaic, builds all files
+/// of the leaves itself, and compares. Then the pin is released, and the shelf's files of a survey become those of the copy;
+/// all other files stay. The steps rise by one for each leaf and each tile that exists above them, at most. How far it is,
+/// and what is wrong with what the peer sends, is logged.
 ///
 /// # Errors
 ///

@@ -30,7 +30,7 @@ pub(crate) struct Survey {
     pub(crate) counted: Option<u64>,
 }
 
-/// Has the newest state held, and reads its description.
+/// Asks the peer to hold its newest state, and reads its description.
 ///
 /// # Errors
 ///
@@ -49,7 +49,7 @@ pub(crate) fn read_description<R: Log, S: Source, K: Sink>(
     read_properties(rt, alloc, peer, pinned)
 }
 
-// Has the newest state held, and answers how many edits are published in it.
+// Asks the peer to hold its newest state, and answers how many edits are published in it.
 fn pin<R: Log, S: Source, K: Sink>(
     rt: &R,
     peer: &mut Peer<'_, '_, '_, S, K>,
@@ -81,7 +81,7 @@ fn read_properties<R: Log, S: Source, K: Sink>(
     }
 }
 
-// The survey that the properties file describes. The log gets what is wrong with it.
+// The survey that the properties file describes. What is wrong with it is logged.
 fn describe<R: Log>(
     rt: &R,
     alloc: Global,
@@ -181,7 +181,7 @@ fn is_count(text: &[u8], digits: &[u8]) -> bool
     are_lines(text) && is_plain(digits)
 }
 
-// What stands up to the last space, and what follows it.
+// What comes up to the last space, and what follows it.
 fn split_word(line: &[u8]) -> Option<(&[u8], &[u8])>
     ensures whole { IfSome result (λ parts. line.now ≡ parts.0.now ++ parts.1.now) }
     ensures space { IfSome result (λ parts. (front : List ℕ) × (parts.0.now ≡ front ++ 32 ∷ [])) }

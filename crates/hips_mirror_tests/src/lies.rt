@@ -11,8 +11,9 @@ use std::time::Clock;
 use survey_link::{MemShelf, MemSink, Shelf};
 use tile_path::Path;
 
-// What is changed in the replies of a peer with so many leaves: the first place of a text becomes another. The refusal is told
-// by its number, with the request, the number of leaves, the leaf, or 1 for the mosaic; and how its line in the log begins.
+// What is changed in the replies of a peer with so many leaves: the first place of a text becomes another. The refusal is
+// shown by its number, with the request, the number of leaves, the leaf, or 1 for the mosaic; and how its line in the log
+// begins.
 struct Lie {
     leaves: u64,
     changes: [&'static str; 6],
@@ -170,7 +171,7 @@ static LIES: [Lie; 14] = [
     },
 ];
 
-// The number of a refusal, and what it tells.
+// The number of a refusal, and what it says.
 fn told(refusal: MirrorRefusal) -> (u8, u64) {
     match refusal {
         MirrorRefusal::Reply { request } => (1, u64::from(request)),
@@ -242,7 +243,7 @@ fn refuses<R: Threads + Sync + Clock + Log>(
     Ok(refused && files(alloc, &mut shelf)?.as_slice() == before.as_slice())
 }
 
-// Whether the lie is refused as it is to be.
+// Whether the lie is refused as it must be.
 fn refuses_lie<R: Threads + Sync + Clock + Log>(
     rt: &R,
     alloc: Global,

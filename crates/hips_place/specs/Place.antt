@@ -21,8 +21,9 @@ use Rattle.hips_place.specs.declared.doors.ServeRefusal.TheVariants.{NotOpened, 
 
 -- ---- a connection
 
--- it is a session with these events of its own, from the states seen before it to those seen then: a prefix of its input was read and the rest
--- is left, what its sink holds grew by what was written, and what it has flushed by what was flushed of that
+-- it is a session with these events of its own, from the states seen before it to those seen then: a prefix of its input was
+-- read and the rest is left, what its sink holds grew by what was written, and what it has flushed by what was flushed of
+-- that
 pub record IsSession (conf : Description) (opening : LeafTiles) (states : List SurveyState) (taken back : Connection) (states' : List SurveyState) (end : SessionEnd) (own input : List ℕ) : Type 0 where
   pub read : List ℕ
   pub rest : List ℕ
@@ -46,7 +47,8 @@ pub record IsSession (conf : Description) (opening : LeafTiles) (states : List S
       })
       own states' end memory_faults
 
--- a connection as it was taken and as it was given back: the history goes on, and by a session where the source told its bytes
+-- a connection as it was taken and as it was given back: the history goes on, by a session where the proof can see the
+-- source's bytes
 pub record IsServedOnce (conf : Description) (opening : LeafTiles) (states : List SurveyState) (taken back : Connection) (states' : List SurveyState) (end : SessionEnd) (own : List ℕ) : Type 0 where
   pub legal : IsHistory opening states'
   pub begins : Begins states states'
@@ -69,12 +71,13 @@ PlaceRun conf opening states (taken ∷ opened) (back ∷ closed) (end ∷ ends)
     × PlaceRun conf opening mid opened closed ends owns states'
 PlaceRun conf opening states opened closed ends owns states' = ⊥
 
--- all connections that were taken from a door were given back, where it tells them
+-- a door has no open connection, where the proof can see them: all that were taken were given back
 abbrev pub AllReturned : Option Connections → Type 0
 AllReturned None = ⊤
 AllReturned (Some told) = length told.returned ≡ length told.taken
 
--- the door has handed out these connections, each with a number of its own, and got them back like that, where it tells them
+-- these connections of the door were opened, each with a number of its own, and closed like that, where the proof can see
+-- them
 abbrev pub OpenedAndClosed : Option Connections → List Numbered → List Numbered → Option Connections → Type 0
 OpenedAndClosed None opened closed new = ⊤
 OpenedAndClosed (Some old) opened closed None = ⊥
@@ -82,8 +85,8 @@ OpenedAndClosed (Some old) opened closed (Some new) =
     (old.waiting ≡ opened ++ new.waiting) × (new.taken ≡ old.taken ++ opened) × (new.returned ≡ old.returned ++ closed)
     × AreNumbered (length old.taken) opened
 
--- a door at one moment: its connections, where it tells them, how often it has failed, and how often it had no memory to accept
--- a connection
+-- a door at one moment: its connections, where the proof can see them, how often it has failed, and how often it had no
+-- memory to accept a connection
 pub record DoorContent : Type 0 where
   pub connections : Option Connections
   pub faults : ℕ
@@ -92,18 +95,19 @@ pub record DoorContent : Type 0 where
 abbrev pub door_of : {D I O : Type 0} → DoorTells D I O → D → DoorContent
 door_of told door = record { connections = told.connections door; faults = told.faults door; memory_faults = told.memory_faults door }
 
--- what a place's end tells of its door's counts: `Failed` if and only if an accept failed, and `Done` only where none was refused
+-- what a place's end says of its door's counts: `Failed` if and only if an accept failed, and `Done` only where none was
+-- refused
 abbrev pub EndsBy : DoorContent → DoorContent → PlaceEnd → Type 0
 EndsBy door door' Done = (door'.faults ≡ door.faults) × (door'.memory_faults ≡ door.memory_faults)
 EndsBy door door' Failed = Rises door.faults door'.faults × (door'.memory_faults ≡ door.memory_faults)
 EndsBy door door' OutOfMemory = (door'.faults ≡ door.faults) × (Rises door.memory_faults door'.memory_faults ⊎ (door'.memory_faults ≡ door.memory_faults))
 
--- as many connections were taken as were to be, or none is left
+-- the limit of connections is reached, or none is left
 abbrev pub TookAll : ℕ → List Numbered → DoorContent → Type 0
 TookAll most opened door' = (length opened ≡ most) ⊎ NoneWaits door'.connections
 
--- what a place's end tells of its connections, whatever became of other places. Done: it took all, and no session ended for want
--- of memory. Out of memory: an accept wanted it, or the place took all and a session ended so
+-- what a place's end says of its connections, whatever became of other places. Done: it took all, and no session ran out of
+-- memory. Out of memory: an accept ran out of it, or the place took all and a session ran out of it
 abbrev pub EndsAfter : DoorContent → DoorContent → ℕ → List Numbered → List SessionEnd → PlaceEnd → Type 0
 EndsAfter door door' most opened ends Done = TookAll most opened door' × All (λ end. end ≢ SessionOutOfMemory) ends
 EndsAfter door door' most opened ends OutOfMemory = Rises door.memory_faults door'.memory_faults ⊎ (TookAll most opened door' × Contains ends SessionOutOfMemory)
@@ -115,8 +119,7 @@ OutOfMemoryFirst [] = ⊤
 OutOfMemoryFirst (SessionOutOfMemory ∷ ends) = OutOfMemoryFirst ends
 OutOfMemoryFirst (end ∷ ends) = All (λ each. each ≢ SessionOutOfMemory) ends
 
--- what a place whose sessions had these events of their own did to its board and its door, of which it was to take so many
--- connections
+-- what a place whose sessions had these events of their own did to its board and its door; `most` is its limit of connections
 pub record IsPlace (old new : BoardContent) (door door' : DoorContent) (most : ℕ) (end : PlaceEnd) (owns : List (List ℕ)) : Type 0 where
   pub opened : List Numbered
   pub closed : List Numbered
@@ -127,8 +130,8 @@ pub record IsPlace (old new : BoardContent) (door door' : DoorContent) (most : �
   pub ended : EndsAfter door door' most opened ends end
   pub memory_first : OutOfMemoryFirst ends
 
--- what is true of it, also where nothing is told: the history that its board sees goes on, by the events of its sessions and
--- those of other boards, with no more of its own than so many connections may make
+-- what is true of it, also where the proof can't see the door's connections: the history that its board sees goes on, by the
+-- events of its sessions and those of other boards, with no more of its own than so many connections may make
 pub record PlaceGoes (old new : BoardContent) (most : ℕ) (owns : List (List ℕ)) : Type 0 where
   pub conf : new.conf ≡ old.conf
   pub opening : new.opening ≡ old.opening
@@ -138,7 +141,7 @@ pub record PlaceGoes (old new : BoardContent) (most : ℕ) (owns : List (List �
   pub own_is : new.own ≡ old.own ++ concat owns
   pub few : length (concat owns) ≤ most * most_requests
 
--- a place and what it did, where its door tells its connections
+-- a place and what it did, where the proof can see its door's connections
 pub record ServesPlace (old new : BoardContent) (door door' : DoorContent) (most : ℕ) (end : PlaceEnd) : Type 0 where
   pub owns : List (List ℕ)
   pub goes : PlaceGoes old new most owns
@@ -174,7 +177,7 @@ pub record OnePlace : Type 0 where
   pub owns : List (List ℕ)
   pub end : PlaceEnd
 
--- it is one of which so many connections were to be taken
+-- it is one with this limit of connections
 pub record IsServedPlace (most : ℕ) (place : OnePlace) : Type 0 where
   pub served : AllReturned place.door.connections → IsPlace place.board place.board_then place.door place.door_then most place.end place.owns
   pub goes : PlaceGoes place.board place.board_then most place.owns
@@ -194,7 +197,7 @@ pub record EndAs (ends : List PlaceEnd) (end : PlaceEnd) : Type 0 where
   pub failed : end ≡ Failed → Contains ends Failed
   pub wanted : end ≡ OutOfMemory → Contains ends OutOfMemory × All (λ each. each ≢ Failed) ends
 
--- the places of a server, one for each board and the door beside it, of each of which so many connections were to be taken
+-- the places of a server, one for each board and the door beside it, each with this limit of connections
 pub record ArePlaces (most : ℕ) (boards boards' : List BoardContent) (doors doors' : List DoorContent) (end : PlaceEnd) : Type 0 where
   pub places : List OnePlace
   pub each : All (IsServedPlace most) places
@@ -218,8 +221,8 @@ first_board seat conf opening = record {
   held = None;
 }
 
--- a door before and after, the places of the events of each of its sessions, in order, the states that its place had seen in the
--- end, and how the place ended
+-- a door before and after, the places of the events of each of its sessions, in order, the states that its place had seen in
+-- the end, and how the place ended
 pub record DoorRun : Type 0 where
   pub door : DoorContent
   pub door_then : DoorContent
@@ -227,8 +230,8 @@ pub record DoorRun : Type 0 where
   pub seen : List SurveyState
   pub end : PlaceEnd
 
--- a door: the connections that it handed out and got back lead from the survey's first state to those that its place had seen
--- in the end
+-- a door: the connections that were opened and closed lead from the survey's first state to those that its place had seen in
+-- the end
 pub record ServesDoor (conf : Description) (opening : LeafTiles) (most : ℕ) (served : DoorRun) : Type 0 where
   pub opened : List Numbered
   pub closed : List Numbered
@@ -239,8 +242,8 @@ pub record ServesDoor (conf : Description) (opening : LeafTiles) (most : ℕ) (s
   pub ended : EndsAfter served.door served.door_then most opened ends served.end
   pub memory_first : OutOfMemoryFirst ends
 
--- the doors of a server, each by itself: a legal history of its own, and its run where it had got back all that it had handed
--- out. All in all their places ended so
+-- the doors of a server, each by itself: a legal history of its own, and its run if it had no open connection. All in all
+-- their places ended so
 pub record ServesApart (conf : Description) (opening : LeafTiles) (most : ℕ) (doors doors' : List DoorContent) (end : PlaceEnd) : Type 0 where
   pub runs : List DoorRun
   pub doors_are : map (λ run. run.door) runs ≡ doors
@@ -269,8 +272,8 @@ pub record ServesDoors (conf : Description) (opening : LeafTiles) (most : ℕ) (
   pub begins : All (λ run. Begins run.seen states) apart.runs
   pub owned : (place : ℕ) → 0 < place → place < length states → IsOneSessions (map (λ run. run.owns) apart.runs) place
 
--- the doors were served, and their places ended all in all so; or the survey wasn't opened, and they stay; or the boards couldn't
--- meet in the end
+-- the doors were served, and their places ended all in all so; or the survey wasn't opened, and they stay; or the boards
+-- couldn't meet in the end
 abbrev pub ServesAs : Description → LeafTiles → ℕ → List DoorContent → List DoorContent → Result PlaceEnd ServeRefusal → Type 0
 ServesAs conf opening most doors doors' (Ok end) = ServesDoors conf opening most doors doors' end
 ServesAs conf opening most doors doors' (Err NotOpened) = doors' ≡ doors

@@ -25,7 +25,7 @@ use survey_core::State;
 use survey_link::{Door, Gate};
 use thiserror::Error;
 
-/// What there was no memory for when the doors of a survey were to be served.
+/// What there was no memory for when serving the doors of a survey.
 #[derive(Clone, Copy, Debug, PartialEq, Eq, Error)]
 pub enum ServeRefusal {
     /// The survey wasn't opened, and no door was touched.

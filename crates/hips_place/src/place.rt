@@ -19,7 +19,7 @@ use std::thread::Threads;
 use std::time::Clock;
 use survey_link::{Door, DoorFault, Gate, Sink, Source};
 
-/// A runtime by which a connection is served: what is said by it names the connection's place and its number there.
+/// A runtime by which a connection is served: what it logs names the connection's place and its number there.
 pub type InConnection<R> = Span<'static, R, With<'static, With<'static, (), usize>, u32>>;
 
 /// A runtime that has one of the type `N` for each connection.
@@ -41,11 +41,11 @@ impl<R: Log + Copy> NamesConnections<InConnection<R>> for R {
 /// How a place ended.
 #[derive(Clone, Copy, Debug, PartialEq, Eq)]
 pub enum PlaceEnd {
-    /// It took as many connections as it was to, or none is left; no session ended for want of memory.
+    /// It reached its limit of connections, or none is left; no session ran out of memory.
     Done,
     /// The door failed.
     Failed,
-    /// A session ended for want of memory, or a connection wasn't accepted for want of it.
+    /// A session ran out of memory, or an accept did.
     OutOfMemory,
 }
 
@@ -62,17 +62,18 @@ impl PlaceEnd {
     }
 }
 
-/// Takes up to `most` connections from the door, one after another, serves each from the states that the board sees, and gives
-/// it back. It keeps one frame for all; a connection for which there was no memory for one ends for want of it, with nothing
-/// read or written, and the next one is served where there is. `place` is the place's number, from 1 on, which only the log gets.
+/// Takes up to `most` connections from the door, one after another, serves each from the states that the board sees, and
+/// gives it back. It keeps one frame for all; a connection for which there was no memory for one ends out of memory, with
+/// nothing read or written, and the next one is served if there is. `place` is the place's number, from 1 on, for the log
+/// alone.
 ///
-/// It waits for nobody but the door and its connections where the board doesn't. A runtime that can't be copied is given as a
-/// reference to it.
+/// It waits only for the door and its connections, if the board waits for nobody. A runtime that can't be copied is given as
+/// a reference to it.
 ///
 /// It warns when 80 and when 95 percent of the connections were taken, since it ends after the last one.
 ///
-/// `Failed` if and only if an accept fails, also after a session that ended for want of memory. `OutOfMemory` where an accept
-/// answers it, or a session ended so and no accept failed; such a session doesn't end the place.
+/// `Failed` if and only if an accept fails, also after a session that ran out of memory. `OutOfMemory` where an accept
+/// answers it, or a session ran out of memory and no accept failed; such a session doesn't end the place.
 pub fn serve_place<
     R: Log + NamesConnections<N>,
     N: Threads + Sync + Clock + Log + Drop,
@@ -138,7 +139,7 @@ fn share_of(most: u32, percent: u8) -> u32
     u32::try_from(share).unwrap_or(most)
 }
 
-// Says how a place ended that has served so many connections.
+// Logs how a place ended that has served so many connections.
 fn say_ended<R: Log>(rt: &R, end: PlaceEnd, served: u32) -> PlaceEnd
     ensures { result ≡ end }
 {
@@ -151,7 +152,7 @@ fn say_ended<R: Log>(rt: &R, end: PlaceEnd, served: u32) -> PlaceEnd
     end
 }
 
-// Whether a session has ended for want of memory, where this one ended so, or one before it.
+// Whether a session has run out of memory: this one, or one before it.
 fn is_wanted(before: bool, end: SessionEnd) -> bool
     ensures none { result ≡ false → (before ≡ false) × (end ≢ SessionEnd.OutOfMemory) }
     ensures some { result ≡ true → (before ≡ true) ⊎ (end ≡ SessionEnd.OutOfMemory) }
@@ -159,7 +160,7 @@ fn is_wanted(before: bool, end: SessionEnd) -> bool
     before || end == SessionEnd::OutOfMemory
 }
 
-// How a place ends that the door hasn't failed.
+// How a place ends whose door hasn't failed.
 fn end_of(wanted: bool) -> PlaceEnd
     ensures { result ≡ (if wanted then PlaceEnd.OutOfMemory else PlaceEnd.Done) }
 {
@@ -289,7 +290,7 @@ fn serve_connection<
     end
 }
 
-// Serves a connection over the frame; how it ended. Without a frame it ends for want of memory.
+// Serves a connection over the frame; how it ended. Without a frame it ends out of memory.
 fn serve<R: Threads + Sync + Clock + Log, B: ChangedWith<R>, S: Source, K: Sink, G: Gate + Sync>(
     rt: &R,
     alloc: Global,

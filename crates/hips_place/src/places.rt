@@ -14,8 +14,8 @@ use survey_link::{Door, Gate};
 
 /// Serves the doors at once, each by the board at its place: up to `most` connections of each, one after another. Each place
 /// has a thread and a counter of steps of its own; where no thread can be started, the places that it was for are served
-/// before or after others. A place goes on to its end however another one ends. `first` is the number of the first place, which
-/// only the log gets.
+/// before or after others. A place goes on to its end however another one ends. `first` is the number of the first place, for
+/// the log alone.
 ///
 /// It answers `Failed` where a place ended so; else `OutOfMemory` where one did; else `Done`.
 #[cycle(places)]

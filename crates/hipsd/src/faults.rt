@@ -1,4 +1,4 @@
-//! What is said to the log where an end of the program failed.
+//! What is logged if an end of the program failed.
 use log::{Log, error};
 use survey_link::{FolderShelf, StreamSink, StreamSource};
 
@@ -9,7 +9,7 @@ const OUTPUT: u8 = 6;
 
 const FOLDER: u8 = 7;
 
-/// Says which call failed where a run ended with this status, and what the system answered.
+/// Logs which call failed if a run ended with this status, and what the system answered.
 pub(crate) fn say_fault<R: Log, S, K, F>(
     rt: &R,
     status: u8,
@@ -37,8 +37,8 @@ pub(crate) fn say_fault<R: Log, S, K, F>(
     }
 }
 
-/// Says which end failed where a copy of the survey at this address ended with this status. Why nobody could be called there was
-/// said before.
+/// Logs which end failed if a copy of the survey at this address ended with this status. Why connecting failed was logged
+/// before.
 pub(crate) fn say_peer_fault<R: Log, F>(rt: &R, status: u8, address: &str, shelf: &FolderShelf<F>) {
     match status {
         INPUT =>

@@ -61,7 +61,7 @@ where
     }
 }
 
-// Whether one can listen at the address. The log gets why nobody can.
+// Whether one can listen at the address. If not, why is logged.
 fn can_listen<R: Log>(rt: &R, net: &HostRuntime, address: &str) -> bool {
     match try_address(net, address) {
         Trial::Free => true,
@@ -164,7 +164,7 @@ fn exit_code(ended: io::Result<u8>) -> ExitCode
     }
 }
 
-// The level up to which is logged: that of the environment variable `HIPSD_LOG`, and `info` where it names none.
+// The level up to which is logged: that of the environment variable `HIPSD_LOG`, and `info` if it names none.
 fn log_level<R: AllocGlobal + Env>(rt: &R) -> LevelFilter {
     match env::var(rt, LOG) {
         Ok(level) => level.as_str().parse().unwrap_or(LevelFilter::Info),
@@ -172,7 +172,7 @@ fn log_level<R: AllocGlobal + Env>(rt: &R) -> LevelFilter {
     }
 }
 
-// Says where the environment variable is set and names no level.
+// Warns if the environment variable is set and names no level.
 fn say_level<R: AllocGlobal + Env + Log>(rt: &R) {
     match env::var(rt, LOG) {
         Ok(level) if level.as_str().parse::<LevelFilter>().is_err() => {

@@ -47,7 +47,7 @@ pub record Asks (words : List (List ℕ)) (command : Command) : Type 0 where
   pub spelled : words ≡ words_of address command
   pub in_range : IsInRange command
 
--- the words are a row of the table of commands
+-- the words are a valid command line
 abbrev pub IsCommand : List (List ℕ) → Type 0
 IsCommand words = (command : Command) × Asks words command
 
@@ -63,7 +63,7 @@ doors_of (Past cache) = 0
 doors_of (Catalog top per_tile) = 0
 doors_of Mirror = 0
 
--- they are a row of it where there are so many doors
+-- they are valid if there are so many doors
 abbrev pub IsCommandFor : ℕ → List (List ℕ) → Type 0
 IsCommandFor doors words = (command : Command) × Asks words command × (doors_of command ≤ doors)
 

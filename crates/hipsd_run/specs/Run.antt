@@ -1,7 +1,7 @@
 -- What `run` answers, and writes besides what a command writes.
 use Rattle.std.specs.Prelude.{◌≡◌, ◌⊎◌, ℕ, List, [], ◌∷◌, ◌++◌, codes}
 
--- what is written where the words are no command's: a line that ends with LF
+-- what is written for an invalid command line: a line that ends with LF
 abbrev pub usage_text : List ℕ
 usage_text = codes "usage: hipsd COMMAND" ++ 10 ∷ []
 

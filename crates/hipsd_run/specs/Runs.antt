@@ -1,5 +1,5 @@
--- What each command does to the ends of the program, by cases over the commands: what its own function promises, what stays as it
--- was, and which status tells of a fault.
+-- What each command does to the ends of the program, by cases over the commands: what its own function promises, what stays
+-- as it was, and which status reports a fault.
 use Rattle.std.specs.Prelude.{◌≡◌, ◌≢◌, ◌⊎◌, ℕ, ◌≤◌, false, List, Option, Some, map, take, drop, Vec}
 use Rattle.std.specs.declared.alloc.Global.{Global}
 use Rattle.std.specs.Io.KnownBytes.{Appends, IsAtEnd}
@@ -30,7 +30,7 @@ use Rattle.hipsd_run.specs.declared.command.Command.TheVariants.{Probe as ProbeC
 
 -- ---- the ends
 
--- what the ends tell
+-- what the proof sees of the ends
 pub record Telling (S K H D : Type 0) : Type 1 where
   pub source : SourceTells S
   pub sink : SinkTells K
@@ -130,7 +130,7 @@ pub record KeepsUnused {S K H D : Type 0} (command : Command) (tells : Telling S
   pub files : writes_files command ≡ false → files_in tells new ≡ files_in tells old
   pub doors : opens_doors command ≡ false → new.doors ≡ old.doors
 
--- the status 1 is for words that are no command's; one that tells of a fault comes only where the count of that fault rose; and
+-- the status 1 is for an invalid command line; one that reports a fault comes only where the count of that fault rose; and
 -- where the survey couldn't be opened, the doors stay
 pub record TellsFaults {S K H D : Type 0} (tells : Telling S K H D) (old new : Ends S K H D) (status : ℕ) : Type 0 where
   pub not_usage : status ≢ 1

@@ -60,8 +60,8 @@ impl Command {
     }
 }
 
-/// The command that the words ask for, where there are so many doors; `None` if and only if they are no row of the table of
-/// commands, or it needs more doors.
+/// The command that the words ask for, where there are so many doors; `None` if and only if the command line is invalid, or
+/// it needs more doors.
 pub fn command_for(words: &[String], doors: usize) -> Option<Command>
     ensures asked { IfSome result (Asks (texts words.now)) }
     ensures fits { IfSome result (λ command. doors_of command ≤ doors) }
@@ -75,7 +75,7 @@ pub fn command_for(words: &[String], doors: usize) -> Option<Command>
     }
 }
 
-/// The command that the words ask for; `None` if and only if they are no row of the table of commands.
+/// The command that the words ask for; `None` if and only if the command line is invalid.
 pub fn read_command(words: &[String]) -> Option<Command>
     ensures asked { IfSome result (Asks (texts words.now)) }
     ensures none { IfNone result (¬ IsCommand (texts words.now)) }

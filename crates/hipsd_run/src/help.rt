@@ -1,4 +1,4 @@
-//! What is said to the log where the words are no command's. It stands in no clause.
+//! What is logged for an invalid command line. No clause covers it.
 use crate::version::say_version;
 use decimal_scale::plain_decimal;
 use log::{Log, error};
@@ -52,7 +52,7 @@ static NUMBERS: [(&str, usize, u64, u64); 11] = [
     ("probe", 3, 0, u64::MAX),
 ];
 
-/// Says what is wrong with the words of a command, and which words it takes; of a name that is no command's, which commands
+/// Logs what is wrong with the words of a command, and which words it takes; of a name that is no command's, which commands
 /// there are, and which program this is.
 pub(crate) fn say_commands<R: Log>(rt: &R, words: &[String]) {
     match words.split_first() {
@@ -64,7 +64,7 @@ pub(crate) fn say_commands<R: Log>(rt: &R, words: &[String]) {
     }
 }
 
-// Says it of the words after this name.
+// Logs it of the words after this name.
 fn say_command<R: Log>(rt: &R, name: &str, given: &[String]) {
     for (command, wanted, bounds) in COMMANDS.iter() {
         if *command == name {
@@ -80,12 +80,12 @@ fn say_command<R: Log>(rt: &R, name: &str, given: &[String]) {
     say_all(rt);
 }
 
-// Says a line.
+// Logs a line.
 fn say<R: Log, T: Display>(rt: &R, line: &T) {
     error!(rt; "{line}");
 }
 
-// Says which commands there are, and which program this is.
+// Logs which commands there are, and which program this is.
 fn say_all<R: Log>(rt: &R) {
     say(rt, &"the commands are:");
     for (name, words, _) in COMMANDS.iter() {
@@ -94,7 +94,7 @@ fn say_all<R: Log>(rt: &R) {
     say_version(rt);
 }
 
-// Says what is wrong with the words after the name of a command: how many they are, or each number that isn't in its bounds.
+// Logs what is wrong with the words after the name of a command: how many they are, or each number that isn't in its bounds.
 fn say_wrong<R: Log>(rt: &R, name: &str, wanted: &str, given: &[String]) {
     let count = wanted.split_whitespace().count();
     let found = given.len();
@@ -115,7 +115,7 @@ fn say_wrong<R: Log>(rt: &R, name: &str, wanted: &str, given: &[String]) {
     }
 }
 
-// Says where a word is no number from `least` to `greatest`.
+// Logs if a word is no number from `least` to `greatest`.
 fn say_bound<R: Log>(rt: &R, wanted: &str, given: &[String], at: usize, least: u64, greatest: u64) {
     let shown = wanted.split_whitespace().nth(at).unwrap_or("");
     match number_at(given, at) {
@@ -136,7 +136,7 @@ fn say_bound<R: Log>(rt: &R, wanted: &str, given: &[String], at: usize, least: u
     }
 }
 
-// Says where the order that a probe asks for is deeper than that of its leaves.
+// Logs if the order that a probe asks for is deeper than that of its leaves.
 fn say_depth<R: Log>(rt: &R, given: &[String]) {
     match (number_at(given, 0), number_at(given, 2)) {
         (Some(top), Some(order)) if top < order => {

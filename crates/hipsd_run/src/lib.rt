@@ -1,8 +1,8 @@
 //! The whole program but for its real ends.
 //!
 //! `run` runs the command that the words of a command line ask for, over whatever ends it is given, and answers its status;
-//! `words` makes these words of the arguments, and `second_word` is the address at which the ends are. The program `hipsd` makes
-//! the ends and calls these.
+//! `words` makes these words of the arguments, and `second_word` is the address at which the ends are. The program `hipsd`
+//! makes the ends and calls these.
 #![tactic(auto)]
 
 mod address;

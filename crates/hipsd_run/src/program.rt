@@ -42,7 +42,7 @@ use survey_link::{Door, Gate, Shelf, Sink, Source};
 /// | Status | Where |
 /// |---|---|
 /// | 0 | the command is done |
-/// | 1 | the words are no row of the table of commands; `usage: hipsd COMMAND` and LF are written |
+/// | 1 | the command line is invalid; `usage: hipsd COMMAND` and LF are written |
 /// | 2 | the shelf has no `survey.conf`, and `conf absent` and LF are written; or this has a fault: `conf LINE KIND` and LF |
 /// | 3 | the file of a leaf is refused: `tile PATH FAULT` and LF are written; or there are too many: `leaves N` and LF |
 /// | 4 | `probe`, `past`: the input ends within a record; `session`: within a request; `catalog`: within a line; `mirror`: within a reply |
@@ -56,12 +56,11 @@ use survey_link::{Door, Gate, Shelf, Sink, Source};
 /// | 14 | `session`: the framing of a request is refused |
 /// | 16 | `catalog`: a line has a fault, and `row LINE KIND` and LF are written |
 /// | 17 | `past`: a record has no line of its form |
-/// | 21 to 26 | `mirror`: a reply isn't in form; the properties, the coverage are refused; there are too many leaves; a leaf is refused; the properties or the mosaic aren't those of the leaves |
+/// | 21 to 26 | `mirror`: a reply is malformed; the properties, the coverage are refused; there are too many leaves; a leaf is refused; the properties or the mosaic aren't those of the leaves |
 ///
 /// Of a tile nothing is written with a status but 0 and 6.
 ///
-/// It has the right to wait for the sake of `serve` alone, whose places share a lock. Each other command is a function without
-/// that right.
+/// It has the right to wait only for `serve`, whose places share a lock. Each other command is a function without that right.
 pub fn run<R, S, K, H, D, G>(
     rt: &R,
     words: &[String],
@@ -82,14 +81,14 @@ where
     D::Out: Send,
     G: Gate + Sync,
 
-    // Words that are no command's.
+    // An invalid command line.
     ensures usage_only { result ≡ 1 → ¬ IsCommandFor (length doors.old.items) (texts words.now) }
     ensures usage { ¬ IsCommandFor (length doors.old.items) (texts words.now) → (result ≡ 1) ⊎ (result ≡ 6) }
     ensures usage_written { result ≡ 1 → Appends (K.held sink.old) (K.held sink.new) usage_text }
     ensures usage_part { ¬ IsCommandFor (length doors.old.items) (texts words.now) → AppendsPrefix (K.held sink.old) (K.held sink.new) usage_text }
     ensures usage_read { ¬ IsCommandFor (length doors.old.items) (texts words.now) → source.new ≡ source.old }
 
-    // `probe`, where the source tells its input.
+    // `probe`, where the proof can see the source's input.
     ensures probe { (asked : AskedProbe) (input : List ℕ) → Asks (texts words.now) (ProbeCommand asked)
         → S.left source.old ≡ Some input → EndsBy (probe_answer asked input).status result }
     ensures probe_written { (asked : AskedProbe) (input : List ℕ) → Asks (texts words.now) (ProbeCommand asked)
@@ -105,7 +104,7 @@ where
     ensures probe_end { (asked : AskedProbe) → Asks (texts words.now) (ProbeCommand asked)
         → result ≡ 0 → IsAtEnd (S.left source.new) }
 
-    // Each reading, what is handed on, and each step.
+    // Each reading, what is flushed, and each step.
     ensures probe_reads { (asked : AskedProbe) → Asks (texts words.now) (ProbeCommand asked)
         → ReadsToTheEnd (S.left source.old) (S.left source.new) (S.readings source.old) (S.readings source.new) }
     ensures probe_flushed { (asked : AskedProbe) → Asks (texts words.now) (ProbeCommand asked)
@@ -122,20 +121,20 @@ where
     ensures verify { Asks (texts words.now) Verify → RunsVerify (H.files shelf.old) result
         (K.held sink.old) (K.held sink.new) (K.flushed sink.old) (K.flushed sink.new) }
 
-    // A connection over the source and the sink, where the source tells its input.
+    // A connection over the source and the sink, where the proof can see the source's input.
     ensures session { (input : List ℕ) → Asks (texts words.now) Session → S.left source.old ≡ Some input
         → RunsSession (H.files shelf.old) input
         (connection_of S.Source K.Sink source.old sink.old) (connection_of S.Source K.Sink source.new sink.new)
         result }
     ensures session_unread { Asks (texts words.now) Session → (result ≡ 2) ⊎ (result ≡ 3) → source.new ≡ source.old }
 
-    // Records about past states over the source and the sink, where the source tells its input.
+    // Records about past states over the source and the sink, where the proof can see the source's input.
     ensures past { (cache : ℕ) (input : List ℕ) → Asks (texts words.now) (Past cache) → S.left source.old ≡ Some input
         → RunsPast (H.files shelf.old) input
         (connection_of S.Source K.Sink source.old sink.old) (connection_of S.Source K.Sink source.new sink.new)
         steps.old steps.new result }
 
-    // The same whatever the source tells: of the bytes that were read.
+    // The same whatever the proof sees: of the bytes that were read.
     ensures past_over { (cache : ℕ) → Asks (texts words.now) (Past cache) → RunsPastOver (H.files shelf.old)
         (connection_of S.Source K.Sink source.old sink.old) (connection_of S.Source K.Sink source.new sink.new)
         steps.old steps.new result }
@@ -143,14 +142,14 @@ where
         (connection_of S.Source K.Sink source.old sink.old) (connection_of S.Source K.Sink source.new sink.new) }
     ensures past_unread { (cache : ℕ) → Asks (texts words.now) (Past cache) → (result ≡ 2) ⊎ (result ≡ 3) → source.new ≡ source.old }
 
-    // A catalogue, where the source tells its input.
+    // A catalogue, where the proof can see the source's input.
     ensures catalog { (top : ℕ) (per_tile : ℕ) (input : List ℕ) → Asks (texts words.now) (Catalog top per_tile) → S.left source.old ≡ Some input
         → RunsCatalog top per_tile input (H.files shelf.old) (H.files shelf.new) result
         (K.held sink.old) (K.held sink.new) (K.flushed sink.old) (K.flushed sink.new) }
     ensures catalog_end { (top : ℕ) (per_tile : ℕ) → Asks (texts words.now) (Catalog top per_tile)
         → result ≡ 0 → IsAtEnd (S.left source.new) }
 
-    // A copy of a peer's survey, whatever the source tells.
+    // A copy of a peer's survey, whatever the proof sees of the source.
     ensures mirror { Asks (texts words.now) Mirror → RunsMirror (copying_of
         (connection_of S.Source K.Sink source.old sink.old) (connection_of S.Source K.Sink source.new sink.new)
         (H.files shelf.old) (H.files shelf.new) steps.old steps.new) result }
@@ -234,7 +233,7 @@ where
     }
 }
 
-// Says how the program is called.
+// Writes how the program is called.
 fn usage<K: Sink>(sink: &mut K) -> u8
     ensures status { (result ≡ 1) ⊎ (result ≡ 6) }
     ensures written { result ≡ 1 → Appends (K.held sink.old) (K.held sink.new) usage_text }

@@ -7,7 +7,7 @@ pub const VERSION: &str = "0.1.0";
 /// The toolchain by which it is proved and built, as `rt version` names it.
 pub const TOOLCHAIN: &str = "rattle-kit-13f logic dac8208d650f15bf";
 
-/// Says both to the log. It stands in no clause.
+/// Logs both. No clause covers it.
 pub fn say_version<R: Log>(rt: &R) {
     info!(rt; "hipsd {VERSION}, toolchain {TOOLCHAIN}");
 }

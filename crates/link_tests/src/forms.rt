@@ -133,7 +133,7 @@ fn count<H: Shelf>(alloc: Global, shelf: &mut H) -> Result<usize, LinkFault> {
     Ok(shelf.list(alloc)?.len())
 }
 
-/// Whether these bytes stand at the path.
+/// Whether these bytes are at the path.
 pub(crate) fn holds<H: Shelf>(
     alloc: Global,
     shelf: &mut H,
@@ -146,12 +146,12 @@ pub(crate) fn holds<H: Shelf>(
     }
 }
 
-/// Whether nothing stands at the path.
+/// Whether nothing is at the path.
 pub(crate) fn lacks<H: Shelf>(alloc: Global, shelf: &mut H, path: &str) -> Result<bool, LinkFault> {
     Ok(shelf.get(alloc, path)?.is_none())
 }
 
-// Puts, reads and removes files by eight calls: whether two are listed, `333` stands at `b`, and one is left.
+// Puts, reads and removes files by eight calls: whether two are listed, `333` is at `b`, and one is left.
 fn keep_files<H: Shelf>(alloc: Global, shelf: &mut H) -> Result<bool, LinkFault> {
     put_three(shelf)?;
     let listed = count(alloc, shelf)? == 2;

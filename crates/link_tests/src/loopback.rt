@@ -157,7 +157,7 @@ fn send_much<K: Sink>(sink: &mut K) -> Result<(), Failed> {
     Ok(())
 }
 
-// Clients that may rest 100 milliseconds, and take 300 for a request or a reply; bytes add a second each `pace`.
+// Clients that may be idle for 100 milliseconds, and take 300 for a request or a reply; bytes add a second each `pace`.
 fn patience(pace: u64) -> Patience {
     Patience {
         rest: Duration::from_millis(100),
@@ -271,7 +271,7 @@ fn a_client_goes_away(rt: HostRuntime) -> Result<(), Fail> {
     Ok(())
 }
 
-// What is said at one end comes at the other one.
+// What one end writes comes at the other one.
 fn check_said<R: Outside, S: Source>(
     rt: &R,
     output: &mut TcpOut<R>,

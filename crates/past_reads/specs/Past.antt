@@ -37,7 +37,7 @@ pub record GoesOnFrom (past : PastContent) (journal : JournalContent) : Type 0 w
   pub opening : journal.opening ≡ past.opening
   pub batches : Begins past.batches journal.batches
 
--- why there is no generation of the first k edits of these batches; want of memory comes only where the others don't
+-- why there is no generation of the first k edits of these batches; memory runs out only where the others don't apply
 abbrev pub TellsPastRefusal : List (List LeafEdit) → ℕ → PastRefusal → Type 0
 TellsPastRefusal batches k (TooNew edits) = (length (edits_of batches) < k) × (edits ≡ length (edits_of batches))
 TellsPastRefusal batches k (Split told) = (k ≤ length (edits_of batches)) × (Contains (ends batches) k → ⊥) × (told ≡ k)
@@ -57,7 +57,7 @@ pub record IsHeld (d : Description) (journal : JournalContent) (k : ℕ) (genera
   pub whole : Contains (ends journal.batches) k
   pub is : generation ≡ past_generation d journal.opening journal.batches k
 
--- so is each of the pairs of a prefix and what its generation is kept as; that of the opening leaves stands beside them, where
+-- so is each of the pairs of a prefix and what its generation is kept as; that of the opening leaves is kept beside them, if
 -- it was given
 pub record IsKeptPast {X : Type 0} (value : X → GenerationContent) (d : Description) (journal : JournalContent) (first : Option X) (pairs : List (ℕ × X)) (room : ℕ) : Type 0 where
   pub shape : journal.shape ≡ d.shape

@@ -22,8 +22,8 @@ use std::time::Clock;
 use survey_conf::Conf;
 use survey_link::Gate;
 
-/// The generations of a survey that were asked for last, at most eight of them. The generation of the opening leaves stands
-/// beside these, where it was given.
+/// The generations of a survey that were asked for last, at most eight of them. The generation of the opening leaves is kept
+/// beside these, if it was given.
 ///
 /// Contracts see the survey's description and opening leaves, whether the generation of these is kept, the batches of edits
 /// that are known, how many generations may be held beside it, and the prefixes of those that are, the most recently used
@@ -132,13 +132,13 @@ impl Past {
     /// batches are known.
     ///
     /// One that is held takes no step. Another one is made from that of the greatest held prefix below it, else from that of
-    /// the opening leaves where this is kept, else from the opening leaves afresh. The steps rise by at most the number of tiles
-    /// that are merged for this.
+    /// the opening leaves where this is kept, else from the opening leaves afresh. The steps rise by at most the number of
+    /// tiles that are merged for this.
     ///
     /// # Errors
     ///
-    /// `TooNew` with the number of edits if and only if there are fewer than `k`; `Split` if and only if the first `k` edits split
-    /// a batch; `OutOfMemory` where there is no memory for the generation. Then everything is as it was.
+    /// `TooNew` with the number of edits if and only if there are fewer than `k`; `Split` if and only if the first `k` edits
+    /// split a batch; `OutOfMemory` where there is no memory for the generation. Then everything is as it was.
     #[tactic(auto, using(crate::proofs::PastLemmas::goes_on))]
     pub fn at<R: Threads + Sync + Clock + Log, G: Gate + Sync>(
         &mut self,
@@ -175,7 +175,7 @@ impl Past {
         Ok(generation)
     }
 
-    /// The prefix of generation `i` of those held, the most recently used first; `None` exactly past the last.
+    /// The prefix of generation `i` of those held, the most recently used first; `None` if and only if `i` is past the last.
     pub fn held(&self, i: usize) -> Option<u32>
         ensures { result ≡ slice_get self.now.held i }
     {

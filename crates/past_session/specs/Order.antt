@@ -104,7 +104,7 @@ module _ {S K : Type 0} (told_source : source.Ghosts S) (told_sink : sink.Ghosts
   EndsAt at old new WriteFault = AnswersPart old new halt.WriteFault
   EndsAt at old new OutOfMemory = ReadsNone old new stop.OutOfMemory ⊎ AnswersPart old new halt.OutOfMemory
 
-  -- so the input goes on behind all records that are taken, or not, or it wasn't told
+  -- so the input goes on behind all records that are taken, or not, or this reading failed
   abbrev pub GoesOn : List ℕ → Moment S K → PastEnd → Type 0
   GoesOn bytes new Done = (bytes ≡ []) × IsAtEnd (told_source.left new.src)
   GoesOn bytes new Spent = 0 < length bytes

@@ -27,7 +27,7 @@ ends_by end = record { records = []; end = end }
 abbrev pub with_record : PastRecord → PastInput → PastInput
 with_record first later = record { records = first ∷ later.records; end = later.end }
 
--- by what stands first, behind `at` records
+-- by what comes first, behind `at` records
 abbrev pub then_records : ℕ → NextRecord → (List ℕ → PastInput) → PastInput
 then_records at no_more later = ends_by Done
 then_records at cut_short later = ends_by Cut

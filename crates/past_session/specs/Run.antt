@@ -11,7 +11,7 @@ use Rattle.past_session.specs.Costs.{cost_of}
 use Rattle.past_session.specs.declared.ending.PastEnd.{PastEnd}
 use Rattle.past_session.specs.declared.ending.PastEnd.TheVariants.{Done, Cut, BadLine, Spent, ReadFault, WriteFault, OutOfMemory}
 
--- the bytes that a sink holds, and those of them that it has flushed, where it tells them
+-- the bytes that a sink holds, and those of them that it has flushed, where the proof can see them
 pub record SinkBytes : Type 0 where
   pub held : Option (List ℕ)
   pub flushed : Option (List ℕ)
@@ -47,7 +47,7 @@ pub record ReadsPart (d : Description) (opening : LeafTiles) (input : List ℕ) 
   pub answered : Answered d opening (past_records d came) sink sink'
   pub cost : steps' ≤ steps + cost_of d opening (past_records d came)
 
--- writing failed: some first records were answered whole, and a prefix of the answer to the next one were written
+-- writing failed: a prefix of the records was answered whole, and a prefix of the answer to the next one was written
 pub record BreaksOff (d : Description) (opening : LeafTiles) (input : List ℕ) (sink sink' : SinkBytes) (steps steps' : ℕ) : Type 0 where
   pub before : List PastRecord
   pub next : PastRecord
@@ -59,7 +59,7 @@ pub record BreaksOff (d : Description) (opening : LeafTiles) (input : List ℕ) 
   pub flushed : sink'.flushed ≡ whole.flushed
   pub cost : steps' ≤ steps + cost_of d opening (before ++ next ∷ [])
 
--- memory was wanting: some first records were answered, and nothing of the next one was written
+-- memory ran out: a prefix of the records was answered, and nothing of the next answer was written
 pub record StopsEarly (d : Description) (opening : LeafTiles) (input : List ℕ) (sink sink' : SinkBytes) (steps steps' : ℕ) : Type 0 where
   pub before : List PastRecord
   pub later : List PastRecord
@@ -78,7 +78,8 @@ PastRun d opening input left' sink sink' steps steps' Cut = RunsWhole d opening 
 PastRun d opening input left' sink sink' steps steps' (BadLine at) = RunsWhole d opening input sink sink' steps steps' (BadLine at)
 PastRun d opening input left' sink sink' steps steps' Spent = RunsWhole d opening input sink sink' steps steps' Spent
 
--- whatever the source tells, the session is one of the bytes that were read, as though the input ended behind them
+-- whatever the proof sees of the source, the session is one of the bytes that were read, as though the input ended behind
+-- them
 pub record RunsOver (d : Description) (opening : LeafTiles) (left left' : Option (List ℕ)) (sink sink' : SinkBytes) (steps steps' : ℕ) (end : PastEnd) : Type 0 where
   pub came : List ℕ
   pub consumed : Consumes left left' came

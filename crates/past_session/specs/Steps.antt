@@ -26,7 +26,7 @@ pub record Sends (text : List ℕ) (sink sink' : SinkBytes) : Type 0 where
   pub written : Appends sink.held sink'.held text
   pub flushed : sink'.flushed ≡ sink'.held
 
--- writing failed after a prefix of the text; or memory was wanting before any
+-- writing failed after a prefix of the text; or memory ran out before any
 abbrev pub FailsToSend : List ℕ → SinkBytes → SinkBytes → Halt → Type 0
 FailsToSend text sink sink' halt.WriteFault = AppendsPrefix sink.held sink'.held text × (sink'.flushed ≡ sink.flushed)
 FailsToSend text sink sink' halt.OutOfMemory = sink' ≡ sink

@@ -36,10 +36,10 @@ const MOST_RECORDS: u64 = 65_536;
 /// `batch LENGTH` with that many bytes of the body of a batch behind it, at most `batch_room`, or a line `read K PATH`, K below
 /// 2^32; a line has at most 128 bytes with its line feed, numbers are in plain decimals.
 ///
-/// A batch is accepted, and answered by the number of edits then, or refused as a whole. A read is answered with the file at the
-/// path of the survey after its first K edits. At most `cache` generations are held, from 1 to 8; besides them and the opening
-/// one nothing but the edits and one record. A read of as many edits as the last one takes no step, and none makes the opening
-/// generation again.
+/// A batch is accepted, and answered by the number of edits then, or refused as a whole. A read is answered with the file at
+/// the path of the survey after its first K edits. At most `cache` generations are held, from 1 to 8; besides them and the
+/// opening one nothing but the edits and one record. A read of as many edits as the last one takes no step, and none makes
+/// the opening generation again.
 ///
 /// It ends by the first of these in the input: `Done` between records, `Cut` within one, `BadLine` at one that has no line,
 /// `Spent` where it goes on after 65,536 records. `ReadFault` and `WriteFault` come only where the source's, the sink's count
@@ -58,10 +58,10 @@ pub fn past_session<R: Threads + Sync + Clock + Log, S: Source, K: Sink, G: Gate
     requires charge { charge_of (arc_value opening).leaves [] ≤ most_charge }
     requires least { 1 ≤ cache }
     requires most { cache ≤ 8 }
-    // Where the source tells its bytes, the session is a run of the definition, which knows no cache.
+    // Where the proof can see the source's bytes, the session is a run of the definition, which knows no cache.
     ensures run { (input : List ℕ) → S.left src.old ≡ Some input → PastRun (arc_value opening).conf (arc_value opening).leaves input (S.left src.new)
         (sink_bytes K.Sink sink.old) (sink_bytes K.Sink sink.new) steps.old steps.new result }
-    // Whatever it tells, the session is one of the bytes that were read.
+    // In any case the session is one of the bytes that were read.
     ensures over { RunsOver (arc_value opening).conf (arc_value opening).leaves (S.left src.old) (S.left src.new)
         (sink_bytes K.Sink sink.old) (sink_bytes K.Sink sink.new) steps.old steps.new result }
     // Each record is answered, and the answer flushed, before the next is read; behind a bad line nothing is.
@@ -131,7 +131,7 @@ fn answer_all<R: Threads + Sync + Clock + Log, S: Source, K: Sink, G: Gate + Syn
     end_behind_all(ends, input)
 }
 
-// Reads the next record, and answers it; `at` records stand before it.
+// Reads the next record, and answers it; `at` records come before it.
 fn answer_next<R: Threads + Sync + Clock + Log, S: Source, K: Sink, G: Gate + Sync>(
     session: &mut Session,
     ends: &mut Ends<'_, '_, S, K>,
@@ -158,7 +158,7 @@ fn answer_next<R: Threads + Sync + Clock + Log, S: Source, K: Sink, G: Gate + Sy
     Ok(())
 }
 
-// Reads the next record; `at` records stand before it.
+// Reads the next record; `at` records come before it.
 fn read_next<S: Source, K: Sink>(
     ends: &mut Ends<'_, '_, S, K>,
     input: &mut Input,

@@ -1,9 +1,9 @@
 //! The bytes that a text stands for.
 //!
-//! A `;` is a line feed. Between two `%` stand words: `leaf`, an order, a number and four stored numbers are the file of a tile as
-//! an editor sends it, without what fills its last block, 2,888 bytes; `whole` and the same words are the file as it is served,
-//! 5,760 bytes; `properties` are those of the survey, up to the number of its leaves; `times`, a number and a text are that text
-//! so many times.
+//! A `;` is a line feed. Between two `%` are words: `leaf`, an order, a number and four stored numbers are the file of a tile
+//! as an editor sends it, without what fills its last block, 2,888 bytes; `whole` and the same words are the file as it is
+//! served, 5,760 bytes; `properties` are those of the survey, up to the number of its leaves; `times`, a number and a text
+//! are that text so many times.
 use small_files::{TILE_CARDS, header};
 use std::alloc::Global;
 use std::test::Fail;
@@ -52,7 +52,7 @@ fn push_times(bytes: &mut Vec<u8>, words: &str) -> Result<(), Fail> {
     Ok(())
 }
 
-// Appends what stands between two `%`.
+// Appends what is between two `%`.
 fn push_part(alloc: Global, bytes: &mut Vec<u8>, part: &str) -> Result<(), Fail> {
     let (kind, words) = part.split_once(' ').unwrap_or((part, ""));
     match kind {

@@ -1,7 +1,8 @@
-//! Tests of `past_reads` and `past_session`: past states of a small survey (`surveys`) that are read in any order (`prefixes`,
-//! and `orders` of a longer history); whole sessions, and such as break off (`sessions`), by texts that stand for bytes (`bytes`).
+//! Tests of `past_reads` and `past_session`: past states of a small survey (`surveys`) that are read in any order
+//! (`prefixes`, and `orders` of a longer history); whole sessions, and such as break off (`sessions`), by texts that stand
+//! for bytes (`bytes`).
 //!
-//! They stand over the finished crates, in a crate of their own: there each would be proved a second time.
+//! They test the finished crates from a crate of their own: there each would be proved a second time.
 #![tactic(auto)]
 
 #[cfg(test)]

@@ -114,8 +114,8 @@ static LATER: &str = "put 17 2888;%leaf 4 17 1 2 3 5%
 replace 0 2888;%leaf 4 0 2 2 2 2%remove 1;
 add 3070 2888;%leaf 4 3070 1 2 3 5%";
 
-// The same over the opening leaves, where one is held and the opening generation is made anew. The opening leaves have three tiles
-// above them.
+// The same over the opening leaves, where one is held and the opening generation is made anew. The opening leaves have three
+// tiles above them.
 static ANEW: &str = "0|10 4|3| 0
 4|12 5|3| 4
 3|11 4|5| 3

@@ -82,8 +82,8 @@ fn is_begun(bytes: &[u8], output: &[u8], end: PastEnd) -> bool {
 // The number of a call that there isn't.
 const NO_CALL: u64 = u64::MAX;
 
-// Whether a session that holds two states, with the input in pieces of some size, ends so with this output, where the read and the
-// write or flush with these numbers fail.
+// Whether a session that holds two states, with the input in pieces of some size, ends so with this output, where the read
+// and the write or flush with these numbers fail.
 fn ends<R: Threads + Sync + Clock + Log>(
     rt: &R,
     alloc: Global,
@@ -208,8 +208,8 @@ fn all_are_cut<R: Threads + Sync + Clock + Log + Abort>(
     Ok(())
 }
 
-// Each write or flush of the session fails. Each of its four answers is written by one call, with the file in it, and flushed by
-// another; a ninth call there isn't.
+// Each write or flush of the session fails. Each of its four answers is written by one call, with the file in it, and flushed
+// by another; a ninth call there isn't.
 fn all_fail<R: Threads + Sync + Clock + Log + Abort>(
     rt: &R,
     alloc: Global,

@@ -88,7 +88,7 @@ fn permits(alloc: Global, shape: Shape, cells: &[u64]) -> Result<Vec<Permit>, Al
     Ok(todo)
 }
 
-// Whether the tile of the cell is the wanted one.
+// Whether the tile of the cell is the expected one.
 fn has_its_tile(named: &Named) -> bool {
     match (&named.tile, wanted(named.npix)) {
         (Some(tile), Some(bytes)) => tile.raw() == bytes.as_slice(),

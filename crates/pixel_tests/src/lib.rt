@@ -2,7 +2,7 @@
 //! (`tiles`, `merges`, `kernels`), `rebuild_worker` (`levels`), `allsky_mosaic` (`mosaics`) and `leaf_probe` (`probes`,
 //! `merged_leaves`).
 //!
-//! They stand over the finished crates, in a crate of their own: in each it would be proved a second time.
+//! They test the finished crates from a crate of their own: in each it would be proved a second time.
 #![tactic(auto)]
 
 #[cfg(test)]

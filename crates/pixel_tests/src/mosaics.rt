@@ -1,4 +1,4 @@
-//! Mosaics of small tiles. Numbers stand in stored order: the bottom line first.
+//! Mosaics of small tiles. Numbers are in stored order: the bottom line first.
 ghost use Rattle.std.specs.Prelude.{◌≡◌, ◌≢◌, ℕ, ◌<◌, ◌≤◌, IfOk};
 ghost use Rattle.leaf_store.specs.Store.{value_at};
 ghost use Rattle.tile_pixels.specs.Tile.{HasShape};
@@ -138,7 +138,7 @@ static SEVERAL: [(u64, [i16; 4]); 4] = [
     (767, [14, 15, 16, 17]),
 ];
 
-// Where the numbers of several stand.
+// Where the numbers of several are.
 static PLACES: [(usize, i16); 16] = [
     (3078, 1),
     (3079, 2),
@@ -200,8 +200,8 @@ fn has_places(raw: &[u8], places: &[Place]) -> bool {
     raw.len() == 2 * 1728 * 1856
 }
 
-// Cell 28 stands in row 1 and column 1: columns 64 to 127, lines 1,728 to 1,791 from the bottom. Places within it, which
-// have number 3, and outside it.
+// Cell 28 is in row 1 and column 1: columns 64 to 127, lines 1,728 to 1,791 from the bottom. Places within it, which have
+// number 3, and outside it.
 const ALL_3: [Place; 11] = [
     (64, 1728, 3),
     (127, 1728, 3),
@@ -231,8 +231,8 @@ const ALL_5: [Place; 11] = [
     (1727, 1855, B),
 ];
 
-// Cells 0, 28, 500 and 767 of 64 columns and lines stand in rows 0, 1, 18 and 28 and in columns 0, 1, 14 and 11. The mean of
-// -1 and -2 is rounded up.
+// Cells 0, 28, 500 and 767 of 64 columns and lines are in rows 0, 1, 18 and 28 and in columns 0, 1, 14 and 11. The mean of -1
+// and -2 is rounded up.
 const CORNERS: [Place; 12] = [
     (0, 1792, 3),
     (63, 1855, 3),
@@ -350,7 +350,7 @@ fn patches_what_changed(rt: HostRuntime) -> Result<(), Fail> {
     check_changes(&rt, rt.alloc(), depth, &mut store)
 }
 
-// A cell, its new tile or none, and where numbers stand then.
+// A cell, its new tile or none, and where numbers are then.
 static CHANGES: [(u64, Option<[i16; 4]>, &[(usize, i16)]); 4] = [
     (
         26,

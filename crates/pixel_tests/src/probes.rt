@@ -23,9 +23,9 @@ fn unhex(alloc: Global, text: &str) -> Result<Vec<u8>, Fail> {
     Ok(bytes)
 }
 
-// A row is a run: the order of the leaves, n, the order and the number of the tile; the input, in pieces of how many bytes, and
-// the read that fails; the room for the output, and the write that fails; the status of the fault, and the output in
-// hexadecimal digits. A `|` stands between them.
+// A row is a run: the order of the leaves, n, the order and the number of the tile; the input, in pieces of how many bytes,
+// and the read that fails; the room for the output, and the write that fails; the status of the fault, and the output in
+// hexadecimal digits. A `|` separates them.
 fn field(row: &str, at: usize) -> &str {
     row.split('|').nth(at).unwrap_or("")
 }

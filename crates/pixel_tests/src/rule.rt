@@ -115,7 +115,7 @@ fn knows_the_depths(rt: HostRuntime) {
     }
 }
 
-// Issues a permit, spends it, and answers whether it is that cell's, and the steps are then so many.
+// Issues a permit, consumes it, and answers whether it is that cell's, and the steps are then so many.
 fn issues(npix: u64, steps: &mut Steps, count: u64) -> bool {
     let permit = Permit::issue(29, npix, steps);
     let is_its = permit.order() == 29 && permit.npix() == npix;

@@ -1,4 +1,4 @@
-//! Tiles of numbers of 16 bits, which the tests of what is made of tiles stand over.
+//! Tiles of numbers of 16 bits, which the tests of what is made of tiles use.
 ghost use Rattle.std.specs.Prelude.{◌≤◌, IfOk};
 ghost use Rattle.tile_pixels.specs.Tile.{HasShape};
 

@@ -1,5 +1,5 @@
-//! Tests of the whole program over ends in memory, over the finished crate `hipsd_run`: in it they would have it proved a second
-//! time.
+//! Tests of the whole program over ends in memory, over the finished crate `hipsd_run`: in it they would have it proved a
+//! second time.
 #![tactic(auto)]
 
 #[cfg(test)]

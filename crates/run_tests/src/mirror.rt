@@ -83,7 +83,7 @@ fn copies_a_survey_without_leaves(rt: HostRuntime) -> Result<(), Fail> {
     Ok(())
 }
 
-// What a peer sends whose properties tell of a leaf, and its cover of none.
+// What a peer sends whose properties count a leaf, and its cover none.
 fn lies<R: AllocGlobal + Threads + Wait + Sync + Clock + Log>(rt: &R) -> Result<Vec<u8>, Fail> {
     let sent = String::from_utf8(replies(rt, "", "")?)?;
     let told = "survey_leaves = 0";

@@ -1,5 +1,5 @@
-//! Runs of the whole program over ends in memory, each told by a row of text. Only here do the tests of its commands call
-//! `run`, of which so much is promised that each call is dear to prove.
+//! Runs of the whole program over ends in memory, each described by a row of text. Only here do the tests of its commands
+//! call `run`, which promises so much that each call is dear to prove.
 //!
 //! A row has these fields, with a `|` between two. Those behind the output may be empty or left out.
 //!
@@ -58,7 +58,7 @@ fn number_or(row: &str, at: usize, other: usize) -> usize {
     field(row, at).parse::<usize>().unwrap_or(other)
 }
 
-// The call in a field of a row, where one stands there.
+// The call in a field of a row, if there is one.
 fn failing(alloc: Global, row: &str, at: usize) -> Result<Vec<u64>, AllocError> {
     let mut calls = Vec::new(alloc);
     if let Ok(call) = field(row, at).parse::<u64>() {

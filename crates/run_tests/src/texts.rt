@@ -1,6 +1,6 @@
 //! The bytes and the files that the texts of the tables stand for.
 //!
-//! In a text `~` is CR LF and `^` is LF, and between two `%` stands one of these:
+//! In a text `~` is CR LF and `^` is LF, and between two `%` is one of these:
 //!
 //! - `long N ..`, `short N ..`, `byte N ..`: numbers of 8, of 2 and of 1 bytes, the greatest byte first
 //! - `tile ORDER NUMBER N ..`: the file of a tile with these stored numbers, as it is sent; `file ..`: as it is served
@@ -26,7 +26,7 @@ survey_blank = -32768^survey_leaves = ";
 pub(crate) static SMALL: &str =
     "survey.conf %conf%hips_order = 4^hips_tile_width = 2^survey_bitpix = 16^survey_blank = -32768^";
 
-/// The field of a row with this number; a `|` stands between two.
+/// The field of a row with this number; a `|` separates two.
 pub(crate) fn field(row: &str, at: usize) -> &str {
     row.split('|').nth(at).unwrap_or("")
 }
@@ -71,7 +71,7 @@ fn push_tile(alloc: Global, bytes: &mut Vec<u8>, words: &str, size: usize) -> Re
     Ok(())
 }
 
-// Appends what stands between two `%`.
+// Appends what is between two `%`.
 fn push_named(alloc: Global, bytes: &mut Vec<u8>, part: &str) -> Result<(), Fail> {
     let (word, rest) = part.split_once(' ').unwrap_or((part, ""));
     match word {
@@ -121,7 +121,7 @@ pub(crate) fn put(alloc: Global, shelf: &mut MemShelf, file: &str) -> Result<(),
     }
 }
 
-/// Puts files on the shelf; a `&` stands between two.
+/// Puts files on the shelf; a `&` separates two.
 pub(crate) fn put_all(alloc: Global, shelf: &mut MemShelf, files: &str) -> Result<(), Fail> {
     for file in files.split('&') {
         put(alloc, shelf, file)?;

@@ -1,6 +1,6 @@
 -- What a shelf of files opens as: the description of a survey with its leaf tiles, or the first refusal that the files show.
--- The paths of tiles are those of HiPS 1.0 (section 4); where the description stands, the limit on leaves and the order of
--- the refusals are this project's profile.
+-- The paths of tiles are those of HiPS 1.0 (section 4); where the description is, the limit on leaves and the order of the
+-- refusals are this project's profile.
 use Rattle.std.specs.Prelude.{◌≡◌, ℕ, ◌+◌, ◌*◌, nat_lt, if◌then◌else◌, List, length, filter, ℤ, Option, Some, None, option_map, option_and_then, Result, Ok, Err, codes, slice_get}
 use Rattle.std.specs.List.{filter_map, range_with_len}
 use Rattle.std.specs.Option.{option_map_or, option_or}

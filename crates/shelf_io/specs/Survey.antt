@@ -26,7 +26,7 @@ HoldsSurvey survey files = (path : Path) → IsPath path → AgreeAt survey file
 abbrev pub KeepsOthers : ShelfFiles → ShelfFiles → Type 0
 KeepsOthers old new = (text : List ℕ) → IsOtherPath text → get new text ≡ get old text
 
--- ---- what writing does, where a shelf tells its files
+-- ---- what writing does, where the proof can see a shelf's files
 
 abbrev pub OthersStay : Option ShelfFiles → Option ShelfFiles → Type 0
 OthersStay None new = ⊤
@@ -58,7 +58,7 @@ abbrev pub IsVerdict : ShelfFiles → ShelfFiles → Verdict → Type 0
 IsVerdict survey files (Same count) = HoldsSurvey survey files
 IsVerdict survey files (Differs path) = IsFirstDifference survey files path
 
--- where it is the same, the verdict tells the number of files
+-- if it is the same, the verdict gives the number of files
 abbrev pub CountsFiles : ShelfFiles → Verdict → Type 0
 CountsFiles survey (Same count) = count ≡ len survey
 CountsFiles survey (Differs path) = IsPath path

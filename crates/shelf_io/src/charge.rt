@@ -9,7 +9,7 @@ use edit_journal::{MOST_CHARGE, leaf_charge};
 use log::Log;
 use pyramid_model::Shape;
 
-/// Judges how many leaves there are. The log gets how many bytes they need, where these are too many.
+/// Judges how many leaves there are. If they need too many bytes, how many is logged.
 ///
 /// # Errors
 ///

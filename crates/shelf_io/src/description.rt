@@ -13,7 +13,7 @@ use std::alloc::Global;
 use survey_conf::{Conf, ConfRefusal};
 use survey_link::Shelf;
 
-// Where the description stands.
+// Where the description is.
 const CONF: &str = "survey.conf";
 
 /// The description that the shelf has.

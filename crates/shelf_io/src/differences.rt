@@ -40,7 +40,7 @@ impl Differences {
         same
     }
 
-    /// Says how many there are, where there are any, and which others the shelf has.
+    /// Logs how many there are, if any, and which others the shelf has.
     pub(crate) fn say<R: Log>(&self, rt: &R, strays: &[Path]) {
         say_strays(rt, strays);
         let (missing, different, others) = (self.missing, self.different, strays.len());
@@ -50,7 +50,7 @@ impl Differences {
     }
 }
 
-/// Says which files a survey can have and this one doesn't have, where there are any. These `export` removes.
+/// Logs which files a survey can have and this one doesn't have, if any. `export` removes these.
 pub(crate) fn say_strays<R: Log>(rt: &R, strays: &[Path]) {
     if !strays.is_empty() {
         let (count, kinds) = (strays.len(), Kinds { paths: strays });
@@ -86,7 +86,7 @@ impl<'a> fmt::Display for Kinds<'a> {
     }
 }
 
-// What stands before an item of a list.
+// What comes before an item of a list.
 fn between(is_first: bool) -> &'static str {
     if is_first { "" } else { ", " }
 }

@@ -23,10 +23,10 @@ use std::time::Clock;
 use survey_link::{LinkFault, Shelf};
 use tile_path::Path;
 
-/// Makes the survey's files on the shelf those of the generation, and answers how many these are. Every path that a survey can
-/// have and this one doesn't have is removed; no other path is touched. A file that is right already is read and not written.
-/// Which are removed is logged before; then how many files are done, at most once a second, and at the end how many were written
-/// and removed.
+/// Makes the survey's files on the shelf those of the generation, and answers how many these are. Every path that a survey
+/// can have and this one doesn't have is removed; no other path is touched. A file that is right already is read and not
+/// written. Which are removed is logged before; then how many files are done, at most once a second, and at the end how many
+/// were written and removed.
 ///
 /// # Errors
 ///
@@ -52,7 +52,7 @@ pub fn export<R: Clock + Log, H: Shelf>(
     Ok(count)
 }
 
-// Says which paths these are, and removes them.
+// Logs which paths these are, and removes them.
 fn remove_all<R: Log, H: Shelf>(
     rt: &R,
     alloc: Global,
@@ -73,7 +73,7 @@ fn remove_all<R: Log, H: Shelf>(
     Ok(())
 }
 
-// Writes all files of the generation that aren't there, and answers how many these were. The last comes first: the tiles, from
+// Writes all missing or stale files of the generation, and answers how many these were. The last comes first: the tiles, from
 // the leaves upward, then the mosaic, the coverage and the properties. So whoever reads the folder meanwhile finds the new
 // properties only once all that they describe is there.
 fn write_all<R: Clock + Log, H: Shelf>(
@@ -102,7 +102,7 @@ fn write_all<R: Clock + Log, H: Shelf>(
     Ok(written)
 }
 
-// Writes the file at a path that the generation has, where the shelf hasn't got it, and answers whether it was written.
+// Writes the generation's file at a path, if the shelf's is missing or stale, and answers whether it was written.
 fn settle_file<H: Shelf>(
     alloc: Global,
     shelf: &mut H,

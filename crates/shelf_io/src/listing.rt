@@ -61,7 +61,8 @@ fn leaf_of(path: Path, top: u8) -> Option<u64>
     }
 }
 
-/// The numbers of the leaves of order `top` that the shelf has files of, ascending. What looks like a leaf and is none is said.
+/// The numbers of the leaves of order `top` that the shelf has files of, ascending. What looks like a leaf and is none is
+/// logged.
 ///
 /// # Errors
 ///

@@ -34,8 +34,8 @@ use tile_pixels::Tile;
 ///
 /// # Errors
 ///
-/// The first of these: `NoConf` if and only if there is no `survey.conf`; `Conf` as `Conf::read` answers; `TooMany` exactly
-/// where the charge of all leaves that have a file exceeds 2^29 bytes; `Tile` for the leaf of the lowest number whose file
+/// The first of these: `NoConf` if and only if there is no `survey.conf`; `Conf` as `Conf::read` answers; `TooMany` if and
+/// only if the charge of all leaves that have a file exceeds 2^29 bytes; `Tile` for the leaf of the lowest number whose file
 /// `decode` refuses. `ShelfFault` only where the shelf's count of faults rose. `OutOfMemory`.
 pub fn load<R: Threads + Sync + Clock + Log, H: Shelf, G: Gate + Sync>(
     rt: &R,

@@ -4,8 +4,8 @@ use log::{Log, warn};
 use std::alloc::Global;
 use tile_path::Path;
 
-/// Says how many of the files look like leaves of order `top` and are none, and names one of them. Where no leaf is there, it
-/// says which order would have the deepest tiles as leaves.
+/// Logs how many of the files look like leaves of order `top` and are none, and one of them. If no leaf is there, it logs
+/// which order would have the deepest tiles as leaves.
 pub(crate) fn say_no_leaves<R: Log>(rt: &R, paths: &[String], top: u8) {
     if let Some(path) = paths.iter().find(|path| is_misplaced(path.as_str())) {
         let count = misplaced(paths);
@@ -19,7 +19,7 @@ pub(crate) fn say_no_leaves<R: Log>(rt: &R, paths: &[String], top: u8) {
     }
 }
 
-// Says which order would have the deepest tiles as leaves, where there are any.
+// Logs which order would have the deepest tiles as leaves, if there are any.
 fn say_other_order<R: Log>(rt: &R, paths: &[String], top: u8) {
     for order in (3..12_u8).rev() {
         let count = tiles_of(paths, order);

@@ -2,10 +2,10 @@
 use log::{Log, info};
 use std::time::{Clock, Instant};
 
-// How many seconds pass at least until it is said again.
+// How many seconds pass at least until it is logged again.
 const PAUSE: u64 = 1;
 
-/// Says how far a work of many parts is: at most once a second, so nothing of a work that takes less.
+/// Logs how far a work of many parts is: at most once a second, so nothing of a work that takes less.
 #[derive(Drop)]
 pub(crate) struct Progress {
     work: &'static str,
@@ -33,7 +33,7 @@ impl Progress {
         }
     }
 
-    // Whether a second has passed since it was said, which counts as saying it. Without a clock nothing is said.
+    // Whether a second has passed since it was logged, which counts as logging it. Without a clock nothing is logged.
     fn is_due<R: Clock>(&mut self, rt: &R) -> bool {
         match (Instant::now(rt).ok(), self.said) {
             (Some(now), Some(said)) => {

@@ -11,8 +11,8 @@ use survey_conf::{ConfFault, ConfRefusal};
 use survey_link::LinkFault;
 use tile_path::Path;
 
-/// Why a shelf is not loaded. Where several of the first four stand, it is the first of these. It is shown as a word and
-/// what was found, as in `conf 5 4` and `tile Norder4/Dir0/Npix0.fits 1 header 1`.
+/// Why a shelf is not loaded. If several of the first four apply, it is the first of these. It is shown as a word and what
+/// was found, as in `conf 5 4` and `tile Norder4/Dir0/Npix0.fits 1 header 1`.
 #[derive(Clone, Copy, Debug, PartialEq, Eq)]
 pub enum LoadRefusal {
     /// There is no `survey.conf`.

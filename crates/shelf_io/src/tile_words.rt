@@ -1,4 +1,4 @@
-//! What is wrong with a tile's file, in words for whoever made it. What is shown stands in no clause; tests show it.
+//! What is wrong with a tile's file, in words for whoever made it. No clause covers the text; tests do.
 use fits_header::HeaderFault;
 use fits_tile::TileFault;
 use std::fmt;
@@ -9,8 +9,8 @@ const CARD_LEN: usize = 80;
 // Where the value of a card begins.
 const VALUE_AT: usize = 10;
 
-/// A fault of a file in words, with the card where it is, as in `card 6, BLANK = -32768.0: not a whole number`. All but printable
-/// ASCII is shown as `\xff` and the like.
+/// A fault of a file in words, with the card where it is, as in `card 6, BLANK = -32768.0: not a whole number`. All but
+/// printable ASCII is shown as `\xff` and the like.
 #[derive(Clone, Copy)]
 pub(crate) struct TileWords<'a> {
     file: &'a [u8],
@@ -74,7 +74,7 @@ fn fmt_card<W: fmt::Write>(file: &[u8], card: u32, f: &mut fmt::Formatter<W>) ->
     write!(f, "card {card}, {keyword} = {value}: ")
 }
 
-// What a card with this keyword has to have.
+// What a card with this keyword must have.
 fn wanted(keyword: &[u8]) -> &'static str {
     match keyword {
         b"SIMPLE" => "neither T nor F",
@@ -116,7 +116,7 @@ fn fmt_bitpix<W: fmt::Write>(found: Option<i64>, f: &mut fmt::Formatter<W>) -> f
     }
 }
 
-// A card has another number than it has to have, or isn't there.
+// A card has another number than it must have, or isn't there.
 fn fmt_other<W: fmt::Write>(
     keyword: &str,
     found: Option<i64>,

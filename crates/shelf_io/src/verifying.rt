@@ -23,9 +23,9 @@ use std::time::Clock;
 use survey_link::{LinkFault, Shelf};
 use tile_path::Path;
 
-/// Compares the paths of the shelf that a survey can have with the files of the generation: `Same` if and only if they are the
-/// same, and else the first path, by the bytes of its spelling, at which they differ. The shelf stays as it is. How many files are
-/// missing, differ, and aren't of the survey is logged.
+/// Compares the paths of the shelf that a survey can have with the files of the generation: `Same` if and only if they are
+/// the same, and else the first path, by the bytes of its spelling, at which they differ. The shelf stays as it is. How many
+/// files are missing, differ, and aren't of the survey is logged.
 ///
 /// # Errors
 ///

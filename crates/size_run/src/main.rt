@@ -1,6 +1,6 @@
-//! A program that calls what may want memory at the greatest size that it has, or far beyond what the tests reach: a body that
-//! answers want of memory from a size on is proved, and stops this program. It prints a line for each call, with counts and sums;
-//! scripts/size-values.py computes what these have to be.
+//! A program that calls what can run out of memory at the greatest size that it has, or far beyond what the tests reach: a
+//! body that answers out of memory from a size on is proved, and stops this program. It prints a line for each call, with
+//! counts and sums; scripts/size-values.py computes these.
 #![tactic(auto)]
 
 mod catalogs;

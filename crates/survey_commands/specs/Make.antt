@@ -65,7 +65,7 @@ summary_text s = codes "edits " ++ (decimal s.edits ++ (codes " of " ++ (decimal
 abbrev pub made_survey : OpenedSurvey
 made_survey = record { conf = made; leaves = [] }
 
--- its script was served: the connection was closed at the end of the script, and no reply told want of memory
+-- its script was served: the connection was closed at the end of the script, and no reply was 503
 pub record RunsScript (survey : OpenedSurvey) (script : List ℕ) (states : List SurveyState) : Type 0 where
   pub exchange : Exchange
   pub input_is : input_of exchange ≡ script

@@ -25,7 +25,7 @@ refusal_status OutOfMemory = 11
 
 -- ---- the run
 
--- what a run is told of: the source, the sink, the files and the count of steps, before and after
+-- what the proof sees of a run: the source, the sink, the files and the count of steps, before and after
 pub record Copying : Type 0 where
   pub old : Connection
   pub new : Connection

@@ -57,7 +57,7 @@ pub record OpensAndAnswers (found : Option ShelfFiles) (survey : OpenedSurvey) (
   pub cost : steps_then ≤ steps + opened_cost survey
   pub answers : AnswersPast survey input old new steps_then steps' status
 
--- they open as none, which is said
+-- they open as none, which is written
 pub record OpensAndSays (found : Option ShelfFiles) (refusal : LoadRefusal) (old new : Connection) (steps steps' status : ℕ) : Type 0 where
   pub opens_not : OpensNot found refusal
   pub unread : new.unread ≡ old.unread
@@ -72,11 +72,11 @@ PastOf found input old new steps steps' status (Err refusal) = OpensAndSays foun
 abbrev pub RunsPast : Option ShelfFiles → List ℕ → Connection → Connection → ℕ → ℕ → ℕ → Type 0
 RunsPast found input old new steps steps' status = (opened : Result OpenedSurvey LoadRefusal) × PastOf found input old new steps steps' status opened
 
--- the same connection, where the source tells these bytes
+-- the same connection, where the proof sees these bytes in the source
 abbrev pub telling : List ℕ → Connection → Connection
 telling bytes connection = record connection { unread = Some bytes }
 
--- whatever the source tells, it is so of the bytes that were read, as though the input ended behind them
+-- whatever the proof sees of the source, it is so of the bytes that were read, as though the input ended behind them
 pub record RunsPastOver (found : Option ShelfFiles) (old new : Connection) (steps steps' status : ℕ) : Type 0 where
   pub came : List ℕ
   pub consumed : Consumes old.unread new.unread came

@@ -44,8 +44,8 @@ serve_status (Err refusal) = 11
 abbrev pub Serves : OpenedSurvey → ℕ → List DoorContent → List DoorContent → ℕ → Type 0
 Serves survey most doors doors' status = (served : Result PlaceEnd ServeRefusal) × ServesAs survey.conf survey.leaves most doors doors' served × (status ≡ serve_status served)
 
--- `serve`, over the files and these doors: the survey that the files open as is served, and nothing is written; or they open as
--- none, which is said, and the doors stay
+-- `serve`, over the files and these doors: the survey that the files open as is served, and nothing is written; or they open
+-- as none, which is written, and the doors stay
 abbrev pub ServeOf : Option ShelfFiles → ℕ → List DoorContent → List DoorContent → ℕ → Option (List ℕ) → Option (List ℕ) → Option (List ℕ) → Option (List ℕ)
     → Result OpenedSurvey LoadRefusal → Type 0
 ServeOf found most doors doors' status held held' handed handed' (Ok survey) =

@@ -43,7 +43,7 @@ end_status (Refused code) = 14
 
 -- ---- the run
 
--- a connection as the ends tell it, whose source had this input; flushing what was written comes after it, at which the sink
+-- a connection as the proof sees it, whose source had this input; flushing what was written comes after it, at which the sink
 -- may fail too
 pub record IsTold (input : List ℕ) (old new : Connection) (exchange : Exchange) : Type 0 where
   pub input_is : input ≡ input_of exchange
@@ -77,7 +77,7 @@ OpensAs found survey = IfSome found (λ files. opening files ≡ Ok survey)
 abbrev pub OpensNot : Option ShelfFiles → LoadRefusal → Type 0
 OpensNot found refusal = IfSome found (λ files. IsRefusedBy (result_err (opening files)) refusal)
 
--- `session`, over the files and an input: the survey that the files open as is served; or they open as none, which is said
+-- `session`, over the files and an input: the survey that the files open as is served; or they open as none, which is written
 abbrev pub SessionOf : Option ShelfFiles → List ℕ → Connection → Connection → ℕ → Result OpenedSurvey LoadRefusal → Type 0
 SessionOf found input old new status (Ok survey) = OpensAs found survey × Serves survey input old new status
 SessionOf found input old new status (Err refusal) = OpensNot found refusal × (new.unread ≡ old.unread)

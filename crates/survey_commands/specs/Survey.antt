@@ -23,8 +23,8 @@ files_of survey = files survey.conf (leaf_map survey.leaves)
 abbrev pub IsExportOf : ShelfFiles → Option ShelfFiles → ℕ → OpenedSurvey → Type 0
 IsExportOf old new count survey = (count ≡ len (files_of survey)) × Replaces (files_of survey) (Some old) new
 
--- an export, where the shelf tells its files: of the survey that they open as; or they open as none, and stay. A shelf that
--- fails, or want of memory, may stop it midway: all files stay that no survey can have
+-- an export, where the proof can see the shelf's files: of the survey that they open as; or they open as none, and stay. A
+-- shelf that fails, or running out of memory, may stop it midway: all files stay that no survey can have
 abbrev pub IsExport : Option ShelfFiles → Option ShelfFiles → Result ℕ LoadRefusal → Type 0
 IsExport None new outcome = ⊤
 IsExport (Some old) new (Ok count) = IsOkAnd (opening old) (IsExportOf old new count)
@@ -36,7 +36,7 @@ IsExport (Some old) new (Err refusal) = (result_err (opening old) ≡ Some refus
 abbrev pub IsVerdictOn : ShelfFiles → Verdict → OpenedSurvey → Type 0
 IsVerdictOn found verdict survey = IsVerdict (files_of survey) found verdict × CountsFiles (files_of survey) verdict
 
--- a comparison, where the shelf tells its files: with the survey that they open as; or they open as none
+-- a comparison, where the proof can see the shelf's files: with the survey that they open as; or they open as none
 abbrev pub IsComparison : Option ShelfFiles → Result Verdict LoadRefusal → Type 0
 IsComparison None outcome = ⊤
 IsComparison (Some found) (Ok verdict) = IsOkAnd (opening found) (IsVerdictOn found verdict)

@@ -2,8 +2,8 @@
 //!
 //! `run_export` and `run_verify` open a shelf as a survey, and put its files there or compare them; `run_session` serves one
 //! connection of it over a source and a sink, `run_serve` the connections of many doors; `run_past` answers records about its
-//! past states over a source and a sink; `run_mirror` copies a peer's survey onto a shelf; `run_make` makes a survey of its own.
-//! Each is the whole command over the ends that it is given: it writes what there is to say, and answers the exit status.
+//! past states over a source and a sink; `run_mirror` copies a peer's survey onto a shelf; `run_make` makes a survey of its
+//! own. Each is the whole command over the ends that it is given: it writes its output, and answers the exit status.
 #![tactic(auto)]
 
 mod export;

@@ -1,4 +1,4 @@
-//! What is said where the shelf isn't opened.
+//! What is written if the shelf isn't opened.
 ghost use Rattle.std.specs.Prelude.{◌≡◌, ◌≢◌};
 ghost use Rattle.survey_link.specs.Link.{Rises};
 ghost use Rattle.shelf_io.specs.declared.refusal.LoadRefusal.TheVariants.{ShelfFault};
@@ -9,8 +9,8 @@ use shelf_io::LoadRefusal;
 use std::alloc::Global;
 use survey_link::Sink;
 
-/// Says why the shelf isn't opened, and answers the status: 2 for its description, 3 for its leaves; 7 where the shelf failed
-/// and 11 where there was no memory, of which nothing is written.
+/// Writes why the shelf isn't opened, and answers the status: 2 for its description, 3 for its leaves; 7 where the shelf
+/// failed and 11 where there was no memory, of which nothing is written.
 pub fn say_why<K: Sink>(alloc: Global, sink: &mut K, refusal: &LoadRefusal) -> u8
     ensures said { SaysWhy refusal.now result (K.held sink.old) (K.held sink.new) (K.flushed sink.old) (K.flushed sink.new) }
     ensures not_usage { result ≢ 1 }

@@ -72,7 +72,7 @@ where
     }
 }
 
-// Says what was loaded since then.
+// Logs what was loaded since then.
 fn say_loaded<R: Clock + Log>(rt: &R, generation: &Generation, begun: Option<Instant>) {
     let leaves = generation.leaves().len();
     let files = generation.file_count();

@@ -1,4 +1,4 @@
-//! What is told of a made survey.
+//! The summary of a made survey.
 ghost use Rattle.std.specs.Prelude.{◌≡◌, ℕ, ◌+◌, ◌*◌, ◌^◌, ◌<◌, ◌≤◌, length, sum, IsSome, Some};
 ghost use Rattle.std.specs.FinMap.{get};
 ghost use Rattle.tile_path.specs.Spelling.{spelling};

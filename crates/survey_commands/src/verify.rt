@@ -12,7 +12,7 @@ use std::thread::Threads;
 use std::time::Clock;
 use survey_link::{Gate, Shelf, Sink};
 
-/// Opens the shelf, says whether it has the survey's files and no others, and answers the status.
+/// Opens the shelf, writes whether it has the survey's files and no others, and answers the status.
 ///
 /// | Status | Where |
 /// |---|---|

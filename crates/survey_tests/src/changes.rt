@@ -90,8 +90,8 @@ impl Gate for Counting {
     }
 }
 
-// A leaf, the number that its tile has four times, and how many have passed the gate after a publication; 0 where there is none.
-// Three leaves under three cells, then one of them again: one tile is merged for it.
+// A leaf, the number that its tile has four times, and how many have passed the gate after a publication; 0 where there is
+// none. Three leaves under three cells, then one of them again: one tile is merged for it.
 static PUTS: [(u32, u8, u64); 4] = [(0, 1, 0), (4, 2, 0), (8, 3, 3), (0, 4, 4)];
 
 fn merges_one<R: Threads + Abort + Sync>(

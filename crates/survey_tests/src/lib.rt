@@ -1,6 +1,6 @@
-//! Tests of what stands below a connection: batches as they are read, a survey from state to state, generations, and shelves.
+//! Tests of what is below a connection: batches as they are read, a survey from state to state, generations, and shelves.
 //!
-//! They stand over the finished crates, in a crate of their own: in each it would be proved a second time.
+//! They test the finished crates from a crate of their own: in each it would be proved a second time.
 #![tactic(auto)]
 
 #[cfg(test)]

@@ -133,7 +133,7 @@ fn put_leaves(alloc: Global, shelf: &mut MemShelf, count: u64) -> Result<(), Fai
     Ok(())
 }
 
-// Puts what a row asks for, and tells how loading is refused.
+// Puts what a row asks for, and answers how loading is refused.
 fn refusal<R: Threads + Sync + Clock + Log>(
     rt: &R,
     alloc: Global,
@@ -174,8 +174,8 @@ fn what_is_no_survey_is_refused(rt: HostRuntime) -> Result<(), Fail> {
     Ok(())
 }
 
-// What a word asks of a shelf, and what is told: how many files an export writes, which paths there are, nothing where a stray
-// is put, and how the shelf compares with the generation.
+// What a word asks of a shelf, and what is answered: how many files an export writes, which paths there are, nothing where a
+// stray is put, and how the shelf compares with the generation.
 fn told<R: Clock + Log>(
     rt: &R,
     alloc: Global,
@@ -194,7 +194,7 @@ fn told<R: Clock + Log>(
     }
 }
 
-// Whether the word of a row is told so.
+// Whether the word of a row is answered so.
 fn is_told<R: Clock + Log>(
     rt: &R,
     alloc: Global,
@@ -245,7 +245,7 @@ fn an_empty_survey_has_two_files(rt: HostRuntime) -> Result<(), Fail> {
     is_loaded(&rt, alloc, &mut shelf, EMPTY)
 }
 
-// Whether the file at the path has so many bytes, and these stand behind its header.
+// Whether the file at the path has so many bytes, and these follow its header.
 fn holds(
     alloc: Global,
     shelf: &mut MemShelf,

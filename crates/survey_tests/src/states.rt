@@ -95,8 +95,8 @@ fn publishes<R: Threads + Sync>(
     }
 }
 
-// One step by its word: `edit` or `batch` and a body, or `publish` and a number. What is said against it; nothing where the
-// state goes on.
+// One step by its word: `edit` or `batch` and a body, or `publish` and a number. Why it is refused; nothing where the state
+// goes on.
 fn told<R: Threads + Sync>(
     rt: &R,
     alloc: Global,
@@ -111,7 +111,7 @@ fn told<R: Threads + Sync>(
     }
 }
 
-// A step, what is said against it, and then how many edits there are, how many are published, and how many leaves.
+// A step, why it is refused, and then how many edits there are, how many are published, and how many leaves.
 static STEPS: &str = "publish|0|0 0 0 0
 edit|add 0 2888;@|- 1 0 1
 edit|add 0 2888;@|1 1 0 1
@@ -128,7 +128,7 @@ publish|5|- 5 5 1
 publish|5|5 5 5 1
 batch|remove 3071;|- 6 5 0";
 
-// What was said against a step, and the counts of the state after it.
+// Why a step was refused, and the counts of the state after it.
 fn shown(alloc: Global, told: Option<u8>, state: &State) -> Result<String, AllocError> {
     let (edits, tip) = (state.edits(), state.tip());
     let leaves = state.journal().leaves().len();
