@@ -23,6 +23,8 @@ pub trait Shelf {
         ensures listed { IfOk result (λ paths. Lists (files self.old) paths.items) }
         ensures kept { files self.new ≡ files self.old }
         ensures failed { IsErrOf result LinkFault.Failed → Rises (faults self.old) (faults self.new) }
+        ensures sound { OnOk result (faults self.new ≡ faults self.old) }
+        ensures out_of_memory { IsErrOf result LinkFault.OutOfMemory → faults self.new ≡ faults self.old }
         ensures never_falls { faults self.old ≤ faults self.new };
 
     /// The bytes of a file; `None` if and only if the path isn't there.
@@ -34,6 +36,8 @@ pub trait Shelf {
         ensures found { IfOk result (λ found. Finds (files self.old) path.now found) }
         ensures kept { files self.new ≡ files self.old }
         ensures failed { IsErrOf result LinkFault.Failed → Rises (faults self.old) (faults self.new) }
+        ensures sound { OnOk result (faults self.new ≡ faults self.old) }
+        ensures out_of_memory { IsErrOf result LinkFault.OutOfMemory → faults self.new ≡ faults self.old }
         ensures never_falls { faults self.old ≤ faults self.new };
 
     /// Puts a file in place of what is at the path. After a refusal this one path may hold anything, or be absent.
@@ -45,6 +49,8 @@ pub trait Shelf {
         ensures done { OnOk result (files self.new ≡ with_file path.now bytes.now (files self.old)) }
         ensures refused { OnErr result (OthersStay path.now (files self.old) (files self.new)) }
         ensures failed { IsErrOf result LinkFault.Failed → Rises (faults self.old) (faults self.new) }
+        ensures sound { OnOk result (faults self.new ≡ faults self.old) }
+        ensures out_of_memory { IsErrOf result LinkFault.OutOfMemory → faults self.new ≡ faults self.old }
         ensures never_falls { faults self.old ≤ faults self.new };
 
     /// Removes a file; `Ok` also where there is none. After a refusal this one path may hold anything, or be absent.
@@ -56,5 +62,7 @@ pub trait Shelf {
         ensures done { OnOk result (files self.new ≡ without_file path.now (files self.old)) }
         ensures refused { OnErr result (OthersStay path.now (files self.old) (files self.new)) }
         ensures failed { IsErrOf result LinkFault.Failed → Rises (faults self.old) (faults self.new) }
+        ensures sound { OnOk result (faults self.new ≡ faults self.old) }
+        ensures out_of_memory { IsErrOf result LinkFault.OutOfMemory → faults self.new ≡ faults self.old }
         ensures never_falls { faults self.old ≤ faults self.new };
 }

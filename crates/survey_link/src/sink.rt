@@ -34,6 +34,7 @@ pub trait Sink {
         ensures kept { OnErr result (held self.new ≡ held self.old) }
         ensures flushed { flushed self.new ≡ flushed self.old }
         ensures failed { OnErr result (Rises (faults self.old) (faults self.new)) }
+        ensures sound { OnOk result (faults self.new ≡ faults self.old) }
         ensures never_falls { faults self.old ≤ faults self.new }
         ensures same { number self.new ≡ number self.old };
 
@@ -50,6 +51,7 @@ pub trait Sink {
         ensures kept { OnErr result (held self.new ≡ held self.old) }
         ensures flushed { flushed self.new ≡ flushed self.old }
         ensures failed { OnErr result (Rises (faults self.old) (faults self.new)) }
+        ensures sound { OnOk result (faults self.new ≡ faults self.old) }
         ensures never_falls { faults self.old ≤ faults self.new }
         ensures same { number self.new ≡ number self.old };
 
@@ -63,6 +65,7 @@ pub trait Sink {
         ensures flushed { OnOk result (flushed self.new ≡ held self.new) }
         ensures stays { OnErr result (flushed self.new ≡ flushed self.old) }
         ensures failed { OnErr result (Rises (faults self.old) (faults self.new)) }
+        ensures sound { OnOk result (faults self.new ≡ faults self.old) }
         ensures never_falls { faults self.old ≤ faults self.new }
         ensures same { number self.new ≡ number self.old };
 }
