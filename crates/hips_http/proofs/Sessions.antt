@@ -22,7 +22,7 @@ use Rattle.hips_http.specs.Paths.{call_of}
 use Rattle.hips_http.specs.Replies.{Answer, output_of, refusal_bytes}
 use Rattle.hips_http.specs.Answers.{Asking, Point, Asked, asked_put, asked_delete, asked_batch, Changes, Answers}
 use Rattle.hips_http.specs.Moment.{Input, Output, Moment, moment, unread_of, NeverFalls}
-use Rattle.hips_http.specs.SessionRun.{Exchange, AreRequests, AreAnswered, IsOutput, closes, room_of, most_requests, first_point, GoOn, EndsWith, BreaksOff, BreaksInRefusal, BreaksInLeave, input_seen, Ends, FlushesAll, KeepsStates, Flushes, FlushesAll, Goes}
+use Rattle.hips_http.specs.SessionRun.{Exchange, AreRequests, AreAnswered, IsOutput, closes, room_of, most_requests, first_point, GoOn, EndsWith, BreaksOff, BreaksInRefusal, BreaksInLeave, input_seen, Ends, AllFlushed, KeepsStates, Flushes, FlushesAll, Goes}
 use Rattle.hips_http.specs.Progress.{IsAt, Serving, IsServedOne, BreaksOne, StopsOne, EndsOne, IsBegunAt, LeavesPart, Progress, Going, HasFlushed, memory_faults_after, ServesOne, ServesAll}
 use Rattle.hips_http.proofs.Runs.{answered_more, answered_push, requests_push}
 use Rattle.hips_http.proofs.Truncated.{requests_front}
@@ -228,7 +228,7 @@ told_as first input output read rest out passed = record {
 module _ (count : ℕ) (first now : Moment) (input : Input) (output : Output) (p : Progress count first now) (bytes read rest : List ℕ) (bytes_are : bytes ≡ read ++ rest) (left_is : input.left ≡ Some rest) (flushed : ℕ) where
   served_by : (ended : SessionEnd) (out passed : List ℕ) → Appends first.output.held output.held out → Flushes first.output.held first.output.flushed output.flushed passed
       → KeepsStates ended first.board.history now.board.history → (r : List ℕ) → AreRequests (room_of now.board.conf) (input_seen ended (told_as first input output read rest out passed)) p.requests r
-      → Ends ended (room_of now.board.conf) p.requests r p.outputs (told_as first input output read rest out passed) → FlushesAll ended (told_as first input output read rest out passed)
+      → Ends ended (room_of now.board.conf) p.requests r p.outputs (told_as first input output read rest out passed) → AllFlushed ended (told_as first input output read rest out passed)
       → FlushesReplies flushed p.outputs passed → ServedAfter flushed first (moment input output now.board now.steps now.memory_faults) ended bytes
   served_by ended out passed appended on keeps r are ends all_on replies = record {
     served = record {

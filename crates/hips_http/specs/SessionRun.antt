@@ -148,9 +148,9 @@ Ends WriteFault room requests rest outputs exchange =
 Ends OutOfMemory room requests rest outputs exchange = (requests ≡ []) × (exchange.read ≡ []) × (exchange.written ≡ [])
 
 -- all that was written was flushed, unless a writing failed: then all but what was begun then, as said there
-abbrev pub FlushesAll : SessionEnd → Exchange → Type 0
-FlushesAll WriteFault exchange = Unit {0}
-FlushesAll _ exchange = exchange.flushed ≡ exchange.written
+abbrev pub AllFlushed : SessionEnd → Exchange → Type 0
+AllFlushed WriteFault exchange = Unit {0}
+AllFlushed _ exchange = exchange.flushed ≡ exchange.written
 
 -- a connection begins at the last state that was seen before it, and holds none
 abbrev pub first_point : List SurveyState → Point
@@ -177,7 +177,7 @@ pub record SessionRun (conf : Description) (opening : LeafTiles) (states : List 
   pub own_is : own ≡ last.own
   pub memory_faults_is : memory_faults ≡ last.memory_faults
   pub ended : Ends end (room_of conf) requests rest outputs exchange
-  pub flushed : FlushesAll end exchange
+  pub flushed : AllFlushed end exchange
 
 -- ---- a call
 
