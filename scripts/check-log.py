@@ -191,17 +191,17 @@ def wrong_words(check):
 # ---- levels
 
 def levels(check):
-    known = "off, error, warn, info, debug or trace; it is info now"
+    known = "is none of off, error, warn, info, debug and trace: info is used"
     exported = info("shelf_io::words", "2 of 2 files written, 0 were the same; 0 removed")
     check.run(["export"], exported)
-    check.run(["export"], warn("hipsd", f'HIPSD_LOG = "loud": {known}') + exported, level="loud")
-    check.run(["export"], warn("hipsd", f"HIPSD_LOG is not UTF-8: {known}") + exported, level=b"\xff")
+    check.run(["export"], warn("hipsd", f'HIPSD_LOG = "loud" {known}') + exported, level="loud")
+    check.run(["export"], warn("hipsd", f"HIPSD_LOG {known}") + exported, level=b"\xff")
     for level in ("off", "error", "warn"):
         check.run(["export"], [], level=level)
     for level in ("debug", "trace"):
         check.run(["export"], exported, level=level)
     # No request is said at info, which it is where no level is named.
-    for level, said in ((None, []), ("loud", warn("hipsd", f'HIPSD_LOG = "loud": {known}')), ("info", [])):
+    for level, said in ((None, []), ("loud", warn("hipsd", f'HIPSD_LOG = "loud" {known}')), ("info", [])):
         check.run(["session"], said, given=ask(b"GET", b"/x"), level=level)
     check.run(["mirror", f"127.0.0.1:{free_port()}"], [], files={}, level="off")
 
@@ -296,7 +296,7 @@ def folders(check):
         check.run(["verify"], error("shelf_io::words", said), files=CONF | {leaf: data})
     near = "files that look like tiles and are none: {}, as {}; tile 7 would be Norder4/Dir0/Npix7.fits, and "
     near += "Dir is the greatest multiple of 10000 up to the number"
-    above = "tiles of an order above 4, that of the leaves: {}, as {}; they aren't read, and export removes them"
+    above = "{} tiles are of an order above 4, that of the leaves, as {}: they aren't read, and export removes them"
     one, deep = "Norder4/Dir0/Npix07.fits", tile_path(5, 7)
     other = "no tile is of order 4, that of the leaves: with hips_order = {} in survey.conf the {} tiles of order {} would be the leaves"
     strays = "{} files aren't of this survey, and export removes them: {}"
@@ -556,7 +556,7 @@ def edits(check):
     given = ask(b"POST", b"/batch", body=put + REMOVED + put)
     check.run(["session"], said, given=given)
     check.run(["session"], said + each + debug("request", "POST /batch 200 11 # -"), given=given, level="debug")
-    full = "{} of {} ({} percent) are used. Once all are, edits are answered 507; renew it: rollover.sh"
+    full = "{} of {} ({} percent) are used. When all are, edits are answered 507: renew the server by rollover.sh"
     said = warn("hips_http::room", *(full.format(128 * batches, "65536 edits", mark) for batches, mark in ((410, 80), (487, 95), (512, 100))))
     check.run(["session"], said, given=ask(b"POST", b"/batch", body=(put + REMOVED) * 64) * 513, level="warn")
     # Tiles of 512 by 512 pixels of 64 bits, of which 256 fit: 200 leaves, and then edits. All leaves are one file.
@@ -613,10 +613,11 @@ def read_until(process, text):
 RESETS = struct.pack("ii", 1, 0)
 ROOM = "room: {} of 536870912 bytes of tiles ({} percent) and 0 of 65536 edits (0 percent) are used; {} more tiles of 1024 bytes fit"
 LOADED = info("survey_commands::serve", "loaded 0 leaves in # ms: 2 files are served") + info("hips_http::room", ROOM.format(0, 0, 524_288))
-GONE = "Edits that weren't copied from here are gone now"
+GONE = "Edits since the last copy are lost"
+LIMIT = "that is its limit, or none is left"
 FEW_LEFT = (
     "place 1 has taken 6 of 7 connections: after 1 more it ends. "
-    "Once all places have ended the server has too, and its edits are gone: renew it before"
+    "When all places have ended the server ends, and its edits are lost: run rollover.sh before"
 )
 # The connections of a server: what each sends, what is said of its requests, and how it ends.
 CONNECTIONS = [
@@ -655,7 +656,7 @@ def servers(check):
         # 6 of 7 are the first that are 80 percent or more; 95 percent are all.
         wanted += warn("hips_place::place", FEW_LEFT) if number == 6 else []
     reader.join(60)
-    wanted += info("hips_place::place", f"a place ended after {count} connections: it took its connections, or none is left")
+    wanted += info("hips_place::place", f"place 1 ended after {count} connections: {LIMIT}")
     wanted += info("survey_commands::serve", f"all places have ended: Done. {GONE}")
     check.compare(["serve"], said + rest[0], wanted)
 
@@ -678,7 +679,7 @@ def places(check):
     wanted += info("tcp_link::listening", "listening at 127.0.0.1:#")
     wanted += debug("client", *(f"{name} 127.0.0.1:#" for name in names))
     wanted += debug("request", *(f"{name} GET /x 404 10 # not_found" for name in names)) + debug("ended", *(f"{name} Closed" for name in names))
-    wanted += info("hips_place::place", *["a place ended after 1 connections: it took its connections, or none is left"] * count)
+    wanted += info("hips_place::place", *[f"place # ended after 1 connections: {LIMIT}"] * count)
     wanted += info("survey_commands::serve", f"all places have ended: Done. {GONE}")
     # What places say at once comes in any order.
     check.compare(["serve"], b"\n".join(sorted(said.splitlines())), sorted(wanted))
@@ -687,12 +688,12 @@ def places(check):
 def shortages(check):
     """More places than descriptors: those without one are served once others have ended, or end themselves after five minutes."""
     short = warn("tcp_link::shortage", "can't accept, and tries again: Too many open files (os error 24)")
-    served_one = info("hips_place::place", "a place ended after 1 connections: it took its connections, or none is left")
-    failed = info("hips_place::place", "a place ended after 0 connections: its door failed")
+    served_one = info("hips_place::place", f"place # ended after 1 connections: {LIMIT}")
+    failed = error("hips_place::place", "place # ended after 0 connections: accepting failed")
     # By the second clock two and a half minutes pass at each reading.
     for count, clients, pace, until, said, end in [
         (4, 4, None, b"tries again", short + served_one * 4, "Done"),
-        (3, 2, 150_000, b"door failed", short * 2 + failed + served_one * 2, "Failed"),
+        (3, 2, 150_000, b"accepting failed", short * 2 + failed + served_one * 2, "Failed"),
     ]:
         # Two are for accepts, beside the standard ones and the listener's.
         limit = {"preexec_fn": lambda: resource.setrlimit(resource.RLIMIT_NOFILE, (6, 6))}
@@ -742,7 +743,7 @@ def publications(check):
         name = "connection{place=~ number=1}:"
         wanted += info("hips_http::room", f"{name} edit {number} puts {LEAF_ASKED[1:]}")
         wanted += info("hips_http::saying", f"{name} published 1 edits, {number} of {number} in all: 1 tiles built in # ms")
-    wanted += info("hips_place::place", *["a place ended after 1 connections: it took its connections, or none is left"] * 3)
+    wanted += info("hips_place::place", *[f"place # ended after 1 connections: {LIMIT}"] * 3)
     wanted += info("survey_commands::serve", f"all places have ended: Done. {GONE}")
     check.compare(["serve"], said, wanted)
 
@@ -760,7 +761,7 @@ def unix_socket(check):
     wanted = THIS + LOADED + info("survey_commands::serve", "1 places, up to 1 connections at each")
     wanted += info("tcp_link::listening", "listening at ./socket") + debug("client", f"{name} unix")
     wanted += debug("request", f"{name} GET /x 404 10 # not_found") + debug("ended", f"{name} Closed")
-    wanted += info("hips_place::place", "a place ended after 1 connections: it took its connections, or none is left")
+    wanted += info("hips_place::place", f"place # ended after 1 connections: {LIMIT}")
     wanted += info("survey_commands::serve", f"all places have ended: Done. {GONE}")
     check.compare(["serve"], said, wanted)
 
@@ -797,7 +798,7 @@ def lost_address(check):
     wanted = THIS + info("survey_commands::serve", f"loaded {count} leaves in # ms: # files are served")
     wanted += info("hips_http::room", ROOM.format(1024 * count, 0, 524_288 - count)) + info("survey_commands::serve", "2 places, up to 1 connections at each")
     wanted += error("tcp_link::listening", f"can't listen at 127.0.0.1:{port}: {REFUSAL}")
-    wanted += info("hips_place::place", *["a place ended after 0 connections: its door failed"] * 2)
+    wanted += error("hips_place::place", *["place # ended after 0 connections: accepting failed"] * 2)
     wanted += info("survey_commands::serve", f"all places have ended: Failed. {GONE}")
     check.compare(["serve"], b"\n".join(line for line in said.splitlines() if b"::progress]" not in line), wanted)
 

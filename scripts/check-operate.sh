@@ -525,7 +525,7 @@ no_leaves() {
     : >note.fits
     cp "$leaf" Norder6/Dir0/Npix1.fits
     ran 9 'files that look like tiles and are none: 4, as Norder5/Dir' verify
-    grep -qF 'tiles of an order above 5, that of the leaves: 1, as Norder6/Dir0/Npix1.fits' "$folder/log" || blame "a tile that is too deep: $(cat "$folder/log")"
+    grep -qF '1 tiles are of an order above 5, that of the leaves, as Norder6/Dir0/Npix1.fits' "$folder/log" || blame "a tile that is too deep: $(cat "$folder/log")"
     rm -r Norder5/Dir0/Npix007.fits Norder5/Dir0/Npix8.* Norder5/Dir10000 Norder6 note.fits
     "$program" verify >"$folder/said" 2>"$folder/log" || blame "hipsd verify: $(cat "$folder/said")"
     grep -q WARN "$folder/log" && blame "without such files: $(cat "$folder/log")"

@@ -70,7 +70,7 @@ fn charge_from(journal: &Journal, first: u32) -> u64 {
 fn say_mark<R: Log>(rt: &R, before: Used, used: Used) {
     let (low, high) = (before.percent(), used.percent());
     if MARKS.iter().any(|mark| low < *mark && *mark <= high) {
-        warn!(rt; "{used} are used. Once all are, edits are answered 507; renew it: rollover.sh");
+        warn!(rt; "{used} are used. When all are, edits are answered 507: renew the server by rollover.sh");
     }
 }
 

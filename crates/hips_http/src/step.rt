@@ -277,5 +277,9 @@ fn count_want(memory_faults: u32, reply: &TextReply) -> u32
     ensures counted { result ≡ memory_faults_after memory_faults reply.now }
     ensures one { result ≤ memory_faults + 1 }
 {
-    if reply.code == 503 { memory_faults + 1 } else { memory_faults }
+    if reply.code == 503 {
+        memory_faults + 1
+    } else {
+        memory_faults
+    }
 }

@@ -32,7 +32,7 @@ pub enum ServeRefusal {
     #[error("the survey wasn't opened")]
     NotOpened,
     /// All places have ended, all in all so; then their boards couldn't meet.
-    #[error("what the places have seen can't be put together")]
+    #[error("the histories of the places couldn't be joined; each place's own is whole")]
     NotMet(PlaceEnd),
 }
 

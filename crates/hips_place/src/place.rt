@@ -10,7 +10,7 @@ use crate::numbered::{NumberedSink, NumberedSource, Numbers};
 use hips_http::{SessionEnd, frame_for, session_in};
 use http_frame::Frame;
 use log::kv::With;
-use log::{Level, Log, Span, debug, info, log_enabled, warn};
+use log::{Level, Log, Span, debug, error, info, log_enabled, warn};
 use parent_rule::Steps;
 use reader_pin::ChangedWith;
 use std::alloc::Global;
@@ -108,11 +108,11 @@ pub fn serve_place<
                 wanted = is_wanted(wanted, end);
                 warn_of_last(rt, name, most);
             }
-            Ok(None) => return say_ended(rt, end_of(wanted), count),
-            Err(fault) => return say_ended(rt, end_by(fault), count),
+            Ok(None) => return say_ended(rt, place, end_of(wanted), count),
+            Err(fault) => return say_ended(rt, place, end_by(fault), count),
         }
     }
-    say_ended(rt, end_of(wanted), most)
+    say_ended(rt, place, end_of(wanted), most)
 }
 
 // What the log calls a connection: its place among those of the server, and its number there, both from 1 on.
@@ -127,7 +127,7 @@ fn warn_of_last<R: Log>(rt: &R, name: ConnectionName, most: u32) {
     let ConnectionName { place, number } = name;
     let left = most.saturating_sub(number);
     if left > 0 && (number == share_of(most, 80) || number == share_of(most, 95)) {
-        warn!(rt; "place {place} has taken {number} of {most} connections: after {left} more it ends. Once all places have ended the server has too, and its edits are gone: renew it before");
+        warn!(rt; "place {place} has taken {number} of {most} connections: after {left} more it ends. When all places have ended the server ends, and its edits are lost: run rollover.sh before");
     }
 }
 
@@ -140,15 +140,18 @@ fn share_of(most: u32, percent: u8) -> u32
 }
 
 // Logs how a place ended that has served so many connections.
-fn say_ended<R: Log>(rt: &R, end: PlaceEnd, served: u32) -> PlaceEnd
+fn say_ended<R: Log>(rt: &R, place: usize, end: PlaceEnd, served: u32) -> PlaceEnd
     ensures { result ≡ end }
 {
-    let why = match end {
-        PlaceEnd::Done => "it took its connections, or none is left",
-        PlaceEnd::Failed => "its door failed",
-        PlaceEnd::OutOfMemory => "there was no memory",
-    };
-    info!(rt; "a place ended after {served} connections: {why}");
+    match end {
+        PlaceEnd::Done => {
+            info!(rt; "place {place} ended after {served} connections: that is its limit, or none is left");
+        }
+        PlaceEnd::Failed =>
+            error!(rt; "place {place} ended after {served} connections: accepting failed"),
+        PlaceEnd::OutOfMemory =>
+            error!(rt; "place {place} ended after {served} connections: memory ran out"),
+    }
     end
 }
 

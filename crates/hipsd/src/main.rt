@@ -176,10 +176,10 @@ fn log_level<R: AllocGlobal + Env>(rt: &R) -> LevelFilter {
 fn say_level<R: AllocGlobal + Env + Log>(rt: &R) {
     match env::var(rt, LOG) {
         Ok(level) if level.as_str().parse::<LevelFilter>().is_err() => {
-            warn!(rt; "{LOG} = {level:?}: off, error, warn, info, debug or trace; it is info now");
+            warn!(rt; "{LOG} = {level:?} is none of off, error, warn, info, debug and trace: info is used");
         }
         Err(VarError::NotUnicode) => {
-            warn!(rt; "{LOG} is not UTF-8: off, error, warn, info, debug or trace; it is info now");
+            warn!(rt; "{LOG} is none of off, error, warn, info, debug and trace: info is used");
         }
         _ => {}
     }

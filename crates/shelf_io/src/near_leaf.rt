@@ -52,7 +52,7 @@ fn say_misplaced<R: Log>(rt: &R, count: usize, path: &str, top: u8) {
 
 fn say_above<R: Log>(rt: &R, count: usize, path: &str, top: u8) {
     let path = path.as_bytes().escape_ascii();
-    warn!(rt; "tiles of an order above {top}, that of the leaves: {count}, as {path}; they aren't read, and export removes them");
+    warn!(rt; "{count} tiles are of an order above {top}, that of the leaves, as {path}: they aren't read, and export removes them");
 }
 
 // Whether the file has the name of a tile, or nearly, and is none.

@@ -101,7 +101,7 @@ where
     let served = serve_doors(rt, rt.alloc(), state, connections, gate, doors);
     match &served {
         Ok(end) => {
-            info!(rt; "all places have ended: {end:?}. Edits that weren't copied from here are gone now");
+            info!(rt; "all places have ended: {end:?}. Edits since the last copy are lost");
         }
         Err(refusal) => error!(rt; "out of memory: {refusal}"),
     }
