@@ -802,7 +802,7 @@ addresses() {
     wait "$ending"
     got=$?
     [ "$got" = 0 ] || blame "serve localhost:$named: status $got: $(cat "$folder/said")"
-    grep -qF "Edits that weren't copied from here are gone now" "$folder/said" || blame "the end doesn't say what is gone: $(cat "$folder/said")"
+    grep -qF "Edits since the last copy are lost" "$folder/said" || blame "the end doesn't say what is gone: $(cat "$folder/said")"
 }
 
 # name_of_two: a name with two addresses, where this may give one. `mirror` and `serve` take the one that they can have.
