@@ -195,7 +195,7 @@ fn serve_text<
         Ok(reply) => reply,
         Err(stop) => return Err(body_end(stop)),
     };
-    connection.memory_faults = count_want(connection.memory_faults, &reply);
+    connection.memory_faults = count_memory_fault(connection.memory_faults, &reply);
     match send_text(
         means.rt,
         connection.sink,
@@ -272,7 +272,7 @@ fn closes(asked: bool, count: u32) -> bool
 }
 
 // How many requests have found no memory after a reply.
-fn count_want(memory_faults: u32, reply: &TextReply) -> u32
+fn count_memory_fault(memory_faults: u32, reply: &TextReply) -> u32
     requires { memory_faults < 65536 }
     ensures counted { result ≡ memory_faults_after memory_faults reply.now }
     ensures one { result ≤ memory_faults + 1 }

@@ -365,7 +365,7 @@ map_alike f g (x ∷ xs) all = ap₂ (λ y ys. y ∷ ys) (All-head (λ x. f x �
 
 none_failed : (ends : List PlaceEnd) (end : PlaceEnd) → EndAs ends end → end ≢ Failed → All (λ each. each ≢ Failed) ends
 none_failed ends Done e other = All-weaker (λ each. each ≡ Done) (λ each. each ≢ Failed) (λ each is failed. cc) ends (e.done refl)
-none_failed ends OutOfMemory e other = (e.wanted refl).1
+none_failed ends OutOfMemory e other = (e.ran_out refl).1
 none_failed ends Failed e other = absurd (other refl)
 
 module _ {D : Type 0} (content : D → DoorContent) (most : ℕ) (boards boards' : List BoardContent) (doors doors' : List D) (end : PlaceEnd)

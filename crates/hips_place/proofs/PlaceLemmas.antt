@@ -169,7 +169,7 @@ framed_push frame frame' ends end (inl all) stays was = elim (is_out_of_memory e
 ]
 
 -- what was done so far: the board's history goes on by the connections that were taken, and none is out
-pub record SoFar (old now : BoardContent) (door door' : Option Connections) (count : ℕ) (wanted : Bool) (frame : Option FrameState) (owns : List (List ℕ)) : Type 0 where
+pub record SoFar (old now : BoardContent) (door door' : Option Connections) (count : ℕ) (ran_out : Bool) (frame : Option FrameState) (owns : List (List ℕ)) : Type 0 where
   pub opened : List Numbered
   pub closed : List Numbered
   pub ends : List SessionEnd
@@ -178,8 +178,8 @@ pub record SoFar (old now : BoardContent) (door door' : Option Connections) (cou
   pub count_is : length opened ≡ count
   pub backs_are : length closed ≡ count
   pub framed : Framed frame ends
-  pub none_wanted : wanted ≡ false → All (λ end. end ≢ OutOfMemory) ends
-  pub some_wanted : wanted ≡ true → Contains ends OutOfMemory
+  pub none_wanted : ran_out ≡ false → All (λ end. end ≢ OutOfMemory) ends
+  pub some_wanted : ran_out ≡ true → Contains ends OutOfMemory
 
 none_handed : (door : Option Connections) → OpenedAndClosed door [] [] door
 none_handed None = tt
@@ -199,11 +199,11 @@ begins_place board door frame = record {
   some_wanted = λ is. absurd (cc);
 }
 
-pub one_more : (old now new : BoardContent) (door door1 door2 : Option Connections) (count : ℕ) (wanted wanted' : Bool) (frame frame' : Option FrameState) (end : SessionEnd) (owns : List (List ℕ)) → AllReturned door
-    → SoFar old now door door1 count wanted frame owns → (goes : Goes now new) → TakesOne door1 door2 now new end → (wanted' ≡ false → (wanted ≡ false) × (end ≢ OutOfMemory))
-    → (wanted' ≡ true → (wanted ≡ true) ⊎ (end ≡ OutOfMemory)) → (IsSome frame → IsSome frame' × (end ≢ OutOfMemory)) → (end ≢ OutOfMemory → IsSome frame')
-    → SoFar old new door door2 (count + 1) wanted' frame' (owns ++ goes.own ∷ [])
-one_more old now new door door1 door2 count wanted wanted' frame frame' end owns all s goes one memory_faults some stays was =
+pub one_more : (old now new : BoardContent) (door door1 door2 : Option Connections) (count : ℕ) (ran_out ran_out' : Bool) (frame frame' : Option FrameState) (end : SessionEnd) (owns : List (List ℕ)) → AllReturned door
+    → SoFar old now door door1 count ran_out frame owns → (goes : Goes now new) → TakesOne door1 door2 now new end → (ran_out' ≡ false → (ran_out ≡ false) × (end ≢ OutOfMemory))
+    → (ran_out' ≡ true → (ran_out ≡ true) ⊎ (end ≡ OutOfMemory)) → (IsSome frame → IsSome frame' × (end ≢ OutOfMemory)) → (end ≢ OutOfMemory → IsSome frame')
+    → SoFar old new door door2 (count + 1) ran_out' frame' (owns ++ goes.own ∷ [])
+one_more old now new door door1 door2 count ran_out ran_out' frame frame' end owns all s goes one memory_faults some stays was =
     let run : PlaceRun new.conf new.opening old.history s.opened s.closed s.ends owns now.history
     = subst (λ (c : Description). PlaceRun c new.opening old.history s.opened s.closed s.ends owns now.history) (sym goes.conf)
     (subst (λ (l : LeafTiles). PlaceRun now.conf l old.history s.opened s.closed s.ends owns now.history) (sym goes.opening) s.run) in
@@ -226,13 +226,13 @@ one_more old now new door door1 door2 count wanted wanted' frame frame' end owns
 -- ---- how it ends
 
 abbrev end_of : Bool → PlaceEnd
-end_of wanted = if wanted then placed.OutOfMemory else Done
+end_of ran_out = if ran_out then placed.OutOfMemory else Done
 
 -- no accept was refused
-pub ends_sound : (door door' : DoorContent) (wanted : Bool) (end : PlaceEnd) → end ≡ end_of wanted → door'.faults ≡ door.faults → door'.memory_faults ≡ door.memory_faults → EndsBy door door' end
-ends_sound door door' wanted end is faults memory_faults = subst (λ (e : PlaceEnd). EndsBy door door' e) (sym is) (so wanted)
+pub ends_sound : (door door' : DoorContent) (ran_out : Bool) (end : PlaceEnd) → end ≡ end_of ran_out → door'.faults ≡ door.faults → door'.memory_faults ≡ door.memory_faults → EndsBy door door' end
+ends_sound door door' ran_out end is faults memory_faults = subst (λ (e : PlaceEnd). EndsBy door door' e) (sym is) (so ran_out)
   where
-    so : (wanted : Bool) → EndsBy door door' (end_of wanted)
+    so : (ran_out : Bool) → EndsBy door door' (end_of ran_out)
     so false = (faults, memory_faults)
     so true = (faults, inr memory_faults)
 
@@ -240,12 +240,12 @@ ends_sound door door' wanted end is faults memory_faults = subst (λ (e : PlaceE
 pub ends_refused : (door door' : DoorContent) (why : DoorFault) (end : PlaceEnd) → (why ≡ fault.Failed → end ≡ Failed) → (why ≡ fault.OutOfMemory → end ≡ placed.OutOfMemory)
     → (why ≡ fault.Failed → Rises door.faults door'.faults × (door'.memory_faults ≡ door.memory_faults)) → (why ≡ fault.OutOfMemory → Rises door.memory_faults door'.memory_faults × (door'.faults ≡ door.faults))
     → EndsBy door door' end
-ends_refused door door' fault.Failed end failed wanted rises memory_faults = subst (λ (e : PlaceEnd). EndsBy door door' e) (sym (failed refl)) (rises refl)
-ends_refused door door' fault.OutOfMemory end failed wanted rises memory_faults =
-    subst (λ (e : PlaceEnd). EndsBy door door' e) (sym (wanted refl)) ((memory_faults refl).1, inl (memory_faults refl).0)
+ends_refused door door' fault.Failed end failed ran_out rises memory_faults = subst (λ (e : PlaceEnd). EndsBy door door' e) (sym (failed refl)) (rises refl)
+ends_refused door door' fault.OutOfMemory end failed ran_out rises memory_faults =
+    subst (λ (e : PlaceEnd). EndsBy door door' e) (sym (ran_out refl)) ((memory_faults refl).1, inl (memory_faults refl).0)
 
-module _ (old now new : BoardContent) (door door' : DoorContent) (now_told : Option Connections) (count most : ℕ) (wanted : Bool) (frame : Option FrameState) (end : PlaceEnd) (owns : List (List ℕ))
-    (s : SoFar old now door.connections now_told count wanted frame owns) (board_is : new ≡ now) (door_is : door'.connections ≡ now_told) (few : count ≤ most) where
+module _ (old now new : BoardContent) (door door' : DoorContent) (now_told : Option Connections) (count most : ℕ) (ran_out : Bool) (frame : Option FrameState) (end : PlaceEnd) (owns : List (List ℕ))
+    (s : SoFar old now door.connections now_told count ran_out frame owns) (board_is : new ≡ now) (door_is : door'.connections ≡ now_told) (few : count ≤ most) where
   place_of : EndsAfter door door' most s.opened s.ends end → IsPlace old new door door' most end owns
   place_of ended = record {
     opened = s.opened;
@@ -259,13 +259,13 @@ module _ (old now new : BoardContent) (door door' : DoorContent) (now_told : Opt
   }
 
   -- it took all
-  pub place_took : end ≡ end_of wanted → (count ≡ most) ⊎ NoneWaits door'.connections → IsPlace old new door door' most end owns
+  pub place_took : end ≡ end_of ran_out → (count ≡ most) ⊎ NoneWaits door'.connections → IsPlace old new door door' most end owns
   place_took is all =
       let took : TookAll most s.opened door' = elim all [ inl whole ↦ inl (s.count_is ∙ whole) | inr waits ↦ inr waits ] in
-      place_of (subst (λ (e : PlaceEnd). EndsAfter door door' most s.opened s.ends e) (sym is) (after wanted took s.none_wanted s.some_wanted))
+      place_of (subst (λ (e : PlaceEnd). EndsAfter door door' most s.opened s.ends e) (sym is) (after ran_out took s.none_wanted s.some_wanted))
     where
-      after : (wanted : Bool) → TookAll most s.opened door' → (wanted ≡ false → All (λ end. end ≢ OutOfMemory) s.ends) → (wanted ≡ true → Contains s.ends OutOfMemory)
-          → EndsAfter door door' most s.opened s.ends (end_of wanted)
+      after : (ran_out : Bool) → TookAll most s.opened door' → (ran_out ≡ false → All (λ end. end ≢ OutOfMemory) s.ends) → (ran_out ≡ true → Contains s.ends OutOfMemory)
+          → EndsAfter door door' most s.opened s.ends (end_of ran_out)
       after false took none some = (took, none refl)
       after true took none some = inr (took, some refl)
 
@@ -320,10 +320,10 @@ pub goes_as : (old now new : BoardContent) (count most : ℕ) (owns : List (List
 goes_as old now new count most owns goes is few = subst (λ (b : BoardContent). PlaceGoes old b most owns) (sym is) (goes_most old now count most owns goes few)
 
 -- the loop over connections
-pub record IsLoop (old now : BoardContent) (door door' : DoorContent) (steps steps' count : ℕ) (wanted : Bool) (frame : Option FrameState) : Type 0 where
+pub record IsLoop (old now : BoardContent) (door door' : DoorContent) (steps steps' count : ℕ) (ran_out : Bool) (frame : Option FrameState) : Type 0 where
   pub owns : List (List ℕ)
   pub goes : PlaceGoes old now count owns
   pub no_faults : door'.faults ≡ door.faults
   pub no_wants : door'.memory_faults ≡ door.memory_faults
   pub steps_never_fall : steps ≤ steps'
-  pub so_far : AllReturned door.connections → SoFar old now door.connections door'.connections count wanted frame owns
+  pub so_far : AllReturned door.connections → SoFar old now door.connections door'.connections count ran_out frame owns

@@ -14,14 +14,14 @@ failed_first : (ends others : List PlaceEnd) → EndAs ends Failed → EndAs (en
 failed_first ends others a = record {
   done = λ e. cc;
   failed = λ _. Contains-append_left ends others Failed (a.failed refl);
-  wanted = λ e. cc;
+  ran_out = λ e. cc;
 }
 
 failed_last : (ends others : List PlaceEnd) → EndAs others Failed → EndAs (ends ++ others) Failed
 failed_last ends others b = record {
   done = λ e. cc;
   failed = λ _. Contains-append_right ends others Failed (b.failed refl);
-  wanted = λ e. cc;
+  ran_out = λ e. cc;
 }
 
 done_not_failed : (ends : List PlaceEnd) → All (λ each. each ≡ Done) ends → All (λ each. each ≢ Failed) ends
@@ -33,30 +33,30 @@ ends_both OutOfMemory Failed ends others first second = failed_last ends others 
 ends_both OutOfMemory OutOfMemory ends others first second = record {
   done = λ e. cc;
   failed = λ e. cc;
-  wanted = λ _. (Contains-append_left ends others OutOfMemory (first.wanted refl).0, All-append (λ each. each ≢ Failed) ends others (first.wanted refl).1 (second.wanted refl).1);
+  ran_out = λ _. (Contains-append_left ends others OutOfMemory (first.ran_out refl).0, All-append (λ each. each ≢ Failed) ends others (first.ran_out refl).1 (second.ran_out refl).1);
 }
 ends_both OutOfMemory Done ends others first second = record {
   done = λ e. cc;
   failed = λ e. cc;
-  wanted = λ _. (Contains-append_left ends others OutOfMemory (first.wanted refl).0, All-append (λ each. each ≢ Failed) ends others (first.wanted refl).1 (done_not_failed others (second.done refl)));
+  ran_out = λ _. (Contains-append_left ends others OutOfMemory (first.ran_out refl).0, All-append (λ each. each ≢ Failed) ends others (first.ran_out refl).1 (done_not_failed others (second.done refl)));
 }
 ends_both Done Failed ends others first second = failed_last ends others second
 ends_both Done OutOfMemory ends others first second = record {
   done = λ e. cc;
   failed = λ e. cc;
-  wanted = λ _. (Contains-append_right ends others OutOfMemory (second.wanted refl).0, All-append (λ each. each ≢ Failed) ends others (done_not_failed ends (first.done refl)) (second.wanted refl).1);
+  ran_out = λ _. (Contains-append_right ends others OutOfMemory (second.ran_out refl).0, All-append (λ each. each ≢ Failed) ends others (done_not_failed ends (first.done refl)) (second.ran_out refl).1);
 }
 ends_both Done Done ends others first second = record {
   done = λ _. All-append (λ each. each ≡ Done) ends others (first.done refl) (second.done refl);
   failed = λ e. cc;
-  wanted = λ e. cc;
+  ran_out = λ e. cc;
 }
 
 one_end : (end : PlaceEnd) → EndAs (end ∷ []) end
 one_end end = record {
   done = λ e. All-cons (λ each. each ≡ Done) end [] e (All-nil (λ each. each ≡ Done));
   failed = λ e. (0, omega arith, e);
-  wanted = λ e. ((0, omega arith, e), All-cons (λ each. each ≢ Failed) end [] (λ failed. cc) (All-nil (λ each. each ≢ Failed)));
+  ran_out = λ e. ((0, omega arith, e), All-cons (λ each. each ≢ Failed) end [] (λ failed. cc) (All-nil (λ each. each ≢ Failed)));
 }
 
 -- ---- the places
@@ -69,7 +69,7 @@ no_places most = record {
   boards_then = refl;
   doors_are = refl;
   doors_then = refl;
-  ends = record { done = λ _. All-nil (λ each. each ≡ Done); failed = λ e. cc; wanted = λ e. cc };
+  ends = record { done = λ _. All-nil (λ each. each ≡ Done); failed = λ e. cc; ran_out = λ e. cc };
 }
 
 pub one_place : (most : ℕ) (place : OnePlace) → IsServedPlace most place

@@ -195,7 +195,7 @@ worse Done other = other
 pub record EndAs (ends : List PlaceEnd) (end : PlaceEnd) : Type 0 where
   pub done : end ≡ Done → All (λ each. each ≡ Done) ends
   pub failed : end ≡ Failed → Contains ends Failed
-  pub wanted : end ≡ OutOfMemory → Contains ends OutOfMemory × All (λ each. each ≢ Failed) ends
+  pub ran_out : end ≡ OutOfMemory → Contains ends OutOfMemory × All (λ each. each ≢ Failed) ends
 
 -- the places of a server, one for each board and the door beside it, each with this limit of connections
 pub record ArePlaces (most : ℕ) (boards boards' : List BoardContent) (doors doors' : List DoorContent) (end : PlaceEnd) : Type 0 where

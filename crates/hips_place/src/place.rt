@@ -97,7 +97,7 @@ pub fn serve_place<
     // For the prover: what a board has seen is a history.
     let _legal = board.last();
     let mut frame: Option<Frame> = None;
-    let mut wanted = false;
+    let mut ran_out = false;
     for count in 0..most {
         let name = ConnectionName {
             place,
@@ -105,14 +105,14 @@ pub fn serve_place<
         };
         match serve_next::<R, N, B, D, G>(rt, alloc, name, &mut frame, board, door, gate, steps) {
             Ok(Some(end)) => {
-                wanted = is_wanted(wanted, end);
+                ran_out = has_run_out(ran_out, end);
                 warn_of_last(rt, name, most);
             }
-            Ok(None) => return say_ended(rt, place, end_of(wanted), count),
+            Ok(None) => return say_ended(rt, place, end_of(ran_out), count),
             Err(fault) => return say_ended(rt, place, end_by(fault), count),
         }
     }
-    say_ended(rt, place, end_of(wanted), most)
+    say_ended(rt, place, end_of(ran_out), most)
 }
 
 // What the log calls a connection: its place among those of the server, and its number there, both from 1 on.
@@ -156,7 +156,7 @@ fn say_ended<R: Log>(rt: &R, place: usize, end: PlaceEnd, served: u32) -> PlaceE
 }
 
 // Whether a session has run out of memory: this one, or one before it.
-fn is_wanted(before: bool, end: SessionEnd) -> bool
+fn has_run_out(before: bool, end: SessionEnd) -> bool
     ensures none { result ≡ false → (before ≡ false) × (end ≢ SessionEnd.OutOfMemory) }
     ensures some { result ≡ true → (before ≡ true) ⊎ (end ≡ SessionEnd.OutOfMemory) }
 {
@@ -164,10 +164,10 @@ fn is_wanted(before: bool, end: SessionEnd) -> bool
 }
 
 // How a place ends whose door hasn't failed.
-fn end_of(wanted: bool) -> PlaceEnd
-    ensures { result ≡ (if wanted then PlaceEnd.OutOfMemory else PlaceEnd.Done) }
+fn end_of(ran_out: bool) -> PlaceEnd
+    ensures { result ≡ (if ran_out then PlaceEnd.OutOfMemory else PlaceEnd.Done) }
 {
-    if wanted {
+    if ran_out {
         PlaceEnd::OutOfMemory
     } else {
         PlaceEnd::Done
@@ -177,7 +177,7 @@ fn end_of(wanted: bool) -> PlaceEnd
 // How a place ends whose door refused.
 fn end_by(fault: DoorFault) -> PlaceEnd
     ensures failed { fault ≡ DoorFault.Failed → result ≡ PlaceEnd.Failed }
-    ensures wanted { fault ≡ DoorFault.OutOfMemory → result ≡ PlaceEnd.OutOfMemory }
+    ensures ran_out { fault ≡ DoorFault.OutOfMemory → result ≡ PlaceEnd.OutOfMemory }
 {
     match fault {
         DoorFault::Failed => PlaceEnd::Failed,
@@ -214,7 +214,7 @@ fn serve_next<
     ensures kept { OnErr result ((D.connections door.new ≡ D.connections door.old) × (B.content board.new ≡ B.content board.old)) }
     ensures sound { OnOk result ((D.faults door.new ≡ D.faults door.old) × (D.memory_faults door.new ≡ D.memory_faults door.old)) }
     ensures failed { IsErrOf result DoorFault.Failed → Rises (D.faults door.old) (D.faults door.new) × (D.memory_faults door.new ≡ D.memory_faults door.old) }
-    ensures wanted { IsErrOf result DoorFault.OutOfMemory → Rises (D.memory_faults door.old) (D.memory_faults door.new) × (D.faults door.new ≡ D.faults door.old) }
+    ensures ran_out { IsErrOf result DoorFault.OutOfMemory → Rises (D.memory_faults door.old) (D.memory_faults door.new) × (D.faults door.new ≡ D.faults door.old) }
     ensures steps_never_fall { steps.old ≤ steps.new }
 {
     // For the prover: what a board has seen is a history.

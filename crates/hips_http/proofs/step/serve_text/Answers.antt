@@ -26,11 +26,11 @@ returns-in-Ok-send_text-clause-serves g c =
     let r = c.in-Ok.ensures.replied in
     let e = c.in-Ok-send_text.ensures in
     record {
-      ok = (c.in-Ok.reply, record { body = r.body; takes = r.takes; serves = r.serves c.args.connection.now.frame.now.path; memory_faults_is = c.count_want-connection.ensures.counted }, e.sends.whole);
+      ok = (c.in-Ok.reply, record { body = r.body; takes = r.takes; serves = r.serves c.args.connection.now.frame.now.path; memory_faults_is = c.count_memory_fault-connection.ensures.counted }, e.sends.whole);
       broken = λ is. absurd (cc);
       halted = tt;
       hands = record { flushed = e.hands.flushed; stays = tt; unwritten = tt; write_fault = λ is. absurd (cc); memory = tt };
-      never_falls = record { source = c.in-Ok.ensures.source_never_falls; sink = e.hands.never_falls; steps = c.in-Ok.ensures.steps_never_fall; memory_faults = c.count_want-connection.ensures.one; room = c.in-Ok.ensures.room };
+      never_falls = record { source = c.in-Ok.ensures.source_never_falls; sink = e.hands.never_falls; steps = c.in-Ok.ensures.steps_never_fall; memory_faults = c.count_memory_fault-connection.ensures.one; room = c.in-Ok.ensures.room };
     }
 
 pub returns-in-Err-send_text-clause-serves : goal.returns-in-Err-send_text-clause-serves
@@ -39,8 +39,8 @@ returns-in-Err-send_text-clause-serves g c =
     let e = c.in-Err-send_text.ensures in
     record {
       ok = tt;
-      broken = λ _. (c.in-Ok.reply, record { body = r.body; takes = r.takes; serves = r.serves c.args.connection.now.frame.now.path; memory_faults_is = c.count_want-connection.ensures.counted }, e.sends.part);
+      broken = λ _. (c.in-Ok.reply, record { body = r.body; takes = r.takes; serves = r.serves c.args.connection.now.frame.now.path; memory_faults_is = c.count_memory_fault-connection.ensures.counted }, e.sends.part);
       halted = λ other. absurd (other refl);
       hands = record { flushed = tt; stays = e.hands.stays; unwritten = λ other. absurd (other refl); write_fault = λ _. e.hands.failed; memory = λ is. cc };
-      never_falls = record { source = c.in-Ok.ensures.source_never_falls; sink = e.hands.never_falls; steps = c.in-Ok.ensures.steps_never_fall; memory_faults = c.count_want-connection.ensures.one; room = c.in-Ok.ensures.room };
+      never_falls = record { source = c.in-Ok.ensures.source_never_falls; sink = e.hands.never_falls; steps = c.in-Ok.ensures.steps_never_fall; memory_faults = c.count_memory_fault-connection.ensures.one; room = c.in-Ok.ensures.room };
     }

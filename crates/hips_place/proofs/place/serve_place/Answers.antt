@@ -27,8 +27,8 @@ loop-count-preserved g c =
         no_wants = e.sound.1 ∙ s.no_wants;
         steps_never_fall = (let before = s.steps_never_fall in let here = e.steps_never_fall in omega arith);
         so_far = λ all. one_more (g.B.Board.content c.args.board.now) (g.B.Board.content c.loop-count.board) (g.B.Board.content c.serve_next.new.board) (g.D.Door.connections c.args.door.now)
-            (g.D.Door.connections c.loop-count.door) (g.D.Door.connections c.serve_next.new.door) c.loop-count.count c.loop-count.wanted c.is_wanted-wanted.result c.loop-count.frame c.serve_next.new.frame
-            c.in-Ok-Some.end s.owns all (s.so_far all) e.goes (rw c.in-Ok-Some.field-0-is at e.next) c.is_wanted-wanted.ensures.none c.is_wanted-wanted.ensures.some
+            (g.D.Door.connections c.loop-count.door) (g.D.Door.connections c.serve_next.new.door) c.loop-count.count c.loop-count.ran_out c.has_run_out-ran_out.result c.loop-count.frame c.serve_next.new.frame
+            c.in-Ok-Some.end s.owns all (s.so_far all) e.goes (rw c.in-Ok-Some.field-0-is at e.next) c.has_run_out-ran_out.ensures.none c.has_run_out-ran_out.ensures.some
             (rw c.in-Ok-Some.field-0-is at e.frame_stays) (rw c.in-Ok-Some.field-0-is at e.frame_was);
       },
       e.room,
@@ -44,7 +44,7 @@ returns-in-Ok-None-clause-place g c =
       owns = s.owns;
       goes = goes_as (g.B.Board.content c.args.board.now) (g.B.Board.content c.loop-count.board) (g.B.Board.content c.serve_next.new.board) c.loop-count.count c.args.most s.owns s.goes none.2 (omega arith);
       place = λ all. place_took (g.B.Board.content c.args.board.now) (g.B.Board.content c.loop-count.board) (g.B.Board.content c.serve_next.new.board)
-          (door_of g.D.Door c.args.door.now) (door_of g.D.Door c.serve_next.new.door) (g.D.Door.connections c.loop-count.door) c.loop-count.count c.args.most c.loop-count.wanted c.loop-count.frame c.say_ended.result
+          (door_of g.D.Door c.args.door.now) (door_of g.D.Door c.serve_next.new.door) (g.D.Door.connections c.loop-count.door) c.loop-count.count c.args.most c.loop-count.ran_out c.loop-count.frame c.say_ended.result
           s.owns (s.so_far all) none.2 none.1 (omega arith) (c.say_ended.ensures ∙ c.end_of.ensures) (inr none.0);
     }
 
@@ -52,7 +52,7 @@ pub returns-in-Ok-None-clause-ends_by : goal.returns-in-Ok-None-clause-ends_by
 returns-in-Ok-None-clause-ends_by g c =
     let s = c.loop-count.invariant.0 in
     let e = c.in-Ok-None.ensures.sound in
-    ends_sound (door_of g.D.Door c.args.door.now) (door_of g.D.Door c.serve_next.new.door) c.loop-count.wanted c.say_ended.result
+    ends_sound (door_of g.D.Door c.args.door.now) (door_of g.D.Door c.serve_next.new.door) c.loop-count.ran_out c.say_ended.result
     (c.say_ended.ensures ∙ c.end_of.ensures) (e.0 ∙ s.no_faults) (e.1 ∙ s.no_wants)
 
 pub returns-in-Err-clause-place : goal.returns-in-Err-clause-place
@@ -63,9 +63,9 @@ returns-in-Err-clause-place g c =
       owns = s.owns;
       goes = goes_as (g.B.Board.content c.args.board.now) (g.B.Board.content c.loop-count.board) (g.B.Board.content c.serve_next.new.board) c.loop-count.count c.args.most s.owns s.goes e.kept.1 (omega arith);
       place = λ all. place_refused (g.B.Board.content c.args.board.now) (g.B.Board.content c.loop-count.board) (g.B.Board.content c.serve_next.new.board)
-          (door_of g.D.Door c.args.door.now) (door_of g.D.Door c.serve_next.new.door) (g.D.Door.connections c.loop-count.door) c.loop-count.count c.args.most c.loop-count.wanted c.loop-count.frame c.say_ended-in-Err.result
-          s.owns (s.so_far all) e.kept.1 e.kept.0 (omega arith) c.in-Err.fault (λ is. c.say_ended-in-Err.ensures ∙ c.end_by.ensures.failed is) (λ is. c.say_ended-in-Err.ensures ∙ c.end_by.ensures.wanted is)
-          (λ is. rw (← s.no_wants) (e.wanted (ap (λ why. Err why) is)).0);
+          (door_of g.D.Door c.args.door.now) (door_of g.D.Door c.serve_next.new.door) (g.D.Door.connections c.loop-count.door) c.loop-count.count c.args.most c.loop-count.ran_out c.loop-count.frame c.say_ended-in-Err.result
+          s.owns (s.so_far all) e.kept.1 e.kept.0 (omega arith) c.in-Err.fault (λ is. c.say_ended-in-Err.ensures ∙ c.end_by.ensures.failed is) (λ is. c.say_ended-in-Err.ensures ∙ c.end_by.ensures.ran_out is)
+          (λ is. rw (← s.no_wants) (e.ran_out (ap (λ why. Err why) is)).0);
     }
 
 pub returns-in-Err-clause-ends_by : goal.returns-in-Err-clause-ends_by
@@ -73,8 +73,8 @@ returns-in-Err-clause-ends_by g c =
     let s = c.loop-count.invariant.0 in
     let e = c.in-Err.ensures in
     ends_refused (door_of g.D.Door c.args.door.now) (door_of g.D.Door c.serve_next.new.door) c.in-Err.fault c.say_ended-in-Err.result
-    (λ is. c.say_ended-in-Err.ensures ∙ c.end_by.ensures.failed is) (λ is. c.say_ended-in-Err.ensures ∙ c.end_by.ensures.wanted is)
-    (λ is. let r = e.failed (ap (λ why. Err why) is) in (rw (← s.no_faults) r.0, r.1 ∙ s.no_wants)) (λ is. let r = e.wanted (ap (λ why. Err why) is) in (rw (← s.no_wants) r.0, r.1 ∙ s.no_faults))
+    (λ is. c.say_ended-in-Err.ensures ∙ c.end_by.ensures.failed is) (λ is. c.say_ended-in-Err.ensures ∙ c.end_by.ensures.ran_out is)
+    (λ is. let r = e.failed (ap (λ why. Err why) is) in (rw (← s.no_faults) r.0, r.1 ∙ s.no_wants)) (λ is. let r = e.ran_out (ap (λ why. Err why) is) in (rw (← s.no_wants) r.0, r.1 ∙ s.no_faults))
 
 pub returns-clause-place : goal.returns-clause-place
 returns-clause-place g c =
@@ -84,12 +84,12 @@ returns-clause-place g c =
       owns = s.owns;
       goes = goes_most (g.B.Board.content c.args.board.now) (g.B.Board.content c.loop-count.board) c.loop-count.count c.args.most s.owns s.goes (omega arith);
       place = λ all. place_took (g.B.Board.content c.args.board.now) (g.B.Board.content c.loop-count.board) (g.B.Board.content c.loop-count.board)
-          (door_of g.D.Door c.args.door.now) (door_of g.D.Door c.loop-count.door) (g.D.Door.connections c.loop-count.door) c.loop-count.count c.args.most c.loop-count.wanted c.loop-count.frame c.say_ended-2.result
+          (door_of g.D.Door c.args.door.now) (door_of g.D.Door c.loop-count.door) (g.D.Door.connections c.loop-count.door) c.loop-count.count c.args.most c.loop-count.ran_out c.loop-count.frame c.say_ended-2.result
           s.owns (s.so_far all) refl refl (omega arith) (c.say_ended-2.ensures ∙ c.end_of-2.ensures) (inl whole);
     }
 
 pub returns-clause-ends_by : goal.returns-clause-ends_by
 returns-clause-ends_by g c =
     let s = c.loop-count.invariant.0 in
-    ends_sound (door_of g.D.Door c.args.door.now) (door_of g.D.Door c.loop-count.door) c.loop-count.wanted c.say_ended-2.result
+    ends_sound (door_of g.D.Door c.args.door.now) (door_of g.D.Door c.loop-count.door) c.loop-count.ran_out c.say_ended-2.result
     (c.say_ended-2.ensures ∙ c.end_of-2.ensures) s.no_faults s.no_wants
