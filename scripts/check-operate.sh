@@ -193,7 +193,7 @@ asks() {
     got=$(curl -s -o /dev/null -w '%{http_code}' --max-time 20 --cacert /etc/ssl/certs/hipsd.pem --resolve survey.your.org:443:127.0.0.1 "$@")
     [ "$got" = "$code" ] || { echo "curl $*: $got in place of $code"; exit 1; }
 }
-curl -s -o /dev/null --retry 30 --retry-delay 1 --retry-connrefused http://127.0.0.1:8080/properties
+curl -s -f -o "$1/ready" --retry 30 --retry-delay 1 --retry-connrefused http://127.0.0.1:8080/properties
 asks 200 http://localhost/survey/properties
 asks 200 https://survey.your.org/survey/properties
 asks 401 -X POST https://survey.your.org/edit/publish

@@ -59,14 +59,14 @@ mount --bind "$2" root/mnt/repository
 mount --bind "$3/out" root/mnt/out
 rm -rf root/etc/systemd/system/*.wants
 : >root/etc/machine-id
-printf '[Unit]\nWants=multi-user.target\n[Service]\nType=oneshot\nExecStart=/bin/bash /mnt/out/part.sh\nStandardOutput=append:/mnt/out/log\nStandardError=inherit\n' \
+printf '[Unit]\nWants=multi-user.target\nAfter=multi-user.target\n[Service]\nType=oneshot\nExecStart=/bin/bash /mnt/out/part.sh\nStandardOutput=append:/mnt/out/log\nStandardError=inherit\n' \
     >root/etc/systemd/system/part.service
 printf '[Unit]\nWants=part.service\n' >root/etc/systemd/system/part.target
 for part in 1 2; do
     cp "$3/out/part$part.sh" "$3/out/part.sh"
     (echo "$BASHPID" >groups/booted/cgroup.procs && exec unshare -m -p -f -C --kill-child bash "$3/boot.sh") &
     booted=$!
-    for _ in $(seq 120); do
+    for _ in $(seq 240); do
         [ ! -e "$3/out/done$part" ] || break
         sleep 0.5
     done
@@ -117,8 +117,25 @@ says() {
     journalctl --sync
     journalctl -u "$1" -o cat --no-pager | grep -qF "$2" || wrong "$1 doesn't say '$2': $(journalctl -u "$1" -o cat --no-pager | tail -n 20)"
 }
+# code WORD ..: the code of curl's reply, and curl's status where that isn't 0. It asks once: an edit that is answered 502 may have been
+# accepted.
 code() {
-    curl -s -o /dev/null -w '%{http_code}' --retry 20 --retry-delay 1 --retry-connrefused "$@"
+    curl -s -o /tmp/body -w '%{http_code}' --max-time 30 "$@" || echo " curl $?"
+}
+# stranger WORD ..: the same, by another user.
+stranger() {
+    setpriv --reuid=nobody --clear-groups curl -s -o /dev/null -w '%{http_code}' --max-time 30 "$@" || echo " curl $?"
+}
+# ready WORD ..: once curl's reply is 200. (To /dev/null it writes nothing twice.)
+ready() {
+    curl -sS -f -o /tmp/body --retry 20 --retry-delay 1 --retry-all-errors "$@" 2>/tmp/said || wrong "curl $*: status $?: $(cat /tmp/said)"
+}
+# reloads: nginx, once its processes with the old configuration are gone. Until then they go on to take connections.
+reloads() {
+    processes=$(pgrep -P "$(cat /run/nginx.pid)") && systemctl reload nginx || wrong "nginx doesn't reload"
+    for process in $processes; do
+        while kill -0 "$process" 2>/dev/null; do sleep 0.05; done
+    done
 }
 leaf() {
     echo "Norder5/Dir0/Npix$1.fits"
@@ -136,7 +153,7 @@ mkdir -p /srv/survey && cp /mnt/out/survey.conf /srv/survey
 install -d /var/lib/hipsd && ln -sn /srv/survey /var/lib/hipsd/8080
 systemctl enable --quiet --now hipsd@8080
 is 'active ' systemctl is-active hipsd@8080
-is 200 code http://127.0.0.1:8080/properties
+ready http://127.0.0.1:8080/properties
 
 sed 's/hips[.]example[.]org/survey.your.org/' "$examples/nginx.conf" >/etc/nginx/conf.d/hipsd.conf
 cp "$examples/hipsd.port.conf" /etc/nginx/hipsd.port.conf
@@ -150,7 +167,7 @@ rule() {
 }
 rule 8080
 is 200 code http://localhost/survey/properties
-is 000 setpriv --reuid=nobody --clear-groups curl -s -o /dev/null -w '%{http_code}' http://127.0.0.1:8080/properties
+is '000 curl 7 ' stranger http://127.0.0.1:8080/properties
 is 201 code -u editor:secret -T /mnt/out/8.fits "http://localhost/edit/$(leaf 8)"
 is 'published 1 ' curl -s -u editor:secret -X POST http://localhost/edit/publish
 is 201 code -u editor:secret -T /mnt/out/9.fits "http://localhost/edit/$(leaf 9)"
@@ -175,7 +192,7 @@ says hipsd-renew '127.0.0.1:8081 has taken 0 edits since its start, of 65536'
 
 is 201 code -u editor:secret -T /mnt/out/10.fits "http://localhost/edit/$(leaf 10)"
 systemctl restart hipsd@8081
-is 200 code http://127.0.0.1:8081/properties
+ready http://127.0.0.1:8081/properties
 is 200 code http://localhost/survey/properties
 says hipsd@8081 'drain.sh: 127.0.0.1:8081 ends, and with it the 1 edits since its start, 1 of them never published'
 # SocketBindAllow, where this systemd can do it.
@@ -190,20 +207,21 @@ SHELL
 cat >"$folder/out/part2.sh" <<'SHELL'
 part=2
 . /mnt/out/begin.sh
-is 200 code http://127.0.0.1:8081/properties
+ready http://127.0.0.1:8081/properties
 is 'inactive active active active active ' systemctl is-active hipsd@8080 hipsd@8081 nginx hipsd-backup.timer hipsd-renew.timer
 is 200 code "http://localhost/survey/$(leaf 9)"
 is 404 code "http://localhost/survey/$(leaf 10)"
 # At a Unix socket, by the steps of OPERATING.
 install -D -m 644 examples/hipsd.socket.conf /etc/systemd/system/hipsd@.service.d/socket.conf
 sed -i 's#server 127.0.0.1:#server unix:/run/hipsd/#' /etc/nginx/hipsd.port.conf
-systemctl daemon-reload && systemctl restart hipsd@8081 && systemctl reload nginx
-is 200 code --retry-all-errors --unix-socket /run/hipsd/8081 http://hipsd/properties
+systemctl daemon-reload && systemctl restart hipsd@8081
+ready --unix-socket /run/hipsd/8081 http://hipsd/properties
+reloads
 is 'srw-rw---- hipsd www-data ' stat -c '%A %U %G' /run/hipsd/8081
 is 200 code "http://localhost/survey/$(leaf 9)"
 is 201 code -u editor:secret -T /mnt/out/10.fits "http://localhost/edit/$(leaf 10)"
-is 000 setpriv --reuid=nobody --clear-groups curl -s -o /dev/null -w '%{http_code}' --unix-socket /run/hipsd/8081 http://hipsd/properties
-is 000 curl -s -o /dev/null -w '%{http_code}' http://127.0.0.1:8081/properties
+is '000 curl 7 ' stranger --unix-socket /run/hipsd/8081 http://hipsd/properties
+is '000 curl 7 ' code http://127.0.0.1:8081/properties
 systemctl start hipsd-backup || wrong "hipsd-backup.service at a Unix socket"
 examples/rollover.sh >/mnt/out/said 2>&1 || wrong "rollover.sh at a Unix socket: $(cat /mnt/out/said)"
 grep -qF 'may edit' /mnt/out/said && wrong "rollover.sh finds a Unix socket open: $(cat /mnt/out/said)"
@@ -220,7 +238,7 @@ left_out() {
 [ -n "$hierarchy" ] || left_out "a control group of its own"
 mkdir "$group" 2>/dev/null || left_out "a control group of its own"
 unshare -m -p -f -n -u -i -C --kill-child true 2>/dev/null || left_out "a namespace of its own"
-(echo "$BASHPID" >"$group/cgroup.procs" && exec timeout -s KILL 150 unshare -m -p -f -n -u -i -C --kill-child --mount-proc \
+(echo "$BASHPID" >"$group/cgroup.procs" && exec timeout -s KILL 280 unshare -m -p -f -n -u -i -C --kill-child --mount-proc \
     bash "$folder/layer.sh" "$program" "$top" "$folder") >"$folder/output" 2>&1 </dev/null
 [ -e "$folder/out/layered" ] || left_out "a layer above this machine's files"
 for part in 1 2; do [ -e "$folder/out/done$part" ] || blame "boot $part doesn't come to its end: $(cat "$folder/output" "$folder/out/log" 2>/dev/null)"; done
