@@ -10,7 +10,7 @@
 # has ended. If nginx goes elsewhere, as after rollover.sh, readers notice nothing.
 #
 # The status is 0, since the server ends anyway.
-site=${HIPSD_SITE:-/etc/nginx/hipsd.port.conf}
+site=${HIPSD_SITE:-/etc/nginx/hipsd.server.conf}
 away=${HIPSD_AWAY:-/run/hipsd.away}
 wait=${HIPSD_WAIT:-45}
 address=$1

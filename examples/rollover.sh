@@ -4,40 +4,40 @@
 #
 #     examples/rollover.sh [--when PERCENT] [--release-date] [OLD NEW]
 #
-# OLD is the address of the running server, NEW an address of this machine where nobody listens, as nginx spells them (127.0.0.1:8080 and
-# 127.0.0.1:8081, or unix:/run/hipsd/8080 and unix:/run/hipsd/8081). Without them OLD is where nginx goes, and NEW the same with 8081 in
-# place of 8080, or the other way round.
+# OLD is the address of the running server, NEW an address of this machine where nobody listens, as nginx spells them:
+# unix:/run/hipsd/survey0 and unix:/run/hipsd/survey1, or 127.0.0.1:8080 and 127.0.0.1:8081. Without them OLD is where nginx goes, and NEW
+# the same with 1 in place of 0 at its end, or the other way round.
 #
 # --when renews the server only if it has taken that percentage of the edits that it can take. It can take 65,536, and its leaves at the
 # start and the tiles of its edits may be 536,870,912 bytes; an edit that removes a leaf is counted as a tile too.
 # --release-date sets hips_release_date of the new server to the time of the copy.
 #
 # 1. Edits are paused at the proxy by the file HIPSD_PAUSED. Edits in progress end.
-# 2. What was accepted is published, and backup.sh copies it into HIPSD_SERVERS, where a link with the port of NEW points to it. If an
+# 2. What was accepted is published, and backup.sh copies it into HIPSD_SERVERS, where a link with the name of NEW points to it. If an
 #    edit came past the proxy meanwhile, this is repeated.
 # 3. A second server starts over the copy. It must serve the same properties and coverage, and have no edits. If other users of this
-#    machine can't reach OLD (hipsd.nft), they must not reach NEW.
+#    machine can't reach OLD, they must not reach NEW.
 # 4. NEW replaces OLD in HIPSD_SITE, and nginx reloads. The first server ends. Edits go on.
 #
 # If a step fails, the first server and edits go on, and the status is 1. The new server has no edits: its Survey-Prefix is 0, and a
 # journal of edits (edit.sh) begins anew. After a reboot the new one starts.
 #
-# Variables, with their defaults. The last four are commands, which find ADDRESS, PORT and FOLDER set, PORT to the last part of a path;
-# HIPSD_STRANGER succeeds if an ordinary user reaches the address.
-site=${HIPSD_SITE:-/etc/nginx/hipsd.port.conf}
+# Variables, with their defaults. The last four are commands, which find ADDRESS, NAME and FOLDER set, NAME to the last part of a path or
+# to the port; HIPSD_STRANGER succeeds if an ordinary user reaches the address.
+site=${HIPSD_SITE:-/etc/nginx/hipsd.server.conf}
 servers=${HIPSD_SERVERS:-/var/lib/hipsd}
 paused=${HIPSD_PAUSED:-/run/hipsd.paused}
 nginx_pid=${HIPSD_NGINX_PID:-/run/nginx.pid}
-# shellcheck disable=SC2016 # PORT is for the shell that runs it
-begin=${HIPSD_BEGIN:-'systemctl enable --quiet --now "hipsd@$PORT"'}
+# shellcheck disable=SC2016 # NAME is for the shell that runs it
+begin=${HIPSD_BEGIN:-'systemctl enable --quiet --now "hipsd@$NAME"'}
 # shellcheck disable=SC2016
-finish=${HIPSD_FINISH:-'systemctl disable --quiet --now "hipsd@$PORT"'}
+finish=${HIPSD_FINISH:-'systemctl disable --quiet --now "hipsd@$NAME"'}
 reload=${HIPSD_RELOAD:-'nginx -t -q && nginx -s reload'}
 # shellcheck disable=SC2016
 stranger=${HIPSD_STRANGER:-'nobody="setpriv --reuid=nobody --regid=nogroup --clear-groups"
     case $ADDRESS in
         unix:*) $nobody curl -s -o /dev/null --unix-socket "${ADDRESS#unix:}" http://hipsd/properties ;;
-        *) $nobody bash -c "exec 3<>/dev/tcp/\$0/\$1" "${ADDRESS%:*}" "$PORT" 2>/dev/null ;;
+        *) $nobody bash -c "exec 3<>/dev/tcp/\$0/\$1" "${ADDRESS%:*}" "$NAME" 2>/dev/null ;;
     esac'}
 set -u
 # The server's user reads the copy.
@@ -66,8 +66,11 @@ case $# in
     0)
         old=$(sed -n 's/^ *server \([^ ;]*\)[ ;].*/\1/p' "$site" | sort -u)
         case $old in '' | *[[:space:]]*) refuse "$site doesn't name one server: '$old'" ;; esac
-        new=${old%"${old##*[:/]}"}8081
-        [ "$new" != "$old" ] || new=${old%8081}8080
+        case $old in
+            *0) new=${old%0}1 ;;
+            *1) new=${old%1}0 ;;
+            *) refuse "$site names $old, which doesn't end with 0 or 1: say OLD and NEW" ;;
+        esac
         ;;
     2) old=$1 new=$2 ;;
     *) refuse "usage: rollover.sh [--when PERCENT] [--release-date] [OLD NEW]" ;;
@@ -117,7 +120,7 @@ full() {
 }
 # at ADDRESS COMMAND: one of the commands above.
 at() {
-    ADDRESS=$1 PORT=${1##*[:/]} FOLDER=$servers/${1##*[:/]} bash -c "$2"
+    ADDRESS=$1 NAME=${1##*[:/]} FOLDER=$servers/${1##*[:/]} bash -c "$2"
 }
 # shellcheck disable=SC2317 # it is called by the trap
 undo() {
@@ -157,7 +160,7 @@ published() {
 : >"$paused" || fail "$paused can't be written"
 turned || fail "nginx can't be told that edits are paused"
 
-# 2. The copy is made after the publication, so it has at least these edits; it has no more if there are no more. One copy for each port
+# 2. The copy is made after the publication, so it has at least these edits; it has no more if there are no more. One copy for each name
 # is enough: the one of OLD is in use, and stays.
 mkdir -p "$servers" || fail "$servers can't be made"
 copied=
@@ -183,8 +186,8 @@ for _ in $(seq 1200); do
 done
 [ -n "$ready" ] || fail "the server at $new doesn't answer"
 if at "$new" "$stranger"; then
-    at "$old" "$stranger" || fail "other users of this machine reach $new, and not $old: hipsd.nft has to name both ports"
-    say "any user of this machine may edit at $new, as at $old: load hipsd.nft"
+    at "$old" "$stranger" || fail "other users of this machine reach $new, and not $old: hipsd.tcp.nft has to name its port"
+    say "any user of this machine may edit at $new, as at $old: use a Unix socket, or load hipsd.tcp.nft"
 fi
 for path in properties Moc.fits; do
     ask "$old" "$path" -f -o "$work/old" --max-time 60 || fail "$path can't be read at $old"

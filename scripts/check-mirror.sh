@@ -143,10 +143,10 @@ fi
 # proxy_starts: nginx with the example, but for ports and folders of this check, in front of $port; two processes.
 proxy_starts() {
     plain=$(free_port)
-    sed -e "s#/etc/nginx/hipsd.port.conf#$folder/port#" -e "s/listen 80;/listen 127.0.0.1:$plain;/" -e '/listen \[::\]:/d' \
+    sed -e "s#/etc/nginx/hipsd.server.conf#$folder/port#" -e "s/listen 80;/listen 127.0.0.1:$plain;/" -e '/listen \[::\]:/d' \
         -e "s#/etc/nginx/hipsd.users#$folder/users#" -e "s#/var/cache/nginx-hipsd#$folder/cache#" -e "s#/var/log/nginx#$folder#" \
         -e "s#/run/hipsd[.]#$folder/#" "$examples/nginx.conf" >"$folder/site"
-    sed "s/127.0.0.1:8080/127.0.0.1:$port/" "$examples/hipsd.port.conf" >"$folder/port"
+    sed "s#unix:/run/hipsd/survey0#127.0.0.1:$port#" "$examples/hipsd.server.conf" >"$folder/port"
     named=$folder/port
     grep -q "include $named;" "$folder/site" || named=$folder/site
     printf '%s\n' 'worker_processes 2;' 'daemon off;' "pid $folder/nginx.pid;" "error_log $folder/nginx.log;" 'events { }' \
@@ -161,7 +161,7 @@ rolls() {
     serves="cd \"\$FOLDER\" && { '$program' serve \"\$ADDRESS\" 65536 64 2>'$folder/new.log' & echo \$! >'$folder/served'; }"
     HIPSD_SITE=$named HIPSD_STRANGER=false HIPSD_PAUSED=$folder/paused HIPSD_NGINX_PID=$folder/nginx.pid HIPSD_BEGIN=${begin:-$serves} \
         HIPSD_RELOAD="nginx -t -q -c '$folder/nginx.conf' -p '$folder' 2>/dev/null && kill -HUP $web" \
-        HIPSD_FINISH="if [ \"\$PORT\" = $port ]; then kill $server; else kill \$(cat '$folder/served') && rm '$folder/served'; fi" \
+        HIPSD_FINISH="if [ \"\$NAME\" = $port ]; then kill $server; else kill \$(cat '$folder/served') && rm '$folder/served'; fi" \
         "$examples/rollover.sh" "$@" >"$folder/said" 2>&1
 }
 # goes_on: the first server, and edits.

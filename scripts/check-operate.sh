@@ -66,7 +66,7 @@ direct=http://127.0.0.1:$port
 proxy_starts() {
     plain=$(free_port)
     secure=$(free_port)
-    sed -e "s#include /etc/nginx/hipsd.port.conf;#server 127.0.0.1:$port max_conns=48;#" -e "s/listen 80;/listen 127.0.0.1:$plain;/" \
+    sed -e "s#include /etc/nginx/hipsd.server.conf;#server 127.0.0.1:$port max_conns=48;#" -e "s/listen 80;/listen 127.0.0.1:$plain;/" \
         -e '/listen \[::\]:/d' -e "s#/etc/nginx/hipsd.users#$folder/users#" -e "s#/var/cache/nginx-hipsd#$folder/cache#" \
         -e "s#/var/log/nginx#$folder#" -e "s#/run/hipsd[.]#$folder/#" "$examples/nginx.conf" >"$folder/site"
     [ -s "$folder/hipsd.pem" ] && sed -i -e '/#tls if /d' -e 's/^\( *\)#tls /\1/' -e "s/listen 443/listen 127.0.0.1:$secure/" -e '/listen \[::\]:/d' \
@@ -173,7 +173,7 @@ for place in /var/cache /run /var/log/nginx /etc/ssl/private; do mkdir -p "$plac
 cp -a /etc/ssl/certs "$1/certs"
 mount --bind "$1/certs" /etc/ssl/certs
 sed 's/hips[.]example[.]org/survey.your.org/' "$2/nginx.conf" >/etc/nginx/conf.d/hipsd.conf
-cp "$2/hipsd.port.conf" /etc/nginx
+cp "$2/hipsd.server.conf" /etc/nginx
 rm -f /etc/nginx/sites-enabled/default
 install -m 640 -o root -g www-data /dev/null /etc/nginx/hipsd.users
 printf 'editor:%s\n' "$(echo secret | openssl passwd -6 -stdin)" >>/etc/nginx/hipsd.users
@@ -184,7 +184,8 @@ sed -i 's/#tls //' /etc/nginx/conf.d/hipsd.conf
 nginx -t
 nginx
 cd "$4"
-"$3" serve 127.0.0.1:8080 65536 64 &
+install -d -g www-data -m 750 /run/hipsd
+(umask 117 && exec setpriv --regid=www-data --clear-groups "$3" serve /run/hipsd/survey0 65536 64) &
 server=$!
 trap 'kill "$server"; nginx -s stop' EXIT
 asks() {
@@ -193,7 +194,7 @@ asks() {
     got=$(curl -s -o /dev/null -w '%{http_code}' --max-time 20 --cacert /etc/ssl/certs/hipsd.pem --resolve survey.your.org:443:127.0.0.1 "$@")
     [ "$got" = "$code" ] || { echo "curl $*: $got in place of $code"; exit 1; }
 }
-curl -s -f -o "$1/ready" --retry 30 --retry-delay 1 --retry-connrefused http://127.0.0.1:8080/properties
+curl -s -f -o "$1/ready" --retry 30 --retry-delay 1 --retry-all-errors --unix-socket /run/hipsd/survey0 http://hipsd/properties
 asks 200 http://localhost/survey/properties
 asks 200 https://survey.your.org/survey/properties
 asks 401 -X POST https://survey.your.org/edit/publish
@@ -863,7 +864,7 @@ service() {
     exposure=$(systemd-analyze security --offline=true "$1" 2>/dev/null | sed -n 's/.*exposure level for .*: \([0-9]*\)\.\([0-9]\).*/\1\2/p')
     [ "${exposure:-100}" -le 11 ] || blame "systemd-analyze security: ${exposure:-nothing} tenths in place of 11"
     grep -q '^RestartPreventExitStatus=1 2 3 8$' "$1" || blame "the service starts again where its folder or its address is wrong"
-    for limit in TasksMax= MemoryMax=70% MemorySwapMax=0 SocketBindDeny=any SocketBindAllow=tcp:8080-8081; do grep -q "^$limit" "$1" || blame "the service has no $limit"; done
+    for limit in TasksMax= MemoryMax=70% MemorySwapMax=0 SocketBindDeny=any RestrictAddressFamilies=AF_UNIX; do grep -q "^$limit" "$1" || blame "the service has no $limit"; done
     grep -q '^Description=.*not with the edits' "$1" || blame "the service doesn't say what a restart goes on with"
 }
 
@@ -887,7 +888,7 @@ installs() {
         [ -x "$root/usr/share/doc/hipsd/examples/$script" ] || blame "$script can't be run where it is installed"
     done
     grep -rqE '@(PREFIX|VERSION|REVISION|TOOLCHAIN)@' "$root/usr/share/man" "$root/usr/lib" && blame "install.sh leaves a word unfilled"
-    grep -q '^ExecStart=/usr/bin/hipsd serve 127.0.0.1:%i ' "$root/usr/lib/systemd/system/hipsd@.service" || blame "the service starts another program"
+    grep -q '^ExecStart=/usr/bin/hipsd serve /run/hipsd/%i ' "$root/usr/lib/systemd/system/hipsd@.service" || blame "the service starts another program"
     grep -q '^ExecStart=/usr/share/doc/hipsd/examples/backup.sh ' "$root/usr/lib/systemd/system/hipsd-backup.service" || blame "the backup's service starts another script"
     grep -q '=/usr/bin/hipsd ' "$root/usr/lib/systemd/system/hipsd-backup.service" || blame "the backup's service takes another program"
     if command -v mandoc >/dev/null 2>&1; then
@@ -900,8 +901,8 @@ installs() {
     fi
     if command -v systemd-analyze >/dev/null 2>&1; then
         # It looks for the program where the service says.
-        sed "s#=\(+*\)/usr/#=\1$root/usr/#" "$root/usr/lib/systemd/system/hipsd@.service" >"$folder/hipsd@8081.service"
-        service "$folder/hipsd@8081.service"
+        sed "s#=\(+*\)/usr/#=\1$root/usr/#" "$root/usr/lib/systemd/system/hipsd@.service" >"$folder/hipsd@survey1.service"
+        service "$folder/hipsd@survey1.service"
         mkdir -p "$root/etc"
         systemd-sysusers --dry-run --root="$root" "$root/usr/lib/sysusers.d/hipsd.conf" 2>&1 | grep -q "Creating user 'hipsd'" || blame "systemd-sysusers makes no user"
     else
@@ -919,13 +920,13 @@ installs() {
 }
 installs
 
-# port_for_the_proxy: the rule of hipsd.nft, in a network of its own, where this may make one.
+# port_for_the_proxy: the rule of hipsd.tcp.nft, in a network of its own, where this may make one.
 port_for_the_proxy() {
     if ! unshare -n sh -c 'ip link set lo up && nft add table inet try' >/dev/null 2>&1; then
-        echo "check-operate: left out, since no network with a filter can be made here: hipsd.nft"
+        echo "check-operate: left out, since no network with a filter can be made here: hipsd.tcp.nft"
         return
     fi
-    unshare -n /bin/bash -s -- "$examples/hipsd.nft" >"$folder/body" 2>&1 <<'SHELL' || blame "hipsd.nft: $(cat "$folder/body")"
+    unshare -n /bin/bash -s -- "$examples/hipsd.tcp.nft" >"$folder/body" 2>&1 <<'SHELL' || blame "hipsd.tcp.nft: $(cat "$folder/body")"
 set -e
 ip link set lo up
 nft -f "$1"

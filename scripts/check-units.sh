@@ -2,11 +2,11 @@
 # Tries the units of examples/ and scripts/install.sh by systemd itself, by the steps for operators: a systemd of its own is booted twice,
 # in namespaces and over a layer above this machine's files that goes with the check.
 #
-# - hipsd@8080 serves, nginx is before it, hipsd.nft closes its ports. A copy is made by hipsd-backup.service.
-# - rollover.sh stops where hipsd.nft doesn't name the new port. Then it renews the server as hipsd@8081; the next copy is of that.
-#   hipsd-renew.service sees that it has room. A restart drains it first, and says what is lost.
-# - After the second boot the renewed server runs, with the edits that it began with, and nginx goes to it. Then it listens at a Unix
-#   socket (hipsd.socket.conf), for the proxy's group alone; nginx and the backup go there, and rollover.sh renews it.
+# - hipsd@survey0 serves at a Unix socket that the proxy's group alone reaches, nginx is before it. hipsd-backup.service makes a copy.
+# - rollover.sh renews the server as hipsd@survey1; the next copy is of that. hipsd-renew.service sees that it has room. A restart drains it
+#   first, and says what is lost.
+# - After the second boot the renewed server runs, with the edits that it began with, and nginx goes to it. Then it is renewed at a port
+#   (hipsd.tcp.conf): rollover.sh stops where hipsd.tcp.nft doesn't name that. At last it goes back to a Unix socket.
 #
 #     scripts/check-units.sh [PROGRAM]
 #
@@ -120,26 +120,26 @@ says() {
 # code WORD ..: the code of curl's reply, and curl's status where that isn't 0. It asks once: an edit that is answered 502 may have been
 # accepted.
 code() {
-    curl -s -o /tmp/body -w '%{http_code}' --max-time 30 "$@" || echo " curl $?"
+    curl -s -o /dev/null -w '%{http_code}' --max-time 30 "$@" || echo " curl $?"
 }
-# stranger WORD ..: the same, by another user.
-stranger() {
-    setpriv --reuid=nobody --clear-groups curl -s -o /dev/null -w '%{http_code}' --max-time 30 "$@" || echo " curl $?"
+# as USER COMMAND ..: a command by another user, of its own group alone.
+as() {
+    export -f code
+    setpriv --reuid="$1" --regid="$(id -g "$1")" --clear-groups bash -c '"$@"' bash "${@:2}"
 }
 # ready WORD ..: once curl's reply is 200. (To /dev/null it writes nothing twice.)
 ready() {
     curl -sS -f -o /tmp/body --retry 20 --retry-delay 1 --retry-all-errors "$@" 2>/tmp/said || wrong "curl $*: status $?: $(cat /tmp/said)"
 }
-# reloads: nginx, once its processes with the old configuration are gone. Until then they go on to take connections.
-reloads() {
-    processes=$(pgrep -P "$(cat /run/nginx.pid)") && systemctl reload nginx || wrong "nginx doesn't reload"
-    for process in $processes; do
-        while kill -0 "$process" 2>/dev/null; do sleep 0.05; done
-    done
+# rolls WORD ..: rollover.sh renews the server, and other users don't reach the new one.
+rolls() {
+    "$examples/rollover.sh" "$@" >/mnt/out/said 2>&1 || wrong "rollover.sh $*: $(cat /mnt/out/said)"
+    ! grep -qF 'may edit' /mnt/out/said || wrong "rollover.sh $* finds an address open to all: $(cat /mnt/out/said)"
 }
 leaf() {
     echo "Norder5/Dir0/Npix$1.fits"
 }
+examples=/usr/local/share/doc/hipsd/examples
 ip link set lo up
 cd /mnt/repository || exit
 SHELL
@@ -147,54 +147,72 @@ cat >"$folder/out/part1.sh" <<'SHELL'
 part=1
 . /mnt/out/begin.sh
 PROGRAM=/mnt/hipsd scripts/install.sh >/dev/null || wrong "install.sh"
-examples=/usr/local/share/doc/hipsd/examples
 systemd-sysusers && systemctl daemon-reload
 mkdir -p /srv/survey && cp /mnt/out/survey.conf /srv/survey
-install -d /var/lib/hipsd && ln -sn /srv/survey /var/lib/hipsd/8080
-systemctl enable --quiet --now hipsd@8080
-is 'active ' systemctl is-active hipsd@8080
-ready http://127.0.0.1:8080/properties
+install -d /var/lib/hipsd && ln -sn /srv/survey /var/lib/hipsd/survey0
+systemctl enable --quiet --now hipsd@survey0
+is 'active ' systemctl is-active hipsd@survey0
+ready --unix-socket /run/hipsd/survey0 http://hipsd/properties
 
 sed 's/hips[.]example[.]org/survey.your.org/' "$examples/nginx.conf" >/etc/nginx/conf.d/hipsd.conf
-cp "$examples/hipsd.port.conf" /etc/nginx/hipsd.port.conf
+cp "$examples/hipsd.server.conf" /etc/nginx
 rm -f /etc/nginx/sites-enabled/default
 install -m 640 -o root -g www-data /dev/null /etc/nginx/hipsd.users
 printf 'editor:%s\n' "$(openssl passwd -6 secret)" >>/etc/nginx/hipsd.users
 systemctl enable --quiet --now nginx
-# rule PORTS: hipsd.nft with these.
-rule() {
-    sed -e "s/^define hipsd_ports = .*/define hipsd_ports = { $1 }/" -e 's/www-data }/www-data, hipsd }/' "$examples/hipsd.nft" | nft -f -
-}
-rule 8080
 is 200 code http://localhost/survey/properties
-is '000 curl 7 ' stranger http://127.0.0.1:8080/properties
+# Nobody else reaches hipsd or listens in its place, and there is no port for a page in a browser.
+is 'drwxr-x--- hipsd www-data srw-rw---- hipsd www-data ' stat -c '%A %U %G' /run/hipsd /run/hipsd/survey0
+is '000 curl 7 ' as nobody code --unix-socket /run/hipsd/survey0 http://hipsd/properties
+is 200 as www-data code --unix-socket /run/hipsd/survey0 http://hipsd/properties
+for user in nobody www-data; do is "ln: failed to create symbolic link '/run/hipsd/survey1': Permission denied " as "$user" ln -s /tmp/other /run/hipsd/survey1; done
+is '' sh -c 'ss -Hltn | grep -v ":80 "'
+
 is 201 code -u editor:secret -T /mnt/out/8.fits "http://localhost/edit/$(leaf 8)"
 is 'published 1 ' curl -s -u editor:secret -X POST http://localhost/edit/publish
 is 201 code -u editor:secret -T /mnt/out/9.fits "http://localhost/edit/$(leaf 9)"
 systemctl start hipsd-backup || wrong "hipsd-backup.service"
 says hipsd-backup 'verified 6'
 
-"$examples/rollover.sh" >/mnt/out/said 2>&1 && wrong "rollover.sh takes a port that is open to all"
-grep -qF 'hipsd.nft has to name both ports' /mnt/out/said || wrong "rollover.sh, with a port that is open to all: $(cat /mnt/out/said)"
-is 'active inactive ' systemctl is-active hipsd@8080 hipsd@8081
-is 'enabled disabled ' systemctl is-enabled hipsd@8080 hipsd@8081
-rule '8080, 8081'
-"$examples/rollover.sh" >/mnt/out/said 2>&1 || wrong "rollover.sh: $(cat /mnt/out/said)"
-grep -qF 'may edit' /mnt/out/said && wrong "rollover.sh finds a port open: $(cat /mnt/out/said)"
-is 'inactive active ' systemctl is-active hipsd@8080 hipsd@8081
-is 'disabled enabled ' systemctl is-enabled hipsd@8080 hipsd@8081
+rolls
+is 'inactive active ' systemctl is-active hipsd@survey0 hipsd@survey1
+is 'disabled enabled ' systemctl is-enabled hipsd@survey0 hipsd@survey1
+is 'srw-rw---- hipsd www-data ' stat -c '%A %U %G' /run/hipsd/survey1
 is 200 code "http://localhost/survey/$(leaf 9)"
-says hipsd@8080 'drain.sh: 127.0.0.1:8080 ends, and with it the 2 edits since its start, 0 of them never published'
+says hipsd@survey0 'drain.sh: /run/hipsd/survey0 ends, and with it the 2 edits since its start, 0 of them never published'
 systemctl start hipsd-backup || wrong "hipsd-backup.service after a renewal"
 says hipsd-backup 'verified 7'
 systemctl start hipsd-renew || wrong "hipsd-renew.service"
-says hipsd-renew '127.0.0.1:8081 has taken 0 edits since its start, of 65536'
+says hipsd-renew 'unix:/run/hipsd/survey1 has taken 0 edits since its start, of 65536'
 
 is 201 code -u editor:secret -T /mnt/out/10.fits "http://localhost/edit/$(leaf 10)"
-systemctl restart hipsd@8081
-ready http://127.0.0.1:8081/properties
+systemctl restart hipsd@survey1
+ready --unix-socket /run/hipsd/survey1 http://hipsd/properties
 is 200 code http://localhost/survey/properties
-says hipsd@8081 'drain.sh: 127.0.0.1:8081 ends, and with it the 1 edits since its start, 1 of them never published'
+says hipsd@survey1 'drain.sh: /run/hipsd/survey1 ends, and with it the 1 edits since its start, 1 of them never published'
+systemctl enable --quiet hipsd-backup.timer hipsd-renew.timer
+SHELL
+cat >"$folder/out/part2.sh" <<'SHELL'
+part=2
+. /mnt/out/begin.sh
+ready --unix-socket /run/hipsd/survey1 http://hipsd/properties
+is 'inactive active active active active ' systemctl is-active hipsd@survey0 hipsd@survey1 nginx hipsd-backup.timer hipsd-renew.timer
+is 200 code "http://localhost/survey/$(leaf 9)"
+is 404 code "http://localhost/survey/$(leaf 10)"
+# To a port, by the steps of OPERATING, and renewed there.
+install -D -m 644 "$examples/hipsd.tcp.conf" /etc/systemd/system/hipsd@.service.d/tcp.conf
+systemctl daemon-reload
+"$examples/rollover.sh" unix:/run/hipsd/survey1 127.0.0.1:8080 >/mnt/out/said 2>&1 && wrong "rollover.sh takes a port that is open to all"
+grep -qF 'hipsd.tcp.nft has to name its port' /mnt/out/said || wrong "rollover.sh, with a port that is open to all: $(cat /mnt/out/said)"
+is 'active inactive ' systemctl is-active hipsd@survey1 hipsd@8080
+sed 's/www-data }/www-data, hipsd }/' "$examples/hipsd.tcp.nft" | nft -f -
+rolls unix:/run/hipsd/survey1 127.0.0.1:8080
+is '000 curl 7 ' as nobody code http://127.0.0.1:8080/properties
+is 201 code -u editor:secret -T /mnt/out/10.fits "http://localhost/edit/$(leaf 10)"
+systemctl start hipsd-backup || wrong "hipsd-backup.service at a port"
+rolls
+is 'inactive active ' systemctl is-active hipsd@8080 hipsd@8081
+says hipsd@8080 'drain.sh: 127.0.0.1:8080 ends, and with it the 1 edits since its start, 0 of them never published'
 # SocketBindAllow, where this systemd can do it.
 if systemctl --version | grep -qF +BPF_FRAMEWORK; then
     ln -sn /srv/survey /var/lib/hipsd/8090
@@ -202,33 +220,12 @@ if systemctl --version | grep -qF +BPF_FRAMEWORK; then
     sleep 1
     says hipsd@8090 "can't listen at 127.0.0.1:8090"
 fi
-systemctl enable --quiet hipsd-backup.timer hipsd-renew.timer
-SHELL
-cat >"$folder/out/part2.sh" <<'SHELL'
-part=2
-. /mnt/out/begin.sh
-ready http://127.0.0.1:8081/properties
-is 'inactive active active active active ' systemctl is-active hipsd@8080 hipsd@8081 nginx hipsd-backup.timer hipsd-renew.timer
-is 200 code "http://localhost/survey/$(leaf 9)"
-is 404 code "http://localhost/survey/$(leaf 10)"
-# At a Unix socket, by the steps of OPERATING.
-install -D -m 644 examples/hipsd.socket.conf /etc/systemd/system/hipsd@.service.d/socket.conf
-sed -i 's#server 127.0.0.1:#server unix:/run/hipsd/#' /etc/nginx/hipsd.port.conf
-systemctl daemon-reload && systemctl restart hipsd@8081
-ready --unix-socket /run/hipsd/8081 http://hipsd/properties
-reloads
-is 'srw-rw---- hipsd www-data ' stat -c '%A %U %G' /run/hipsd/8081
-is 200 code "http://localhost/survey/$(leaf 9)"
-is 201 code -u editor:secret -T /mnt/out/10.fits "http://localhost/edit/$(leaf 10)"
-is '000 curl 7 ' stranger --unix-socket /run/hipsd/8081 http://hipsd/properties
-is '000 curl 7 ' code http://127.0.0.1:8081/properties
-systemctl start hipsd-backup || wrong "hipsd-backup.service at a Unix socket"
-examples/rollover.sh >/mnt/out/said 2>&1 || wrong "rollover.sh at a Unix socket: $(cat /mnt/out/said)"
-grep -qF 'may edit' /mnt/out/said && wrong "rollover.sh finds a Unix socket open: $(cat /mnt/out/said)"
-is 'active inactive ' systemctl is-active hipsd@8080 hipsd@8081
-is 'srw-rw---- hipsd www-data ' stat -c '%A %U %G' /run/hipsd/8080
+# And back.
+rm /etc/systemd/system/hipsd@.service.d/tcp.conf
+systemctl daemon-reload
+rolls 127.0.0.1:8081 unix:/run/hipsd/survey0
+is 'inactive active ' systemctl is-active hipsd@8081 hipsd@survey0
 is 200 code "http://localhost/survey/$(leaf 10)"
-says hipsd@8081 'drain.sh: /run/hipsd/8081 ends, and with it the 1 edits since its start, 0 of them never published'
 SHELL
 
 left_out() {

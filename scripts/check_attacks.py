@@ -279,7 +279,7 @@ class Proxy:
     def __init__(self, folder, server, connections=512, tls=False):
         self.folder, self.port, self.secure, self.connections = folder, free_port(), free_port(), connections
         words = [
-            ("include /etc/nginx/hipsd.port.conf", f"server {server.address} max_conns=48"), ("127.0.0.1:8080", server.address),
+            ("include /etc/nginx/hipsd.server.conf", f"server {server.address} max_conns=48"),
             ("listen 80;", f"listen 127.0.0.1:{self.port};"), ("listen [::]:80;", ""), ("/etc/nginx/hipsd.users", folder / "users"),
             ("/var/cache/nginx-hipsd", folder / "cache"), ("/var/log/nginx", folder), ("/run/hipsd.", f"{folder}/"),
         ]
@@ -622,7 +622,7 @@ def may_filter():
 
 @unittest.skipUnless(may_filter(), "no network with a filter can be made here")
 class Filters(unittest.TestCase):
-    """hipsd.nft, in a network of its own: what is connected to is a socket that listens, and no server."""
+    """hipsd.nft and hipsd.tcp.nft, in a network of its own: what is connected to is a socket that listens, and no server."""
 
     def in_a_network(self, program):
         """What a program of Python writes there, in which `ports` listen and `reaches` says whether a user reaches one of them."""
@@ -650,8 +650,8 @@ def reaches(port, user):
         os._exit(0 if connected(port) else 1)
     return os.waitpid(child, 0)[1] == 0
 """
-        words = ["unshare", "-n", "sh", "-c", 'ip link set lo up && nft -f "$1" && exec python3 -c "$2"', "sh",
-                 EXAMPLES / "hipsd.nft", begin + program]
+        words = ["unshare", "-n", "sh", "-c", 'ip link set lo up && nft -f "$1" && nft -f "$2" && exec python3 -c "$3"', "sh",
+                 EXAMPLES / "hipsd.nft", EXAMPLES / "hipsd.tcp.nft", begin + program]
         answer = subprocess.run(words, capture_output=True, text=True, timeout=60)
         self.assertEqual(answer.returncode, 0, answer.stderr)
         return answer.stdout.split()

@@ -331,7 +331,7 @@ class Drain(Case):
         address, port = self.serve(self.survey("survey", 7)), free_port()
         (self.folder / "port").write_text(f"server {address} max_conns=9;\n", encoding="ascii")
         text = (EXAMPLES / "nginx.conf").read_text(encoding="ascii")
-        for there, here in ("listen [::]:80;", ""), ("listen 80;", f"listen 127.0.0.1:{port};"), ("/etc/nginx/hipsd.port.conf", f"{self.folder}/port"):
+        for there, here in ("listen [::]:80;", ""), ("listen 80;", f"listen 127.0.0.1:{port};"), ("/etc/nginx/hipsd.server.conf", f"{self.folder}/port"):
             self.assertIn(there, text)
             text = text.replace(there, here)
         self.nginx(self.folder, port, re.sub("/(run|var/cache|var/log/nginx|etc/nginx)/(nginx-)?hipsd", f"{self.folder}/hipsd", text))
@@ -464,9 +464,9 @@ class Rollover(Case):
 
     def test_a_port_that_others_reach(self):
         words = f"127.0.0.1:{self.old}", f"127.0.0.1:{self.new}"
-        self.stays(self.roll(1, *words, HIPSD_STRANGER=f"[ $PORT = {self.new} ]"), "hipsd.nft has to name both ports")
+        self.stays(self.roll(1, *words, HIPSD_STRANGER=f"[ $NAME = {self.new} ]"), "hipsd.tcp.nft has to name its port")
         (self.folder / "leaf").write_bytes(tile(9))
-        begin = f'systemctl enable --quiet --now "hipsd@$PORT" && curl -s --retry 9 --retry-connrefused -T {self.folder}/leaf "http://$ADDRESS/{tile_path(5, 9)}"'
+        begin = f'systemctl enable --quiet --now "hipsd@$NAME" && curl -s --retry 9 --retry-connrefused -T {self.folder}/leaf "http://$ADDRESS/{tile_path(5, 9)}"'
         self.stays(self.roll(1, *words, HIPSD_STRANGER="false", HIPSD_BEGIN=begin), f"somebody has edited at 127.0.0.1:{self.new}")
         (self.folder / "port").write_text("# nothing\n", encoding="ascii")
         self.assertIn("doesn't name one server", self.roll(2))
@@ -601,7 +601,7 @@ class Install(Case):
 
     def test_over_a_running_server(self):
         prefix = str(self.folder / "prefix")
-        self.assertIn("systemctl enable --now hipsd@8080", self.install(prefix))
+        self.assertIn("systemctl enable --now hipsd@survey0", self.install(prefix))
         server = self.begin(f"{prefix}/bin/hipsd", "serve", f"127.0.0.1:{free_port()}", "65536", "4", cwd=self.survey("survey"))
         while not os.readlink(f"/proc/{server.pid}/exe").startswith(prefix):
             time.sleep(0.01)

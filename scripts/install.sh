@@ -92,10 +92,10 @@ install_all() {
         return
     fi
     case $prefix in
-        /usr | /usr/local) echo "next, as root: systemd-sysusers && systemctl daemon-reload && systemctl enable --now hipsd@8080" ;;
+        /usr | /usr/local) echo "next, as root: systemd-sysusers && systemctl daemon-reload && systemctl enable --now hipsd@survey0" ;;
         *)
             echo "next, as root, since systemd doesn't look below $prefix: systemd-sysusers $prefix/lib/sysusers.d/hipsd.conf &&" \
-                "systemctl link $prefix/lib/systemd/system/hipsd* && systemctl enable --now hipsd@8080"
+                "systemctl link $prefix/lib/systemd/system/hipsd* && systemctl enable --now hipsd@survey0"
             ;;
     esac
 }
@@ -121,7 +121,7 @@ remove_all() {
         exit 1
     fi
     take_away
-    echo "hipsd is no more below $into. A server that runs goes on until: systemctl disable --now hipsd@8080 hipsd@8081"
+    echo "hipsd is no more below $into. A server that runs goes on until: systemctl disable --now hipsd@survey0 hipsd@survey1"
     echo "What was not installed from here stays:"
     root=${DESTDIR:-}
     for path in "$root"/etc/nginx/conf.d/hipsd.conf "$root"/etc/nginx/hipsd.* "$root"/etc/ssl/private/hipsd.key "$root"/etc/ssl/certs/hipsd.pem \
