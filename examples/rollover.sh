@@ -8,8 +8,9 @@
 # unix:/run/hipsd/survey0 and unix:/run/hipsd/survey1, or 127.0.0.1:8080 and 127.0.0.1:8081. Without them OLD is where nginx goes, and NEW
 # the same with 1 in place of 0 at its end, or the other way round.
 #
-# --when renews the server only if it has taken that percentage of the edits that it can take. It can take 65,536, and its leaves at the
-# start and the tiles of its edits may be 536,870,912 bytes; an edit that removes a leaf is counted as a tile too.
+# --when renews the server only if it has taken that percentage of the edits that it can take, or one of its places that percentage of its
+# connections. It can take 65,536 edits, and its leaves at the start and the tiles of its edits may be 536,870,912 bytes; an edit that
+# removes a leaf is counted as a tile too. The connections are known by the warnings in its log, at 80 and 95 percent.
 # --release-date sets hips_release_date of the new server to the time of the copy.
 #
 # 1. Edits are paused at the proxy by the file HIPSD_PAUSED. Edits in progress end.
@@ -22,8 +23,8 @@
 # If a step fails, the first server and edits go on, and the status is 1. The new server has no edits: its Survey-Prefix is 0, and a
 # journal of edits (edit.sh) begins anew. After a reboot the new one starts.
 #
-# Variables, with their defaults. The last four are commands, which find ADDRESS, NAME and FOLDER set, NAME to the last part of a path or
-# to the port; HIPSD_STRANGER succeeds if an ordinary user reaches the address.
+# Variables, with their defaults. The last five are commands, which find ADDRESS, NAME and FOLDER set, NAME to the last part of a path or
+# to the port; HIPSD_LOGGED writes the log of the server since its start, HIPSD_STRANGER succeeds if an ordinary user reaches the address.
 site=${HIPSD_SITE:-/etc/nginx/hipsd.server.conf}
 servers=${HIPSD_SERVERS:-/var/lib/hipsd}
 paused=${HIPSD_PAUSED:-/run/hipsd.paused}
@@ -33,6 +34,8 @@ begin=${HIPSD_BEGIN:-'systemctl enable --quiet --now "hipsd@$NAME"'}
 # shellcheck disable=SC2016
 finish=${HIPSD_FINISH:-'systemctl disable --quiet --now "hipsd@$NAME"'}
 reload=${HIPSD_RELOAD:-'nginx -t -q && nginx -s reload'}
+# shellcheck disable=SC2016
+logged=${HIPSD_LOGGED:-'journalctl -q -o cat "_SYSTEMD_INVOCATION_ID=$(systemctl show -P InvocationID "hipsd@$NAME")"'}
 # shellcheck disable=SC2016
 stranger=${HIPSD_STRANGER:-'nobody="setpriv --reuid=nobody --regid=nogroup --clear-groups"
     case $ADDRESS in
@@ -104,7 +107,16 @@ edits() {
 property() {
     sed -n "s/^$1 = \([0-9]\{1,9\}\)$/\1/p" "$work/old"
 }
-# full: whether the server has taken $when percent of the edits that it can take.
+# at ADDRESS COMMAND: one of the commands above.
+at() {
+    ADDRESS=$1 NAME=${1##*[:/]} FOLDER=$servers/${1##*[:/]} bash -c "$2"
+}
+# busiest: how many percent of its connections the server's busiest place has taken; 0 below 80.
+busiest() {
+    at "$old" "$logged" | sed -n 's/^\[WARN  hips_place[^]]*\] place [0-9]* has taken \([0-9]*\) of \([0-9]*\) connections: .*/\1 \2/p' |
+        awk '{ share = int(100 * $1 / $2) } share > most { most = share } END { print most + 0 }'
+}
+# full: whether the server has taken $when percent of the edits that it can take, or of a place's connections.
 full() {
     ask "$old" properties -f -o "$work/old" --max-time 60 || refuse "$old doesn't answer"
     count=$(edits "$old")
@@ -116,11 +128,9 @@ full() {
     room=$((536870912 / (tile < 1024 ? 1024 : tile) - leaves))
     [ "$room" -le 65536 ] || room=65536
     say "$old has taken $count edits since its start, of $room that it can take beside the $leaves leaves it had then"
-    [ $((count * 100)) -ge $((room * when)) ]
-}
-# at ADDRESS COMMAND: one of the commands above.
-at() {
-    ADDRESS=$1 NAME=${1##*[:/]} FOLDER=$servers/${1##*[:/]} bash -c "$2"
+    busiest=$(busiest)
+    [ "$busiest" = 0 ] || say "a place of $old has taken $busiest percent of its connections since then"
+    [ $((count * 100)) -ge $((room * when)) ] || [ "$busiest" -ge "$when" ]
 }
 # shellcheck disable=SC2317 # it is called by the trap
 undo() {

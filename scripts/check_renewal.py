@@ -359,12 +359,15 @@ class Drain(Case):
 
 
 SYSTEMCTL = """#!/bin/sh
-# systemctl enable or disable --quiet --now hipsd@PORT, in the folder {0}
-echo "$*" >>{0}/calls
-port=${{4#hipsd@}}
+# systemctl enable or disable --quiet --now hipsd@PORT, and show -P InvocationID hipsd@PORT, in the folder {0}
+[ "$1" = show ] || echo "$*" >>{0}/calls
+for port; do :; done
+port=${{port#hipsd@}}
 if [ "$1" = enable ]; then
     : >{0}/enabled.$port
-    cd {0}/servers/$port && {{ {1} serve 127.0.0.1:$port 65536 4 >/dev/null 2>&1 & echo $! >{0}/process.$port; }}
+    cd {0}/servers/$port && {{ {1} serve 127.0.0.1:$port $(cat {0}/limits) 2>{0}/log.$port >/dev/null & echo $! >{0}/process.$port; }}
+elif [ "$1" = show ]; then
+    echo "started.$port"
 else
     rm {0}/enabled.$port
     process=$(cat {0}/process.$port)
@@ -402,6 +405,8 @@ class Rollover(Case):
         (self.folder / "servers").mkdir()
         (self.folder / "servers" / str(self.old)).symlink_to(self.survey("survey", 7))
         self.tool("systemctl", SYSTEMCTL.format(self.folder, PROGRAM))
+        self.tool("journalctl", f'#!/bin/sh\nfor last; do :; done\ncat "{self.folder}/log.${{last#_SYSTEMD_INVOCATION_ID=started.}}"\n')
+        (self.folder / "limits").write_text("65536 4", encoding="ascii")
         (self.folder / "port").write_text(f"# the port\nserver 127.0.0.1:{self.old} max_conns=9;\n", encoding="ascii")
         web = free_port()
         self.web = f"127.0.0.1:{web}"
@@ -484,6 +489,21 @@ class Rollover(Case):
         self.assertIn(str(self.new), self.named())
         self.assertIn("has taken 0 edits since its start, of 65536 that it can take beside the 656 leaves", self.roll(0, *words[:2], words[3], words[2]))
         self.assertIn("--when takes", self.roll(2, "--when", "0"))
+
+    def test_before_its_connections_are_taken(self):
+        ports = self.old, self.new
+        (self.folder / "limits").write_text("100 1", encoding="ascii")
+        self.roll(0, *(f"127.0.0.1:{port}" for port in ports))
+        (self.folder / "limits").write_text("65536 4", encoding="ascii")
+        words = f"127.0.0.1:{self.new}", f"127.0.0.1:{self.old}"
+        self.assertNotIn("connections", self.roll(0, "--when", "80", *words))
+        log = self.folder / f"log.{self.new}"
+        while b"has taken 80 of 100" not in log.read_bytes():
+            self.assertEqual(self.asks(self.web, "GET", "properties")[0], 200)
+        self.assertIn("has taken 80 percent of its connections", self.roll(0, "--when", "81", *words))
+        self.assertIn(str(self.new), self.named())
+        self.assertIn(f"{words[1]} has taken over", self.roll(0, "--when", "80", *words))
+        self.assertNotIn("connections", self.roll(0, "--when", "80", *reversed(words)))
 
 
 @unittest.skipUnless(shutil.which("nginx") or os.environ.get("CI") == "true", "nginx isn't installed")
