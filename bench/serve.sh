@@ -1,6 +1,7 @@
 #!/bin/bash
 # Times `hipsd serve` beside nginx over loopback, by turns in one run, with wrk: requests a second of both, their ratio, and the
-# time that 99 of 100 requests took at most.
+# time that 99 of 100 requests took at most. Then the same at Unix sockets of both, with h2load (Debian's nghttp2-client), since wrk has
+# none: there it is the longest time. With --unix that is all that is done; it takes two minutes.
 #
 # nginx (Debian's nginx-light, four workers, sendfile, no log) serves the folder that `hipsd export` wrote; hipsd serves the same
 # survey with 64 places. Asked for are a tile of 529,920 bytes, /properties (some 400 bytes) and the all-sky mosaic (6.4 MB), by
@@ -20,19 +21,20 @@
 # log RUNS pairs, 41 of 1.
 #
 #   bench/serve.sh [RUNS [SECONDS]]         (HIPSD=PROGRAM: another program than crates/hipsd/out/hipsd)
+#   bench/serve.sh --unix [RUNS [SECONDS]]
 #   bench/serve.sh --equal [RUNS [SECONDS]]
 #   bench/serve.sh --log [RUNS [SECONDS]]
 set -u
 here=$(cd "$(dirname "$0")" && pwd)
 only=
-case ${1:-} in --equal | --log) only=$1 && shift ;; esac
+case ${1:-} in --unix | --equal | --log) only=$1 && shift ;; esac
 runs=${1:-3}
 seconds=${2:-3}
 equal_runs=${1:-5}
 equal_seconds=${2:-7}
 log_runs=41 log_seconds=1
 [ "$only" = --log ] && log_runs=${1:-41} log_seconds=${2:-1}
-for tool in wrk nginx curl gcc; do
+for tool in wrk h2load nginx curl gcc; do
     command -v "$tool" >/dev/null 2>&1 || { echo "serve.sh: there is no $tool here, so there is nothing to time with"; exit 0; }
 done
 hipsd=$(realpath -e "${HIPSD:-$here/../crates/hipsd/out/hipsd}") || { echo "serve.sh: hipsd isn't built"; exit 1; }
@@ -40,11 +42,13 @@ work=$(mktemp -d) || exit 1
 chmod 755 "$work"
 server=
 quiet_server=
+socket_server=
 web_server=
 # shellcheck disable=SC2317 # it is called by the trap
 end() {
     [ -n "$server" ] && kill "$server" 2>/dev/null
     [ -n "$quiet_server" ] && kill "$quiet_server" 2>/dev/null
+    [ -n "$socket_server" ] && kill "$socket_server" 2>/dev/null
     [ -n "$web_server" ] && kill "$web_server" 2>/dev/null
     rm -rf "$work"
 }
@@ -85,7 +89,7 @@ http {
     tcp_nopush on;
     keepalive_requests 10000000;
     open_file_cache max=1000;
-    server { listen 127.0.0.1:$web; root $work/survey; }
+    server { listen 127.0.0.1:$web; listen unix:$work/nginx.socket; root $work/survey; }
 }
 CONF
 # In the foreground: as a daemon it is a session of its own, and where the kernel schedules sessions as groups that costs it some
@@ -96,6 +100,12 @@ HIPSD_LOG=info "$hipsd" serve "127.0.0.1:$port" 65536 64 2>"$work/log" &
 server=$!
 HIPSD_LOG=off "$hipsd" serve "127.0.0.1:$quiet" 65536 64 2>"$work/quiet.log" &
 quiet_server=$!
+HIPSD_LOG=info "$hipsd" serve "$work/hipsd.socket" 65536 64 2>"$work/socket.log" &
+socket_server=$!
+for socket in nginx hipsd; do
+    for _ in $(seq 1200); do curl -s --unix-socket "$work/$socket.socket" http://hipsd/properties >"$work/$socket" && break; sleep 0.05; done
+done
+cmp -s "$work/nginx" "$work/hipsd" || { echo "serve.sh: properties differs"; exit 1; }
 for from in $web $port $quiet; do
     for _ in $(seq 1200); do curl -s "http://127.0.0.1:$from/properties" >/dev/null && break; sleep 0.05; done
 done
@@ -106,14 +116,20 @@ done
 
 # ---- by turns
 
-# load PORT PATH CONNECTIONS [FIELD]: requests a second, and the 99th percentile as wrk prints it.
+# load ADDRESS PATH CONNECTIONS [FIELD]: requests a second, and the 99th percentile as wrk prints it; of a socket the longest time.
 load() {
     threads=$3
     [ "$threads" -gt 4 ] && threads=4
+    case $1 in */*)
+        h2load --h1 -t "$threads" -c "$3" -D "$seconds" -B "unix:$1" "http://hipsd/$2" >"$work/out" 2>&1
+        awk '/^finished/ { rate = $4 } /^time for request/ { late = $5 } /^requests:/ && $10 + $12 + $14 > 0 { print "serve.sh:", $0 > "/dev/stderr" } END { print rate, late }' "$work/out"
+        return
+        ;;
+    esac
     wrk -t "$threads" -c "$3" -d "${seconds}s" --latency ${4:+-H "$4"} "http://127.0.0.1:$1/$2" >"$work/out" 2>&1
     awk '/Requests\/sec/ { rate = $2 } $1 == "99%" { late = $2 } /Non-2xx/ { print "serve.sh:", $0 > "/dev/stderr" } END { print rate, late }' "$work/out"
 }
-# compare NAME PATH CONNECTIONS [FIELD]
+# compare NAME PATH CONNECTIONS [FIELD]: nginx at $web, hipsd at $port.
 compare() {
     best_web=0 best_port=0
     for _ in $(seq "$runs"); do
@@ -122,8 +138,9 @@ compare() {
         read -r rate late < <(load "$port" "$2" "$3" "${4:-}")
         [ "$(echo "$rate > $best_port" | bc)" = 1 ] && best_port=$rate late_port=$late
     done
-    printf '%-28s %3d  nginx %9.0f (p99 %8s)  hipsd %9.0f (p99 %8s)  %5.2f\n' \
-        "$1" "$3" "$best_web" "$late_web" "$best_port" "$late_port" "$(echo "scale=4; $best_port / $best_web" | bc)"
+    case $web in */*) late=max ;; *) late=p99 ;; esac
+    printf '%-28s %3d  nginx %9.0f (%s %8s)  hipsd %9.0f (%s %8s)  %5.2f\n' \
+        "$1" "$3" "$best_web" "$late" "$late_web" "$best_port" "$late" "$late_port" "$(echo "scale=4; $best_port / $best_web" | bc)"
 }
 
 # ---- by turns, at one rate
@@ -241,11 +258,21 @@ instructions() {
     done | paste -sd ' ' | awk '{ printf "%.0f", ($2 - $1) / 2000 }'
 }
 
+# at_sockets: requests a second at Unix sockets.
+at_sockets() {
+    web=$work/nginx.socket port=$work/hipsd.socket
+    echo "at Unix sockets, connections kept open:"
+    for connections in 1 4 16 64; do compare "tile, 529,920 bytes" "$tile" "$connections"; done
+    for connections in 1 4 16 64; do compare "properties" properties "$connections"; done
+    for connections in 1 4 16; do compare "all-sky mosaic, 6.4 MB" Norder3/Allsky.fits "$connections"; done
+}
+
 # ---- what is timed
 
 [ "$only" = --equal ] && equal_rates && exit
 command -v bc >/dev/null 2>&1 || { echo "serve.sh: there is no bc here"; exit 0; }
 if [ "$only" = --log ]; then log_rates; exit; fi
+if [ "$only" = --unix ]; then at_sockets; exit; fi
 echo "requests a second, connections kept open:"
 for connections in 1 4 16 64; do compare "tile, 529,920 bytes" "$tile" "$connections"; done
 for connections in 1 4 16 64; do compare "properties" properties "$connections"; done
@@ -262,3 +289,4 @@ wait "$editor" 2>/dev/null
 echo "the last publication: $(cat "$work/published")"
 equal_rates
 log_rates
+at_sockets
