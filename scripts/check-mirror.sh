@@ -134,6 +134,7 @@ if command -v systemd-analyze >/dev/null 2>&1; then
     done
     systemd-analyze verify --man=no "$folder"/hipsd-*.service "$folder"/hipsd-*.timer >"$folder/body" 2>&1 || blame "systemd-analyze verify: $(cat "$folder/body")"
     [ ! -s "$folder/body" ] || blame "systemd-analyze verify: $(cat "$folder/body")"
+    grep -q '^TimeoutStartSec=55min$' "$folder/hipsd-backup.service" || blame "a backup has no end"
 else
     leaves_out systemd
 fi

@@ -865,6 +865,7 @@ service() {
     [ "${exposure:-100}" -le 11 ] || blame "systemd-analyze security: ${exposure:-nothing} tenths in place of 11"
     grep -q '^RestartPreventExitStatus=1 2 3 8$' "$1" || blame "the service starts again where its folder or its address is wrong"
     for limit in TasksMax= MemoryMax=70% MemorySwapMax=0 SocketBindDeny=any RestrictAddressFamilies=AF_UNIX; do grep -q "^$limit" "$1" || blame "the service has no $limit"; done
+    grep -q '^SocketBindAllow=tcp:8080-8081$' "$examples/hipsd.tcp.conf" || blame "a server at a port may listen at others"
     grep -q '^Description=.*not with the edits' "$1" || blame "the service doesn't say what a restart goes on with"
 }
 

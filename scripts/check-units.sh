@@ -179,6 +179,7 @@ rolls
 is 'inactive active ' systemctl is-active hipsd@survey0 hipsd@survey1
 is 'disabled enabled ' systemctl is-enabled hipsd@survey0 hipsd@survey1
 is 'srw-rw---- hipsd www-data ' stat -c '%A %U %G' /run/hipsd/survey1
+is 'NoNewPrivs: 1 Seccomp: 2 ' sed -nE 's/^(NoNewPrivs|Seccomp):\t/\1: /p' "/proc/$(systemctl show -P MainPID hipsd@survey1)/status"
 is 200 code "http://localhost/survey/$(leaf 9)"
 says hipsd@survey0 'drain.sh: /run/hipsd/survey0 ends, and with it the 2 edits since its start, 0 of them never published'
 systemctl start hipsd-backup || wrong "hipsd-backup.service after a renewal"

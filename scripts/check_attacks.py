@@ -470,7 +470,9 @@ class Readers(Attack):
             ("a body of chunks", asks(b"Transfer-Encoding: chunked", body=b"7a120\r\n" + large + b"\r\n0\r\n\r\n")),
         ):
             with self.subTest(name):
-                self.attack(name, 0.7, request, 60, at_once=4 if "body" in name else 20)
+                codes = self.attack(name, 0.7, request, 60, at_once=4 if "body" in name else 20)
+                if name in ("a condition", "a date"):
+                    self.assertEqual(set(codes), {"412"})
 
     def test_random_misses(self):
         """Paths of tiles that aren't there."""
@@ -519,6 +521,26 @@ class Readers(Attack):
             half.close()
         print(f"half heads: {len(halves)} at once; a reader is served after {served and round(served, 1)} s, by try {failed + 1}", flush=True)
         self.assertIsNotNone(served, "no reader is served")
+
+    def test_requests_at_once(self):
+        """One address has at most 128 in progress; here each waits for its body."""
+        held = []
+        for _ in range(160):
+            one = socket.create_connection(("127.0.0.1", self.proxy.port), source_address=("127.0.0.2", 0))
+            one.sendall(b"GET /survey/properties HTTP/1.1\r\nHost: x\r\nContent-Length: 1\r\n\r\n")
+            held.append(one)
+        time.sleep(2)
+        answered = Counter()
+        for one in held:
+            one.setblocking(False)
+            try:
+                answered[one.recv(12)] += 1
+            except BlockingIOError:
+                pass
+        self.assertEqual(self.proxy.ask("GET", "/survey/properties", password=None)[0], 200)
+        for one in held:
+            one.close()
+        self.assertEqual(answered, {b"HTTP/1.1 429": 32})
 
     def test_guesses_of_passwords(self):
         """Each costs nginx a hash, for which nobody else is served."""

@@ -635,13 +635,13 @@ class Install(Case):
         self.install(DESTDIR=str(self.folder))
         units = [path.name for path in EXAMPLES.iterdir() if path.suffix in (".service", ".timer")]
         self.assertEqual(sorted(os.listdir(self.folder / "usr/local/lib/systemd/system")), sorted(units))
-        names = ["etc/nginx/hipsd.users", "etc/ssl/private/hipsd.key", "var/lib/hipsd-backup/survey", "etc/systemd/system/hipsd@.service.d/override.conf"]
+        names = ["etc/nftables-hipsd.conf", "etc/nginx/hipsd.users", "etc/ssl/private/hipsd.key", "var/lib/hipsd-backup/survey", "etc/systemd/system/hipsd@.service.d/override.conf"]
         for name in names:
             (self.folder / name).parent.mkdir(parents=True, exist_ok=True)
             (self.folder / name).write_text("", encoding="ascii")
         said = self.install("--remove", DESTDIR=str(self.folder))
         stays = [line.removeprefix(f"    {self.folder}/") for line in said.splitlines() if line.startswith("    ")]
-        self.assertEqual(stays, ["etc/nginx/hipsd.users", "etc/ssl/private/hipsd.key", "etc/systemd/system/hipsd@.service.d", "var/lib/hipsd-backup"])
+        self.assertEqual(stays, ["etc/nginx/hipsd.users", "etc/nftables-hipsd.conf", "etc/ssl/private/hipsd.key", "etc/systemd/system/hipsd@.service.d", "var/lib/hipsd-backup"])
 
 
 if __name__ == "__main__":

@@ -124,7 +124,7 @@ remove_all() {
     echo "hipsd is no more below $into. A server that runs goes on until: systemctl disable --now hipsd@survey0 hipsd@survey1"
     echo "What was not installed from here stays:"
     root=${DESTDIR:-}
-    for path in "$root"/etc/nginx/conf.d/hipsd.conf "$root"/etc/nginx/hipsd.* "$root"/etc/ssl/private/hipsd.key "$root"/etc/ssl/certs/hipsd.pem \
+    for path in "$root"/etc/nginx/conf.d/hipsd.conf "$root"/etc/nginx/hipsd.* "$root"/etc/nftables-hipsd* "$root"/etc/ssl/private/hipsd.key "$root"/etc/ssl/certs/hipsd.pem \
         "$root"/etc/systemd/system/hipsd* "$root"/etc/systemd/system/*.wants/hipsd* "$root"/var/cache/nginx-hipsd "$root"/var/lib/hipsd \
         "$root"/var/lib/hipsd-backup "$root"/srv/survey; do
         { [ ! -e "$path" ] && [ ! -L "$path" ]; } || echo "    $path"
