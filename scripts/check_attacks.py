@@ -158,7 +158,9 @@ class Journals(Attack):
         secret.write_bytes(TILE)
         self.entry(1, f"put {LEAF}", body=None)
         (self.journal / "00000001.body").symlink_to(secret)
+        before = self.edits()
         self.refused(self.run_script("edit.sh", "replay", "journal", self.base))
+        self.assertEqual(self.edits(), before, "another file was sent")
         self.refused(self.run_script("look-back.sh", self.journal))
         for path in self.journal.iterdir():
             path.unlink()
