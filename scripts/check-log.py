@@ -620,6 +620,8 @@ FEW_LEFT = (
     "place 1 has taken 6 of 7 connections: after 1 more it ends. "
     "When all places have ended the server ends, and its edits are lost: run rollover.sh before"
 )
+BUSY = "all places have been busy for # s, and further clients wait: serve with more PLACES, "
+BUSY = warn("tcp_link::busy", BUSY + "or keep the connections of the proxy below them (nginx: max_conns, keepalive)")
 # The connections of a server: what each sends, what is said of its requests, and how it ends.
 CONNECTIONS = [
     (ask(b"GET", b"/x") + ask(b"PUT", LEAF, body=TILE), ["GET /x 404 10 # not_found", "PUT /Norder4/Dir0/Npix0.fits 201 0 # -"], "Closed"),
@@ -638,8 +640,9 @@ def took(connections):
 
 
 def servers(check):
+    """One place, by a clock that stands still: 65,536 requests may keep it busy for long enough that the log says so."""
     count = len(CONNECTIONS)
-    process = check.start(["serve", "127.0.0.1:0", str(count), "1"], check.survey(CONF), level="debug")
+    process = check.start(["serve", "127.0.0.1:0", str(count), "1"], check.survey(CONF), level="debug", pace="0")
     said = read_until(process, b"listening at ")
     if b"listening at " not in said:
         sys.exit(f"check-log: the server doesn't listen:\n{said.decode()}")
@@ -695,10 +698,10 @@ def shortages(check):
     """More places than descriptors: those without one are served once others have ended, or end themselves after five minutes."""
     short = warn("tcp_link::shortage", "can't accept, and tries again: Too many open files (os error 24)")
     failed = error("hips_place::place", "place # ended after 0 connections: accepting failed")
-    # By the second clock two and a half minutes pass at each reading.
+    # By the second clock two and a half minutes pass at each reading; so the last client is said to keep all places busy for minutes.
     for count, clients, pace, until, said, end in [
         (4, 4, None, b"tries again", short + took(1) * 4, "Done"),
-        (3, 2, 150_000, b"accepting failed", short * 2 + failed + took(1) * 2, "Failed"),
+        (3, 2, 150_000, b"accepting failed", short * 2 + BUSY * 2 + failed + took(1) * 2, "Failed"),
     ]:
         # Two are for accepts, beside the standard ones and the listener's.
         limit = {"preexec_fn": lambda: resource.setrlimit(resource.RLIMIT_NOFILE, (6, 6))}
@@ -745,10 +748,8 @@ def busy(check):
     waits.close()
     for place in places:
         served(place[1], ask(b"GET", b"/x"))
-    told = "all places have been busy for 1# s, and further clients wait: serve with more PLACES, "
-    told = warn("tcp_link::busy", told + "or keep the connections of the proxy below them (nginx: max_conns, keepalive)")
     ends = info("survey_commands::serve", f"all places have ended: Done. {GONE}")
-    for process, text, connections, count, lines in zip(processes, said, (2, 1), (2, 3), (told, [])):
+    for process, text, connections, count, lines in zip(processes, said, (2, 1), (2, 3), (BUSY, [])):
         wanted = THIS + LOADED + info("survey_commands::serve", f"{count} places, up to {connections} connections at each")
         wanted += info("tcp_link::listening", "listening at 127.0.0.1:#") + lines + took(connections) * count + ends
         check.compare(["serve"], text + process.stderr.read(), wanted)
