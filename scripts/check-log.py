@@ -20,6 +20,7 @@ import subprocess
 import sys
 import tempfile
 import threading
+import time
 from contextlib import suppress
 from itertools import zip_longest
 from pathlib import Path
@@ -619,6 +620,8 @@ FEW_LEFT = (
     "place 1 has taken 6 of 7 connections: after 1 more it ends. "
     "When all places have ended the server ends, and its edits are lost: run rollover.sh before"
 )
+BUSY = "all places have been busy for # s, and further clients wait: serve with more PLACES, "
+BUSY = warn("tcp_link::busy", BUSY + "or keep the connections of the proxy below them (nginx: max_conns, keepalive)")
 # The connections of a server: what each sends, what is said of its requests, and how it ends.
 CONNECTIONS = [
     (ask(b"GET", b"/x") + ask(b"PUT", LEAF, body=TILE), ["GET /x 404 10 # not_found", "PUT /Norder4/Dir0/Npix0.fits 201 0 # -"], "Closed"),
@@ -631,9 +634,15 @@ CONNECTIONS = [
 ]
 
 
+def took(connections):
+    """What a place says that took so many, all that it was to."""
+    return info("hips_place::place", f"place # ended after {connections} connections: {LIMIT}")
+
+
 def servers(check):
+    """One place, by a clock that stands still: 65,536 requests may keep it busy for long enough that the log says so."""
     count = len(CONNECTIONS)
-    process = check.start(["serve", "127.0.0.1:0", str(count), "1"], check.survey(CONF), level="debug")
+    process = check.start(["serve", "127.0.0.1:0", str(count), "1"], check.survey(CONF), level="debug", pace="0")
     said = read_until(process, b"listening at ")
     if b"listening at " not in said:
         sys.exit(f"check-log: the server doesn't listen:\n{said.decode()}")
@@ -656,7 +665,7 @@ def servers(check):
         # 6 of 7 are the first that are 80 percent or more; 95 percent are all.
         wanted += warn("hips_place::place", FEW_LEFT) if number == 6 else []
     reader.join(60)
-    wanted += info("hips_place::place", f"place 1 ended after {count} connections: {LIMIT}")
+    wanted += took(count)
     wanted += info("survey_commands::serve", f"all places have ended: Done. {GONE}")
     check.compare(["serve"], said + rest[0], wanted)
 
@@ -679,7 +688,7 @@ def places(check):
     wanted += info("tcp_link::listening", "listening at 127.0.0.1:#")
     wanted += debug("client", *(f"{name} 127.0.0.1:#" for name in names))
     wanted += debug("request", *(f"{name} GET /x 404 10 # not_found" for name in names)) + debug("ended", *(f"{name} Closed" for name in names))
-    wanted += info("hips_place::place", *[f"place # ended after 1 connections: {LIMIT}"] * count)
+    wanted += took(1) * count
     wanted += info("survey_commands::serve", f"all places have ended: Done. {GONE}")
     # What places say at once comes in any order.
     check.compare(["serve"], b"\n".join(sorted(said.splitlines())), sorted(wanted))
@@ -688,12 +697,11 @@ def places(check):
 def shortages(check):
     """More places than descriptors: those without one are served once others have ended, or end themselves after five minutes."""
     short = warn("tcp_link::shortage", "can't accept, and tries again: Too many open files (os error 24)")
-    served_one = info("hips_place::place", f"place # ended after 1 connections: {LIMIT}")
     failed = error("hips_place::place", "place # ended after 0 connections: accepting failed")
-    # By the second clock two and a half minutes pass at each reading.
+    # By the second clock two and a half minutes pass at each reading; so the last client is said to keep all places busy for minutes.
     for count, clients, pace, until, said, end in [
-        (4, 4, None, b"tries again", short + served_one * 4, "Done"),
-        (3, 2, 150_000, b"accepting failed", short * 2 + failed + served_one * 2, "Failed"),
+        (4, 4, None, b"tries again", short + took(1) * 4, "Done"),
+        (3, 2, 150_000, b"accepting failed", short * 2 + BUSY * 2 + failed + took(1) * 2, "Failed"),
     ]:
         # Two are for accepts, beside the standard ones and the listener's.
         limit = {"preexec_fn": lambda: resource.setrlimit(resource.RLIMIT_NOFILE, (6, 6))}
@@ -712,6 +720,39 @@ def shortages(check):
         wanted += info("tcp_link::listening", "listening at 127.0.0.1:#") + said
         wanted += info("survey_commands::serve", f"all places have ended: {end}. {GONE}")
         check.compare(["serve"], b"\n".join(sorted(text.splitlines())), sorted(wanted))
+
+
+def busy(check):
+    """Two clients that stay and ask each second, at two places and at three. At two a third client waits, and after ten seconds the
+    log says so, once."""
+    processes = [check.start(["serve", "127.0.0.1:0", *words], check.survey(CONF)) for words in (("2", "2"), ("1", "3"))]
+    said = [read_until(process, b"listening at ") for process in processes]
+    places = [("127.0.0.1", int(text.rpartition(b":")[2])) for text in said]
+
+    def asks(client):
+        client.sendall(ask(b"GET", b"/x"))
+        client.recv(4096)
+
+    stay = [socket.create_connection(place, timeout=30) for place in places for _ in range(2)]
+    for client in stay:
+        asks(client)
+    waits = socket.create_connection(places[0], timeout=30)
+    waits.sendall(ask(b"GET", b"/x"))
+    for _ in range(13):
+        for client in stay:
+            asks(client)
+        time.sleep(1)
+    for client in stay:
+        client.close()
+    waits.recv(4096)
+    waits.close()
+    for place in places:
+        served(place[1], ask(b"GET", b"/x"))
+    ends = info("survey_commands::serve", f"all places have ended: Done. {GONE}")
+    for process, text, connections, count, lines in zip(processes, said, (2, 1), (2, 3), (BUSY, [])):
+        wanted = THIS + LOADED + info("survey_commands::serve", f"{count} places, up to {connections} connections at each")
+        wanted += info("tcp_link::listening", "listening at 127.0.0.1:#") + lines + took(connections) * count + ends
+        check.compare(["serve"], text + process.stderr.read(), wanted)
 
 
 def publications(check):
@@ -743,7 +784,7 @@ def publications(check):
         name = "connection{place=~ number=1}:"
         wanted += info("hips_http::room", f"{name} edit {number} puts {LEAF_ASKED[1:]}")
         wanted += info("hips_http::saying", f"{name} published 1 edits, {number} of {number} in all: 1 tiles built in # ms")
-    wanted += info("hips_place::place", *[f"place # ended after 1 connections: {LIMIT}"] * 3)
+    wanted += took(1) * 3
     wanted += info("survey_commands::serve", f"all places have ended: Done. {GONE}")
     check.compare(["serve"], said, wanted)
 
@@ -761,7 +802,7 @@ def unix_socket(check):
     wanted = THIS + LOADED + info("survey_commands::serve", "1 places, up to 1 connections at each")
     wanted += info("tcp_link::listening", "listening at ./socket") + debug("client", f"{name} unix")
     wanted += debug("request", f"{name} GET /x 404 10 # not_found") + debug("ended", f"{name} Closed")
-    wanted += info("hips_place::place", f"place # ended after 1 connections: {LIMIT}")
+    wanted += took(1)
     wanted += info("survey_commands::serve", f"all places have ended: Done. {GONE}")
     check.compare(["serve"], said, wanted)
 
@@ -785,6 +826,19 @@ def addresses(check):
         server.close()
     absent = error("shelf_io::words", "there is no file survey.conf, which describes the survey")
     check.run(["serve", "127.0.0.1:0", "1", "1"], THIS + absent, files={})
+
+
+def open_addresses(check):
+    """Every address of the machine, by which others than a proxy may reach the server."""
+    for address in ("0.0.0.0:0", "[::]:0") if socket.has_dualstack_ipv6() else ("0.0.0.0:0",):
+        process = check.start(["serve", address, "1", "1"], check.survey(CONF))
+        said = read_until(process, b"listening at ")
+        served(int(said.rpartition(b":")[2]), ask(b"GET", b"/x"))
+        wanted = THIS + LOADED + info("survey_commands::serve", "1 places, up to 1 connections at each")
+        wanted += info("tcp_link::listening", f"listening at {address[:-1]}#")
+        told = "whoever reaches this machine may edit the survey: listen at 127.0.0.1 or at the path of a Unix socket, behind a proxy"
+        wanted += warn("tcp_link::listening", told) + took(1) + info("survey_commands::serve", f"all places have ended: Done. {GONE}")
+        check.compare(["serve"], said + process.stderr.read(), wanted)
 
 
 def lost_address(check):
@@ -964,7 +1018,7 @@ def main(program=TOP / "crates/hipsd/out/hipsd"):
     with tempfile.TemporaryDirectory() as folder:
         Path(folder).chmod(0o755)
         check = Check(Path(program).resolve(strict=True), Path(folder))
-        for part in (wrong_words, levels, descriptions, folders, special_files, too_many, folder_faults, progress, catalogues, records, sessions, edits, servers, places, shortages, publications, unix_socket, addresses, lost_address, copies):
+        for part in (wrong_words, levels, descriptions, folders, special_files, too_many, folder_faults, progress, catalogues, records, sessions, edits, servers, places, shortages, busy, publications, unix_socket, addresses, open_addresses, lost_address, copies):
             part(check)
         calls = unsaid(check)
     if check.wrong:

@@ -515,6 +515,11 @@ exports_what_differs() {
     written | grep -vE "$mended" >"$folder/now"
     grep -vE "$mended" "$folder/then" | cmp -s - "$folder/now" || blame "hipsd export touches files that were right"
     "$program" verify >"$folder/said" 2>/dev/null || blame "hipsd verify after an export: $(cat "$folder/said")"
+    # A leaf with a card of its own, in the place of its end card, is written again without it.
+    cp "$leaf" "$folder/canonical"
+    printf '%-80s%-80s' "CTYPE1  = 'RA---HPX'" END | dd of="$leaf" bs=80 seek=10 conv=notrunc status=none
+    ran 0 '1 of 6 files written, 5 were the same; 0 removed' export
+    cmp -s "$leaf" "$folder/canonical" || blame "hipsd export leaves a card that it doesn't write: $(head -c 960 "$leaf")"
 }
 # no_leaves: files that look like leaves and are none.
 no_leaves() {

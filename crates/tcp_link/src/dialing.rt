@@ -33,7 +33,7 @@ where
 {
     let patience = Patience::usual();
     let stream = call(rt, net, address, patience);
-    let connection = Connection::new(rt.clone()?, patience, stream);
+    let connection = Connection::new(rt.clone()?, patience, stream, None);
     let connection = Arc::new(rt.alloc(), connection)?;
     let output = TcpOut::new(Arc::try_clone(&connection)?);
     Ok((TcpIn::new(connection), output))

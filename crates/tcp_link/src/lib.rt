@@ -9,10 +9,12 @@
 #![tactic(auto)]
 
 pub mod again;
+mod busy;
 mod connection;
 mod dialing;
 mod listening;
 mod patience;
+mod rate_limit;
 mod refusal;
 mod shortage;
 mod stream;

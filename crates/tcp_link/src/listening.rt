@@ -4,9 +4,10 @@ ghost use Rattle.std.specs.IoError.{error_kind};
 ghost use Rattle.tcp_link.specs.Tcp.{passes};
 
 use crate::again::again;
+use crate::busy::Busy;
 use crate::shortage::Shortage;
 use crate::stream::{Listener, Stream};
-use log::{Log, error, info};
+use log::{Log, error, info, warn};
 use std::fs::Files;
 use std::io;
 use std::io::ErrorKind;
@@ -22,6 +23,7 @@ pub(crate) struct Listening {
     binding: Mutex<bool>,
     listener: OnceLock<Listener>,
     shortage: Shortage,
+    pub(crate) busy: Busy,
 }
 
 impl Listening {
@@ -31,16 +33,31 @@ impl Listening {
             binding: Mutex::new(false),
             listener: OnceLock::new(),
             shortage: Shortage::new(),
+            busy: Busy::new(),
         }
     }
 
     /// The next connection and its client, by the listener. Where the system is short of descriptors or of buffers it is tried
-    /// again for minutes.
+    /// again for minutes. Logs a warning if all doors have been busy for long.
     ///
     /// # Errors
     ///
     /// What it is refused for.
     pub(crate) fn accept<R: Wait + Clock + Log>(
+        &self,
+        rt: &R,
+        listener: &Listener,
+    ) -> io::Result<(Stream, Option<SocketAddr>)>
+        ensures lasts { IfErr result (λ error. passes (error_kind error) ≡ false) }
+    {
+        let begun = self.busy.begin_waiting(rt);
+        let accepted = self.next(rt, listener);
+        self.busy.end_waiting(rt, begun);
+        accepted
+    }
+
+    // The next connection and its client.
+    fn next<R: Wait + Clock + Log>(
         &self,
         rt: &R,
         listener: &Listener,
@@ -92,10 +109,15 @@ impl Listening {
     }
 }
 
-// Says where it listens.
+// Says where it listens, and if whoever reaches the machine reaches it there.
 fn say_place<R: Log>(rt: &R, address: &str, listener: &Listener) {
     match listener.place() {
-        Ok(Some(place)) => info!(rt; "listening at {place}"),
+        Ok(Some(place)) => {
+            info!(rt; "listening at {place}");
+            if place.ip().is_unspecified() {
+                warn!(rt; "whoever reaches this machine may edit the survey: listen at 127.0.0.1 or at the path of a Unix socket, behind a proxy");
+            }
+        }
         _ => info!(rt; "listening at {address}"),
     }
 }

@@ -1,6 +1,7 @@
 //! A lack of descriptors or of buffers, which may pass.
+use crate::rate_limit::RateLimit;
 use log::{Log, warn};
-use std::sync::{Mutex, Wait};
+use std::sync::Wait;
 use std::time::{Clock, Duration, Instant};
 use std::{io, thread};
 
@@ -8,9 +9,6 @@ use std::{io, thread};
 const PATIENCE: u64 = 300;
 
 const PAUSE: u64 = 100;
-
-// How many seconds after one line of the log the next one comes.
-const SILENCE: u64 = 60;
 
 // Linux's numbers: all descriptors of the system are in use, all of the process are, there is no room for a buffer.
 const ENFILE: i32 = 23;
@@ -22,13 +20,13 @@ const ENOBUFS: i32 = 105;
 /// What the doors of one address know of it: when it was last logged.
 #[derive(Drop)]
 pub(crate) struct Shortage {
-    said: Mutex<Option<Instant>>,
+    limit: RateLimit,
 }
 
 impl Shortage {
     pub(crate) fn new() -> Shortage {
         Shortage {
-            said: Mutex::new(None),
+            limit: RateLimit::new(),
         }
     }
 
@@ -57,22 +55,10 @@ impl Shortage {
 
     // True, after a pause.
     fn pause<R: Wait + Clock + Log>(&self, rt: &R, now: Instant, error: io::Error) -> bool {
-        if self.is_due(rt, now) {
+        if self.limit.allows(rt, now) {
             warn!(rt; "can't accept, and tries again: {error}");
         }
         thread::sleep(rt, Duration::from_millis(PAUSE));
-        true
-    }
-
-    // Whether a line must be logged now; the time of it is kept.
-    fn is_due<R: Wait>(&self, rt: &R, now: Instant) -> bool {
-        let mut said = self.said.lock(rt);
-        if let Some(before) = *said {
-            if now.duration_since(before) < Duration::from_secs(SILENCE) {
-                return false;
-            }
-        }
-        *said = Some(now);
         true
     }
 }

@@ -31,6 +31,8 @@ use survey_link::{Door, DoorFault};
 ///
 /// The log gets each connection's client, with the place of the door among those of its address and the connection's number
 /// at it, both from 1 on. Over a Unix socket clients have no address.
+/// While all doors of an address have been busy for ten seconds, a warning is logged, once a minute; so is one if they listen at
+/// every address of the machine.
 #[derive(Drop)]
 pub struct TcpDoor<R, N> {
     runtime: R,
@@ -210,7 +212,13 @@ where
         ensures fresh { IfOk result (λ halves. (halves.0 ≡ 0) × (halves.1 ≡ 0)) }
     {
         stream.prepare(self.patience)?;
-        let connection = Connection::new(self.runtime.clone()?, self.patience, Some(stream));
+        let listening = Arc::try_clone(&self.listening)?;
+        let connection = Connection::new(
+            self.runtime.clone()?,
+            self.patience,
+            Some(stream),
+            Some(listening),
+        );
         let connection = Arc::new(self.runtime.alloc(), connection)?;
         let output = TcpOut::new(Arc::try_clone(&connection)?);
         Ok((TcpIn::new(connection), output))

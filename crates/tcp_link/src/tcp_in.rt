@@ -5,10 +5,11 @@ ghost use Rattle.survey_link.specs.Link.{next_count};
 use crate::connection::Connection;
 use crate::patience::Patience;
 use crate::watch::Watch;
+use log::Log;
 use std::io;
 use std::io::ErrorKind;
 use std::marker::Model;
-use std::sync::Arc;
+use std::sync::{Arc, Wait};
 use std::time::{Clock, Duration};
 use survey_link::{Failed, Source};
 
@@ -49,12 +50,13 @@ impl<R> TcpIn<R> {
     }
 }
 
-impl<R: Clock> TcpIn<R> {
-    // Reads before the rest, or the request, has taken too long.
+impl<R: Wait + Clock + Log> TcpIn<R> {
+    // Reads before the rest, or the request, has taken too long. While all doors are busy no other thread can log that.
     fn read_in_time(&mut self, buf: &mut [u8]) -> io::Result<usize>
         ensures count { IfOk result (λ m. m ≤ length buf.old) }
         ensures counts_none { self.new ≡ self.old }
     {
+        self.connection.say_busy();
         let Patience { rest, turn, .. } = self.connection.patience;
         if !self.connection.rests() {
             let count = self.read_within(turn, buf)?;
@@ -100,7 +102,7 @@ impl<R: Clock> TcpIn<R> {
     }
 }
 
-impl<R: Clock> Source for TcpIn<R> {
+impl<R: Wait + Clock + Log> Source for TcpIn<R> {
     ghost left = { λ _. None };
 
     ghost readings = { λ _. None };
