@@ -1,7 +1,7 @@
 -- What stands next in an input, judged as the line of its number, is what the definition says of it.
 use Rattle.std.proofs.Common.{◌≡◌, ℕ, ◌+◌, ◌<◌, ◌≤◌, Bool, true, false, cond, List, [], ◌∷◌, ◌++◌, length, take, drop, Option, Some, None, Result, Ok, Err, refl, sym, ap, ◌∙◌, subst, arith}
 use Rattle.std.specs.Prelude.{nat_lt, nat_le}
-use Rattle.std.specs.Io.KnownBytes.{Consumes, IsAtEnd}
+use Rattle.std.specs.Io.KnownBytes.{IsAtEnd}
 use Rattle.std.proofs.lemmas.Bool.Decides.{nat_tests}
 use Rattle.std.proofs.lemmas.List.{append-nil, append_assoc, length-take-le}
 use Rattle.hips_catalog.specs.Catalogue.{Catalogue}
@@ -14,32 +14,12 @@ use Rattle.catalog_command.specs.declared.line.LineRefusal.TheVariants.{Fault, O
 use Rattle.catalog_command.specs.declared.found.Found.{Found}
 use Rattle.catalog_command.specs.declared.found.Found.TheVariants.{Line as Whole, Long as Front, Cut as Short, End}
 use Rattle.catalog_command.specs.Lines.{most_lines, most_bytes, bad_line, where_allowed, at_last, then_lines, after_line, after_parts, after_input, parts}
-use Rattle.catalog_command.specs.Unread.{unread, place_of_feed, IsFound}
-use Rattle.catalog_command.specs.Judging.{judged, numbered, TakesLine}
+use Rattle.catalog_command.specs.Input.{MayFollow}
+use Rattle.catalog_command.specs.Unread.{place_of_feed, IsFound}
+use Rattle.catalog_command.specs.Judging.{judged, numbered}
 use Rattle.catalog_command.specs.Stops.{TellsStop, TellsLine}
+use Rattle.catalog_command.proofs.Inputs.{nothing_follows}
 use Rattle.catalog_command.proofs.Feeds.{feed_inside, parts_line, parts_none, some_parts, parts_long}
-
--- ---- what is left to be used
-
-pub record IsUnread (held : List ℕ) (left : Option (List ℕ)) (rest : List ℕ) : Type 0 where
-  pub more : List ℕ
-  pub left_is : left ≡ Some more
-  pub is : rest ≡ held ++ more
-
-pub is_unread : (held : List ℕ) (left : Option (List ℕ)) (rest : List ℕ) → unread held left ≡ Some rest → IsUnread held left rest
-is_unread held None rest e = cc
-is_unread held (Some more) rest e = record { more = more; left_is = refl; is = sym cc }
-
--- bytes went from the source behind those that are held
-pub unread_read : (held held' more : List ℕ) (left left' : Option (List ℕ)) → held' ≡ held ++ more → Consumes left left' more → (rest : List ℕ) → unread held left ≡ Some rest → unread held' left' ≡ Some rest
-unread_read held held' more None left' grown consumed rest e = cc
-unread_read held held' more (Some old) None grown consumed rest e = absurd consumed
-unread_read held held' more (Some old) (Some new) grown consumed rest e =
-    let same : held' ++ new ≡ held ++ old = ap (λ bytes. bytes ++ new) grown ∙ append_assoc held more new ∙ ap (λ bytes. held ++ bytes) (sym consumed) in
-    ap Some same ∙ e
-
-at_end_is : (more : List ℕ) (left : Option (List ℕ)) → left ≡ Some more → IsAtEnd left → more ≡ []
-at_end_is more left e at_end = subst IsAtEnd e at_end
 
 -- ---- what the definition says of bytes of which this stands first
 
@@ -86,7 +66,7 @@ line_first : (c : Catalogue) (n : ℕ) (part : List ℕ) (ps : List (List ℕ)) 
 line_first c n part [] some = absurd (omega (arith, some))
 line_first c n part (next ∷ more) some = refl
 
-abbrev next_lines : Catalogue → ℕ → List ℕ → List ℕ → ℕ → Result Catalogue Stop
+abbrev pub next_lines : Catalogue → ℕ → List ℕ → List ℕ → ℕ → Result Catalogue Stop
 next_lines c n held more count = then_lines n (after_line c (take count held)) (λ d. after_input d (n + 1) (drop (count + 1) held ++ more))
 
 after_whole : (c : Catalogue) (n : ℕ) (held more : List ℕ) (count : ℕ) → place_of_feed held ≡ Some count → count < most_bytes →
@@ -120,11 +100,11 @@ judged_none n Short held left e is = at (nat_lt most_lines n) e
     at false e = cc
 
 -- the end of the input
-pub ends : (n : ℕ) (found : Found) (held : List ℕ) (left : Option (List ℕ)) (rest : List ℕ) → judged n found ≡ Ok None → IsFound held left found → unread held left ≡ Some rest → rest ≡ []
-ends n found held left rest e is here =
+pub ends : (c : Catalogue) (n : ℕ) (found : Found) (held : List ℕ) (left : Option (List ℕ)) (more : List ℕ) → judged n found ≡ Ok None → IsFound held left found → MayFollow left more
+    → after_input c n (held ++ more) ≡ Ok c
+ends c n found held left more e is may =
     let now = judged_none n found held left e is in
-    let open_rest = is_unread held left rest here in
-    open_rest.is ∙ ap (λ bytes. bytes ++ open_rest.more) now.0 ∙ at_end_is open_rest.more left open_rest.left_is now.1
+    ap (λ bytes. after_input c n (bytes ++ more)) now.0 ∙ ap (after_input c n) (nothing_follows left more now.1 may) ∙ after_end c n
 
 -- the stop is what a result says
 said : (made : Result Catalogue Stop) (own stop : Stop) → made ≡ Err own → own ≡ stop → TellsStop made own → TellsStop made stop
@@ -133,39 +113,30 @@ said made own stop e same tells = subst (TellsStop made) same tells
 bad : (made : Result Catalogue Stop) (n : ℕ) (fault : LineFault) (stop : Stop) → made ≡ bad_line n fault → Line (record { line = n; fault = fault }) ≡ stop → TellsStop made stop
 bad made n fault stop e same = subst (TellsStop made) same e
 
-pub stops : (c : Catalogue) (n : ℕ) (found : Found) (held : List ℕ) (left : Option (List ℕ)) (rest : List ℕ) (stop : Stop) →
-    judged n found ≡ Err stop → IsFound held left found → unread held left ≡ Some rest → TellsStop (after_input c n rest) stop
-stops c n End held left rest stop e is here = cc
-stops c n (Whole count) held left rest stop e is here =
-    let u = is_unread held left rest here in
-    at (next_lines c n held u.more count) (nat_lt most_lines n) (ap (after_input c n) u.is ∙ after_whole c n held u.more count is.0 is.1) e
+pub stops : (c : Catalogue) (n : ℕ) (found : Found) (held : List ℕ) (left : Option (List ℕ)) (more : List ℕ) (stop : Stop) →
+    judged n found ≡ Err stop → IsFound held left found → MayFollow left more → TellsStop (after_input c n (held ++ more)) stop
+stops c n End held left more stop e is may = cc
+stops c n (Whole count) held left more stop e is may =
+    at (next_lines c n held more count) (nat_lt most_lines n) (after_whole c n held more count is.0 is.1) e
   where
-    at : (otherwise : Result Catalogue Stop) (t : Bool) → after_input c n rest ≡ cond t (bad_line n Many) otherwise → cond {A = Result (Option ℕ) Stop} t (bad_line n Many) (Ok (Some count)) ≡ Err stop → TellsStop (after_input c n rest) stop
-    at otherwise true made e = bad (after_input c n rest) n Many stop made cc
+    at : (otherwise : Result Catalogue Stop) (t : Bool) → after_input c n (held ++ more) ≡ cond t (bad_line n Many) otherwise → cond {A = Result (Option ℕ) Stop} t (bad_line n Many) (Ok (Some count)) ≡ Err stop → TellsStop (after_input c n (held ++ more)) stop
+    at otherwise true made e = bad (after_input c n (held ++ more)) n Many stop made cc
     at otherwise false made e = cc
-stops c n Front held left rest stop e is here =
-    let u = is_unread held left rest here in
-    at (nat_lt most_lines n) (ap (after_input c n) u.is ∙ after_front c n held u.more is.0 is.1) e
+stops c n Front held left more stop e is may =
+    at (nat_lt most_lines n) (after_front c n held more is.0 is.1) e
   where
-    at : (t : Bool) → after_input c n rest ≡ cond {A = Result Catalogue Stop} t (bad_line n Many) (bad_line n Long) → cond {A = Result (Option ℕ) Stop} t (bad_line n Many) (bad_line n Long) ≡ Err stop → TellsStop (after_input c n rest) stop
-    at true made e = bad (after_input c n rest) n Many stop made cc
-    at false made e = bad (after_input c n rest) n Long stop made cc
-stops c n Short held left rest stop e is here =
-    let u = is_unread held left rest here in
-    let none = at_end_is u.more left u.left_is is.3 in
-    let whole : rest ≡ held = u.is ∙ ap (λ more. held ++ more) none ∙ append-nil held in
+    at : (t : Bool) → after_input c n (held ++ more) ≡ cond {A = Result Catalogue Stop} t (bad_line n Many) (bad_line n Long) → cond {A = Result (Option ℕ) Stop} t (bad_line n Many) (bad_line n Long) ≡ Err stop → TellsStop (after_input c n (held ++ more)) stop
+    at true made e = bad (after_input c n (held ++ more)) n Many stop made cc
+    at false made e = bad (after_input c n (held ++ more)) n Long stop made cc
+stops c n Short held left more stop e is may =
+    let whole : held ++ more ≡ held = ap (λ behind. held ++ behind) (nothing_follows left more is.3 may) ∙ append-nil held in
     at (nat_lt most_lines n) (ap (after_input c n) whole ∙ after_cut c n held is.0 is.2 ∙ not_long n held (Err Cut) is.1) e
   where
-    at : (t : Bool) → after_input c n rest ≡ cond {A = Result Catalogue Stop} t (bad_line n Many) (Err Cut) → cond {A = Result (Option ℕ) Stop} t (bad_line n Many) (Err Cut) ≡ Err stop → TellsStop (after_input c n rest) stop
-    at true made e = bad (after_input c n rest) n Many stop made cc
-    at false made e = let same : Cut ≡ stop = cc in subst (TellsStop (after_input c n rest)) same made
+    at : (t : Bool) → after_input c n (held ++ more) ≡ cond {A = Result Catalogue Stop} t (bad_line n Many) (Err Cut) → cond {A = Result (Option ℕ) Stop} t (bad_line n Many) (Err Cut) ≡ Err stop → TellsStop (after_input c n (held ++ more)) stop
+    at true made e = bad (after_input c n (held ++ more)) n Many stop made cc
+    at false made e = let same : Cut ≡ stop = cc in subst (TellsStop (after_input c n (held ++ more))) same made
 
 -- a line stands next, and is allowed
-pub record IsNext (c : Catalogue) (n : ℕ) (held : List ℕ) (left : Option (List ℕ)) (rest : List ℕ) (count : ℕ) : Type 0 where
-  pub more : List ℕ
-  pub left_is : left ≡ Some more
-  pub made : after_input c n rest ≡ then_lines n (after_line c (take count held)) (λ d. after_input d (n + 1) (drop (count + 1) held ++ more))
-
 pub record IsLine (n : ℕ) (held : List ℕ) (count : ℕ) : Type 0 where
   pub allowed : n ≤ most_lines
   pub within : count < length held
@@ -194,19 +165,15 @@ is_line n found held left count e is =
     let here : IsFound held left (Whole count) = subst (IsFound held left) line.1 is in
     record { allowed = line.0; within = feed_inside held count here.0 }
 
-pub is_next : (c : Catalogue) (n : ℕ) (found : Found) (held : List ℕ) (left : Option (List ℕ)) (rest : List ℕ) (count : ℕ) →
-    judged n found ≡ Ok (Some count) → IsFound held left found → unread held left ≡ Some rest → IsNext c n held left rest count
-is_next c n found held left rest count e is now =
+-- whatever follows it
+pub is_next : (c : Catalogue) (n : ℕ) (found : Found) (held : List ℕ) (left : Option (List ℕ)) (count : ℕ) → judged n found ≡ Ok (Some count) → IsFound held left found → (more : List ℕ)
+    → after_input c n (held ++ more) ≡ next_lines c n held more count
+is_next c n found held left count e is more =
     let line = line_of n found held left count e is in
     let here : IsFound held left (Whole count) = subst (IsFound held left) line.1 is in
-    let u = is_unread held left rest now in
     let few : n ≤ most_lines = line.0 in
     let test : nat_lt most_lines n ≡ false = grind (arith, nat_tests) in
-    record {
-      more = u.more;
-      left_is = u.left_is;
-      made = ap (after_input c n) u.is ∙ after_whole c n held u.more count here.0 here.1 ∙ ap (λ t. cond t (bad_line n Many) (next_lines c n held u.more count)) test;
-    }
+    after_whole c n held more count here.0 here.1 ∙ ap (λ t. cond t (bad_line n Many) (next_lines c n held more count)) test
 
 -- ---- what use was made of the line
 
@@ -222,23 +189,3 @@ pub used_ok : (n : ℕ) (used : Result (Unit {0}) LineRefusal) (done : Unit {0})
 used_ok n (Ok own) done e = let same : own ≡ done = cc in ap (λ (u : Unit {0}). Ok u) same
 used_ok n (Err (Fault fault)) done e = cc
 used_ok n (Err NoRoom) done e = cc
-
--- ---- line after line
-
--- what was to be read in all is what is to be read from this line on
-pub record ReadsOn (all : Result Catalogue Stop) (c : Catalogue) (n : ℕ) (left : Option (List ℕ)) : Type 0 where
-  pub rest : List ℕ
-  pub left_is : left ≡ Some rest
-  pub same : all ≡ after_input c n rest
-
-pub begun : (held : List ℕ) (left : Option (List ℕ)) (input : List ℕ) (c : Catalogue) → held ≡ [] → left ≡ Some input → ReadsOn (after_input c 1 input) c 1 (unread held left)
-begun held left input c none told = record { rest = input; left_is = ap (λ bytes. unread bytes left) none ∙ ap (unread []) told; same = refl }
-
-pub gone_on : (all : Result Catalogue Stop) (old new : Catalogue) (n : ℕ) (left left' : Option (List ℕ)) (on : ReadsOn all old n left) → TakesLine n on.rest old new left' true → ReadsOn all new (n + 1) left'
-gone_on all old new n left left' on taken = record { rest = taken.0; left_is = taken.1; same = on.same ∙ taken.2 }
-
-pub done : (all : Result Catalogue Stop) (old new : Catalogue) (n : ℕ) (left left' : Option (List ℕ)) (on : ReadsOn all old n left) → TakesLine n on.rest old new left' false → all ≡ Ok new
-done all old new n left left' on taken = on.same ∙ ap (after_input old n) taken.0 ∙ after_end old n ∙ ap Ok (sym taken.1)
-
-pub stopped : (all : Result Catalogue Stop) (old : Catalogue) (n : ℕ) (left : Option (List ℕ)) (stop : Stop) (on : ReadsOn all old n left) → TellsStop (after_input old n on.rest) stop → TellsStop all stop
-stopped all old n left stop on tells = subst (λ made. TellsStop made stop) (sym on.same) tells

@@ -1,5 +1,6 @@
 pub mod Splitting
 pub mod Feeds
+pub mod Inputs
 pub mod Judged
 pub mod Names
 pub mod Existing

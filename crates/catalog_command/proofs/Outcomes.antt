@@ -1,5 +1,5 @@
 -- How the work ends.
-use Rattle.std.proofs.Common.{◌≡◌, Option, Result, Ok, Err, refl, sym, subst, inl, inr}
+use Rattle.std.proofs.Common.{◌≡◌, ℕ, List, Option, Result, Ok, Err, refl, sym, subst, inl, inr}
 use Rattle.std.specs.Prelude.{IsOkAnd}
 use Rattle.survey_link.specs.Shelf.{ShelfFiles}
 use Rattle.survey_link.specs.declared.faults.LinkFault.{LinkFault}
@@ -10,26 +10,47 @@ use Rattle.catalog_command.specs.declared.stop.Stop.TheVariants.{Cut, Line, Read
 use Rattle.catalog_command.specs.declared.counts.Counts.{Counts}
 use Rattle.catalog_command.specs.Files.{OnFiles, IsReplaced, IsUnfinished}
 use Rattle.catalog_command.specs.Stops.{of_link, TellsStop}
-use Rattle.catalog_command.specs.Run.{IsOutcome, counts_of}
+use Rattle.catalog_command.specs.Input.{OfInput}
+use Rattle.catalog_command.specs.Lines.{catalogue_of}
+use Rattle.catalog_command.specs.Run.{IsOutcome, SaysOutcome, RunsCatalog, counts_of}
+use Rattle.catalog_command.proofs.Inputs.{of_each}
 
--- the input gave no catalogue, and the shelf stays
-pub nothing_read : (given : Result Catalogue Stop) (files : Option ShelfFiles) (stop : Stop) → TellsStop given stop → IsOutcome given files files (Err stop)
-nothing_read given files Cut tells = (tells, refl)
-nothing_read given files (Line bad) tells = (tells, refl)
-nothing_read given files ReadFault tells = refl
-nothing_read given files ShelfFault tells = absurd tells
-nothing_read given files OutOfMemory tells = inl refl
+nothing : (given : Result Catalogue Stop) (files : Option ShelfFiles) (stop : Stop) → TellsStop given stop → IsOutcome given files files (Err stop)
+nothing given files Cut tells = (tells, refl)
+nothing given files (Line bad) tells = (tells, refl)
+nothing given files ReadFault tells = refl
+nothing given files ShelfFault tells = absurd tells
+nothing given files OutOfMemory tells = inl refl
 
 ok_and : (given : Result Catalogue Stop) (catalogue : Catalogue) (P : Catalogue → Type 0) → given ≡ Ok catalogue → P catalogue → IsOkAnd given P
 ok_and given catalogue P e holds = subst (λ (r : Result Catalogue Stop). IsOkAnd r P) (sym e) holds
 
--- the work stopped midway
-pub unfinished : (given : Result Catalogue Stop) (catalogue : Catalogue) (old new : Option ShelfFiles) (fault : LinkFault) → given ≡ Ok catalogue →
+midway : (given : Result Catalogue Stop) (catalogue : Catalogue) (old new : Option ShelfFiles) (fault : LinkFault) → given ≡ Ok catalogue →
     OnFiles (IsUnfinished catalogue) old new → IsOutcome given old new (Err (of_link fault))
-unfinished given catalogue old new Failed e begun = ok_and given catalogue (λ c. OnFiles (IsUnfinished c) old new) e begun
-unfinished given catalogue old new NoMemory e begun = inr (ok_and given catalogue (λ c. OnFiles (IsUnfinished c) old new) e begun)
+midway given catalogue old new Failed e begun = ok_and given catalogue (λ c. OnFiles (IsUnfinished c) old new) e begun
+midway given catalogue old new NoMemory e begun = inr (ok_and given catalogue (λ c. OnFiles (IsUnfinished c) old new) e begun)
 
--- the work is done
-pub finished : (given : Result Catalogue Stop) (catalogue : Catalogue) (old new : Option ShelfFiles) (counts : Counts) → given ≡ Ok catalogue →
-    counts ≡ counts_of catalogue → OnFiles (IsReplaced catalogue) old new → IsOutcome given old new (Ok counts)
-finished given catalogue old new counts e counted done = ok_and given catalogue (λ c. (counts ≡ counts_of c) × OnFiles (IsReplaced c) old new) e (counted, done)
+module _ (top per_tile : ℕ) (left left' : Option (List ℕ)) (old new : Option ShelfFiles) where
+  abbrev Outcome : Option ShelfFiles → Result Counts Stop → Type 0
+  Outcome files outcome = OfInput (λ input. IsOutcome (catalogue_of top per_tile input) old files outcome) left left'
+
+  abbrev Gives : Catalogue → Type 0
+  Gives catalogue = OfInput (λ input. catalogue_of top per_tile input ≡ Ok catalogue) left left'
+
+  -- the input gave no catalogue, and the shelf stays
+  pub nothing_read : (stop : Stop) → OfInput (λ input. TellsStop (catalogue_of top per_tile input) stop) left left' → Outcome old (Err stop)
+  nothing_read stop tells = of_each _ _ left left' (λ input told. nothing (catalogue_of top per_tile input) old stop told) tells
+
+  -- the work stopped midway
+  pub unfinished : (catalogue : Catalogue) (fault : LinkFault) → Gives catalogue → OnFiles (IsUnfinished catalogue) old new → Outcome new (Err (of_link fault))
+  unfinished catalogue fault gives begun = of_each _ _ left left' (λ input given. midway (catalogue_of top per_tile input) catalogue old new fault given begun) gives
+
+  -- the work is done
+  pub finished : (catalogue : Catalogue) (counts : Counts) → Gives catalogue → counts ≡ counts_of catalogue → OnFiles (IsReplaced catalogue) old new → Outcome new (Ok counts)
+  finished catalogue counts gives counted done =
+      of_each _ _ left left' (λ input given. ok_and (catalogue_of top per_tile input) catalogue (λ c. (counts ≡ counts_of c) × OnFiles (IsReplaced c) old new) given (counted, done)) gives
+
+  -- and what came of it was said
+  pub runs : (outcome : Result Counts Stop) (status : ℕ) (held held' flushed flushed' : Option (List ℕ)) → Outcome new outcome → SaysOutcome outcome status held held' flushed flushed'
+      → OfInput (λ input. RunsCatalog top per_tile input old new status held held' flushed flushed') left left'
+  runs outcome status held held' flushed flushed' is said = of_each _ _ left left' (λ input given. (outcome, (given, said))) is

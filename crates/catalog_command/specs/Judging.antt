@@ -1,5 +1,6 @@
 -- What comes next in the input, judged as the line of its number.
-use Rattle.std.specs.Prelude.{◌≡◌, ℕ, ◌+◌, Bool, true, false, nat_lt, List, [], Option, Some, None, Result, Ok, Err, if◌then◌else◌}
+use Rattle.std.specs.Prelude.{◌≡◌, ℕ, ◌+◌, nat_lt, List, ◌++◌, Option, Some, None, Result, Ok, Err, if◌then◌else◌}
+use Rattle.std.specs.Io.KnownBytes.{Consumes}
 use Rattle.hips_catalog.specs.Catalogue.{Catalogue}
 use Rattle.catalog_command.specs.declared.stop.LineFault.TheVariants.{Long, Many}
 use Rattle.catalog_command.specs.declared.stop.Stop.{Stop}
@@ -23,7 +24,8 @@ numbered number (Ok done) = Ok done
 numbered number (Err (Fault fault)) = bad_line number fault
 numbered number (Err NoRoom) = Err OutOfMemory
 
--- of these bytes a line was used, and what follows it is left; or they are none, and the catalogue stays
-abbrev pub TakesLine : ℕ → List ℕ → Catalogue → Catalogue → Option (List ℕ) → Bool → Type 0
-TakesLine number rest old new left true = (more : List ℕ) × (left ≡ Some more) × (after_input old number rest ≡ after_input new (number + 1) more)
-TakesLine number rest old new left false = (rest ≡ []) × (new ≡ old)
+-- bytes came, and with them a line was used: whatever follows, the lines go on behind it
+pub record TakesLine (number : ℕ) (old new : Catalogue) (held held' : List ℕ) (left left' : Option (List ℕ)) : Type 0 where
+  pub came : List ℕ
+  pub consumed : Consumes left left' came
+  pub on : (more : List ℕ) → after_input old number (held ++ (came ++ more)) ≡ after_input new (number + 1) (held' ++ more)

@@ -2,6 +2,7 @@
 ghost use Rattle.std.specs.Prelude.{◌≡◌, ◌≢◌, ℕ, ◌≤◌, List, Some, IfOk, OnOk, IsErrOf, Err};
 ghost use Rattle.std.specs.Io.KnownBytes.{IsAtEnd};
 ghost use Rattle.survey_link.specs.Link.{Rises};
+ghost use Rattle.catalog_command.specs.Input.{OfInput};
 ghost use Rattle.catalog_command.specs.Lines.{catalogue_of};
 ghost use Rattle.catalog_command.specs.Run.{RunsCatalog, IsOutcome, SaysOutcome};
 
@@ -43,8 +44,8 @@ where
     requires top { top ≤ 11 }
     requires least { 1 ≤ per_tile }
     requires most { per_tile ≤ 4096 }
-    ensures run { (input : List ℕ) → S.left source.old ≡ Some input → RunsCatalog top per_tile input (H.files shelf.old) (H.files shelf.new) result
-        (K.held sink.old) (K.held sink.new) (K.flushed sink.old) (K.flushed sink.new) }
+    ensures run { OfInput (λ input. RunsCatalog top per_tile input (H.files shelf.old) (H.files shelf.new) result
+        (K.held sink.old) (K.held sink.new) (K.flushed sink.old) (K.flushed sink.new)) (S.left source.old) (S.left source.new) }
     ensures end { result ≡ 0 → IsAtEnd (S.left source.new) }
     ensures not_usage { result ≢ 1 }
     ensures not_opened { (result ≢ 2) × (result ≢ 3) }
@@ -77,8 +78,8 @@ where
     requires top { top ≤ 11 }
     requires least { 1 ≤ per_tile }
     requires most { per_tile ≤ 4096 }
-    ensures outcome { (input : List ℕ) → S.left source.old ≡ Some input
-        → IsOutcome (catalogue_of top per_tile input) (H.files shelf.old) (H.files shelf.new) result }
+    ensures outcome { OfInput (λ input. IsOutcome (catalogue_of top per_tile input) (H.files shelf.old) (H.files shelf.new) result)
+        (S.left source.old) (S.left source.new) }
     ensures end { OnOk result (IsAtEnd (S.left source.new)) }
     ensures read_fault { IsErrOf result Stop.ReadFault → Rises (S.faults source.old) (S.faults source.new) }
     ensures shelf_fault { IsErrOf result Stop.ShelfFault → Rises (H.faults shelf.old) (H.faults shelf.new) }

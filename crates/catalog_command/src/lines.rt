@@ -4,7 +4,7 @@ ghost use Rattle.std.specs.Io.KnownBytes.{Consumes, IsAtEnd};
 ghost use Rattle.survey_link.specs.Link.{Rises};
 ghost use Rattle.survey_link.specs.Inbox.{held, size};
 ghost use Rattle.catalog_command.specs.Lines.{most_bytes};
-ghost use Rattle.catalog_command.specs.Unread.{place_of_feed, IsFound, KeepsUnread};
+ghost use Rattle.catalog_command.specs.Unread.{place_of_feed, IsFound, Receives};
 
 use crate::found::Found;
 use survey_link::{Failed, Inbox, Source};
@@ -23,7 +23,7 @@ pub(crate) const ROOM: usize = 65_536;
 pub(crate) fn find<S: Source>(inbox: &mut Inbox, source: &mut S) -> Result<Found, Failed>
     requires size { size inbox.old ≡ 65536 }
     ensures found { IfOk result (IsFound (held inbox.new) (S.left source.new)) }
-    ensures unread { KeepsUnread (held inbox.old) (held inbox.new) (S.left source.old) (S.left source.new) }
+    ensures received { Receives (held inbox.old) (held inbox.new) (S.left source.old) (S.left source.new) }
     ensures failed { OnErr result (Rises (S.faults source.old) (S.faults source.new)) }
     ensures never_falls { S.faults source.old ≤ S.faults source.new }
     ensures size { size inbox.new ≡ size inbox.old }

@@ -1,11 +1,11 @@
 //! The catalogue of an input of lines.
-ghost use Rattle.std.specs.Prelude.{◌≡◌, ℕ, ◌+◌, ◌<◌, ◌≤◌, List, Some, Option, true, false, Ok, MatchResult, IfOk, OnOk, IfErr, IsErrOf};
+ghost use Rattle.std.specs.Prelude.{◌≡◌, ℕ, ◌+◌, ◌<◌, ◌≤◌, ◌++◌, List, Some, Option, true, false, Ok, IfOk, OnOk, IfErr, IsErrOf};
 ghost use Rattle.survey_link.specs.Link.{Rises};
 ghost use Rattle.std.specs.Io.KnownBytes.{IsAtEnd};
 ghost use Rattle.hips_catalog.specs.Catalogue.{Catalogue, no_rows};
 ghost use Rattle.survey_link.specs.Inbox.{held, size};
+ghost use Rattle.catalog_command.specs.Input.{OfInput};
 ghost use Rattle.catalog_command.specs.Lines.{after_input, after_line, catalogue_of, most_lines, then_lines};
-ghost use Rattle.catalog_command.specs.Unread.{unread};
 ghost use Rattle.catalog_command.specs.Stops.{TellsStop, IsReading};
 ghost use Rattle.catalog_command.specs.Judging.{judged, numbered, TakesLine};
 
@@ -38,8 +38,8 @@ pub(crate) fn read_catalog<R: AllocGlobal + Clock + Log, S: Source>(
     requires top { top ≤ 11 }
     requires least { 1 ≤ per_tile }
     requires most { per_tile ≤ 4096 }
-    ensures read { (input : List ℕ) → S.left source.old ≡ Some input → IfOk result (λ catalog. catalogue_of top per_tile input ≡ Ok catalog) }
-    ensures stopped { (input : List ℕ) → S.left source.old ≡ Some input → IfErr result (TellsStop (catalogue_of top per_tile input)) }
+    ensures read { IfOk result (λ catalog. OfInput (λ input. catalogue_of top per_tile input ≡ Ok catalog) (S.left source.old) (S.left source.new)) }
+    ensures stopped { IfErr result (λ stop. OfInput (λ input. TellsStop (catalogue_of top per_tile input) stop) (S.left source.old) (S.left source.new)) }
     ensures kinds { IfErr result IsReading }
     ensures end { OnOk result (IsAtEnd (S.left source.new)) }
     ensures failed { IsErrOf result Stop.ReadFault → Rises (S.faults source.old) (S.faults source.new) }
@@ -71,10 +71,12 @@ fn take_line<S: Source>(
     requires few { top ≤ 11 }
     requires size { size inbox.old ≡ 65536 }
     ensures size { size inbox.new ≡ size inbox.old }
-    ensures taken { (rest : List ℕ) → unread (held inbox.old) (S.left source.old) ≡ Some rest
-        → IfOk result (TakesLine number rest catalog.old catalog.new (unread (held inbox.new) (S.left source.new))) }
-    ensures stopped { (rest : List ℕ) → unread (held inbox.old) (S.left source.old) ≡ Some rest
-        → IfErr result (TellsStop (after_input catalog.old number rest)) }
+    ensures taken { result ≡ Ok true
+        → TakesLine number catalog.old catalog.new (held inbox.old) (held inbox.new) (S.left source.old) (S.left source.new) }
+    ensures last { result ≡ Ok false
+        → OfInput (λ input. after_input catalog.old number (held inbox.old ++ input) ≡ Ok catalog.new) (S.left source.old) (S.left source.new) }
+    ensures stopped { IfErr result (λ stop.
+        OfInput (λ input. TellsStop (after_input catalog.old number (held inbox.old ++ input)) stop) (S.left source.old) (S.left source.new)) }
     ensures kinds { IfErr result IsReading }
     ensures end { result ≡ Ok false → IsAtEnd (S.left source.new) }
     ensures more { result ≡ Ok true → number ≤ most_lines }

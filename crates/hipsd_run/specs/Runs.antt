@@ -22,6 +22,7 @@ use Rattle.survey_commands.specs.Make.{RunsMake}
 use Rattle.survey_commands.specs.Serve.{RunsServe}
 use Rattle.survey_commands.specs.Past.{RunsPast, RunsPastOver, FlushesPast}
 use Rattle.survey_commands.specs.Mirror.{RunsMirror, copying_of}
+use Rattle.catalog_command.specs.Input.{OfInput}
 use Rattle.catalog_command.specs.Run.{RunsCatalog}
 use Rattle.hipsd_run.specs.Command.{reads_source, opens_shelf, writes_files, opens_doors}
 use Rattle.hipsd_run.specs.Run.{EndsBy}
@@ -102,8 +103,8 @@ pub record DoesPast {S K H D : Type 0} (tells : Telling S K H D) (old new : Ends
   pub unread : (status ≡ 2) ⊎ (status ≡ 3) → new.source ≡ old.source
 
 pub record DoesCatalog {S K H D : Type 0} (top per_tile : ℕ) (tells : Telling S K H D) (old new : Ends S K H D) (status : ℕ) : Type 0 where
-  pub run : (input : List ℕ) → left_in tells old ≡ Some input → RunsCatalog top per_tile input (files_in tells old) (files_in tells new) status
-      (held_in tells old) (held_in tells new) (handed_in tells old) (handed_in tells new)
+  pub run : OfInput (λ input. RunsCatalog top per_tile input (files_in tells old) (files_in tells new) status
+      (held_in tells old) (held_in tells new) (handed_in tells old) (handed_in tells new)) (left_in tells old) (left_in tells new)
   pub end : status ≡ 0 → IsAtEnd (left_in tells new)
 
 abbrev pub Does : {S K H D : Type 0} → Command → Telling S K H D → Ends S K H D → Ends S K H D → ℕ → Type 0

@@ -1,14 +1,12 @@
-use Rattle.std.proofs.Common.{◌≡◌, ◌+◌, ◌-◌, ◌≤◌, ℕ, List, Some}
+use Rattle.std.proofs.Common.{◌≡◌, ◌+◌, ◌-◌, ◌≤◌}
 use Rattle.catalog_command.specs.Lines.{most_lines, catalogue_of}
 use Rattle.survey_link.specs.Inbox.{held, size}
-use Rattle.catalog_command.specs.Unread.{unread}
-use Rattle.catalog_command.proofs.Judged.{ReadsOn}
+use Rattle.catalog_command.proofs.Inputs.{ReadsOn}
 use Rattle.catalog_command.proofs.reading.read_catalog.Given as goal
 
 abbrev pub invariant-lines : goal.invariant-lines
 invariant-lines g l = record {
-  reads : (input : List ℕ) → g.S.Source.left l.fn.source ≡ Some input
-      → ReadsOn (catalogue_of l.top l.per_tile input) l.catalog l.number (unread (held l.inbox) (g.S.Source.left l.source));
+  reads : ReadsOn (catalogue_of l.top l.per_tile) l.catalog l.number (held l.inbox) (g.S.Source.left l.fn.source) (g.S.Source.left l.source);
   few : l.number ≤ most_lines + 1;
   top : l.catalog.top ≡ l.top;
   size : size l.inbox ≡ 65536;
