@@ -3,9 +3,12 @@ use Rattle.std.proofs.Common.{◌≡◌, ℕ, Bool, true, false, not, cond, List
 use Rattle.std.specs.Str.{bytes_eq}
 use Rattle.std.proofs.lemmas.Bool.{or_parts}
 use Rattle.hips_catalog.specs.Rows.{Source}
+use Rattle.hips_catalog.specs.Reading.{is_id}
+use Rattle.hips_catalog.specs.declared.fault.RowFault.TheVariants.{Id}
 use Rattle.hips_catalog.specs.Catalogue.{Catalogue, has_id, without_id, without_row}
 use Rattle.catalog_command.specs.declared.stop.LineFault.{LineFault}
-use Rattle.catalog_command.specs.Lines.{after_line}
+use Rattle.catalog_command.specs.declared.stop.LineFault.TheVariants.{Row, Absent}
+use Rattle.catalog_command.specs.Lines.{after_removal, after_line}
 use Rattle.catalog_command.specs.Answers.{Answer, IsAnswered, AreAnswered}
 
 -- where no row has the id, all stay
@@ -17,6 +20,12 @@ all_stay id (s ∷ ss) none =
 
 pub without_none : (id : List ℕ) (c : Catalogue) → has_id id c.rows ≡ false → without_row id c ≡ c
 without_none id c none = ap (λ rows. record { top = c.top; per_tile = c.per_tile; rows = rows }) (all_stay id c.rows none)
+
+pub absent_removal : (c : Catalogue) (id : List ℕ) → is_id id ≡ true → has_id id c.rows ≡ false → after_removal c id ≡ Err Absent
+unfolding after_removal
+absent_removal c id is none =
+    ap (λ t. cond {A = Result Catalogue LineFault} t (cond (has_id id c.rows) (Ok (without_row id c)) (Err Absent)) (Err (Row Id))) is
+    ∙ ap (λ t. cond {A = Result Catalogue LineFault} t (Ok (without_row id c)) (Err Absent)) none
 
 pub none_answered : (c : Catalogue) → AreAnswered [] c [] c
 none_answered c = refl

@@ -9,7 +9,6 @@ use Rattle.catalog_command.specs.declared.stop.LineFault.{LineFault}
 use Rattle.catalog_command.specs.declared.stop.LineFault.TheVariants.{Long, Many}
 use Rattle.catalog_command.specs.declared.stop.Stop.{Stop}
 use Rattle.catalog_command.specs.declared.stop.Stop.TheVariants.{Cut, Line, OutOfMemory}
-use Rattle.catalog_command.specs.declared.line.LineRefusal.{LineRefusal}
 use Rattle.catalog_command.specs.declared.line.LineRefusal.TheVariants.{Fault, OutOfMemory as NoRoom}
 use Rattle.catalog_command.specs.declared.found.Found.{Found}
 use Rattle.catalog_command.specs.declared.found.Found.TheVariants.{Line as Whole, Long as Front, Cut as Short, End}
@@ -17,7 +16,8 @@ use Rattle.catalog_command.specs.Lines.{most_lines, most_bytes, bad_line, where_
 use Rattle.catalog_command.specs.Input.{MayFollow}
 use Rattle.catalog_command.specs.Unread.{place_of_feed, IsFound}
 use Rattle.catalog_command.specs.Judging.{judged, numbered}
-use Rattle.catalog_command.specs.Stops.{TellsStop, TellsLine}
+use Rattle.catalog_command.specs.Stops.{TellsStop}
+use Rattle.catalog_command.specs.Answers.{Answer, IsAnswered}
 use Rattle.catalog_command.proofs.Inputs.{nothing_follows}
 use Rattle.catalog_command.proofs.Feeds.{feed_inside, parts_line, parts_none, some_parts, parts_long}
 
@@ -177,15 +177,13 @@ is_next c n found held left count e is more =
 
 -- ---- what use was made of the line
 
-pub used_stop : (n : ℕ) (made : Result Catalogue LineFault) (next : Catalogue → Result Catalogue Stop) (used : Result (Unit {0}) LineRefusal) (stop : Stop) (all : Result Catalogue Stop) →
-    all ≡ then_lines n made next → ((refusal : LineRefusal) → used ≡ Err refusal → TellsLine made refusal) → numbered n used ≡ Err stop → TellsStop all stop
-used_stop n made next (Ok done) stop all is tells e = cc
-used_stop n made next (Err (Fault fault)) stop all is tells e =
-    let why : made ≡ Err fault = tells (Fault fault) refl in
-    bad all n fault stop (is ∙ ap (λ m. then_lines n m next) why) cc
-used_stop n made next (Err NoRoom) stop all is tells e = let same : OutOfMemory ≡ stop = cc in subst (TellsStop all) same tt
+pub used_stop : (n : ℕ) (made : Result Catalogue LineFault) (next : Catalogue → Result Catalogue Stop) (old new : Catalogue) (answer : Answer) (stop : Stop) (all : Result Catalogue Stop) →
+    all ≡ then_lines n made next → IsAnswered made old answer new → numbered n answer ≡ Err stop → TellsStop all stop
+used_stop n made next old new (Ok done) stop all is answered e = cc
+used_stop n made next old new (Err (Fault fault)) stop all is answered e = bad all n fault stop (is ∙ ap (λ m. then_lines n m next) answered.0) cc
+used_stop n made next old new (Err NoRoom) stop all is answered e = let same : OutOfMemory ≡ stop = cc in subst (TellsStop all) same tt
 
-pub used_ok : (n : ℕ) (used : Result (Unit {0}) LineRefusal) (done : Unit {0}) → numbered n used ≡ Ok done → used ≡ Ok done
-used_ok n (Ok own) done e = let same : own ≡ done = cc in ap (λ (u : Unit {0}). Ok u) same
-used_ok n (Err (Fault fault)) done e = cc
-used_ok n (Err NoRoom) done e = cc
+pub used_ok : (n : ℕ) (made : Result Catalogue LineFault) (old new : Catalogue) (answer : Answer) (done : Unit {0}) → IsAnswered made old answer new → numbered n answer ≡ Ok done → made ≡ Ok new
+used_ok n made old new (Ok own) done answered e = answered
+used_ok n made old new (Err (Fault fault)) done answered e = cc
+used_ok n made old new (Err NoRoom) done answered e = cc

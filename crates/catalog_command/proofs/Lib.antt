@@ -7,3 +7,5 @@ pub mod Existing
 pub mod Shelves
 pub mod ShelfSteps
 pub mod Outcomes
+pub mod Answering
+pub mod There

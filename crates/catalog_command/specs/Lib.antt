@@ -1,6 +1,8 @@
 pub mod Input
 pub mod Lines
 pub mod Unread
+pub mod Answers
+pub mod There
 pub mod Files
 pub mod Run
 pub mod Steps

@@ -3,21 +3,13 @@ use Rattle.std.specs.Prelude.{◌≡◌, Result, Err}
 use Rattle.survey_link.specs.declared.faults.LinkFault.{LinkFault}
 use Rattle.survey_link.specs.declared.faults.LinkFault.TheVariants.{Failed, OutOfMemory as NoMemory}
 use Rattle.hips_catalog.specs.Catalogue.{Catalogue}
-use Rattle.catalog_command.specs.declared.stop.LineFault.{LineFault}
 use Rattle.catalog_command.specs.declared.stop.Stop.{Stop}
 use Rattle.catalog_command.specs.declared.stop.Stop.TheVariants.{Cut, Line, ReadFault, ShelfFault, OutOfMemory}
-use Rattle.catalog_command.specs.declared.line.LineRefusal.{LineRefusal}
-use Rattle.catalog_command.specs.declared.line.LineRefusal.TheVariants.{Fault, OutOfMemory as NoRoom}
 
 -- a fault of the shelf
 abbrev pub of_link : LinkFault → Stop
 of_link Failed = ShelfFault
 of_link NoMemory = OutOfMemory
-
--- why a line wasn't used: its fault, or there was no memory
-abbrev pub TellsLine : Result Catalogue LineFault → LineRefusal → Type 0
-TellsLine made (Fault fault) = made ≡ Err fault
-TellsLine made NoRoom = Unit {0}
 
 -- why the input wasn't read: what stops it, or the source failed, or there was no memory
 abbrev pub TellsStop : Result Catalogue Stop → Stop → Type 0

@@ -7,8 +7,10 @@
 mod command;
 mod counts;
 mod found;
+pub mod laws;
 mod line;
 mod lines;
+mod many;
 mod output;
 mod progress;
 mod reading;
@@ -19,4 +21,6 @@ mod words;
 
 pub use command::run_catalog;
 pub use counts::Counts;
+pub use line::LineRefusal;
+pub use many::use_lines;
 pub use stop::{BadLine, LineFault, Stop};

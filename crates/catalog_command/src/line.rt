@@ -1,9 +1,9 @@
 //! What one line does to a catalogue.
-ghost use Rattle.std.specs.Prelude.{◌≡◌, ◌≤◌, Ok, OnOk, IfErr};
+ghost use Rattle.std.specs.Prelude.{◌≡◌, ◌≤◌, Ok};
 ghost use Rattle.healpix_nested.specs.Cells.{IsCell};
 ghost use Rattle.hips_catalog.specs.Reading.{read_row};
 ghost use Rattle.catalog_command.specs.Lines.{is_removal, after_removal, after_row, after_line};
-ghost use Rattle.catalog_command.specs.Stops.{TellsLine};
+ghost use Rattle.catalog_command.specs.Answers.{IsAnswered};
 
 use crate::stop::LineFault;
 use hips_catalog::laws::row_is_read;
@@ -13,10 +13,12 @@ use std::alloc::Global;
 // How a line begins that takes a row out.
 const REMOVAL: &[u8] = b"-\t";
 
-/// Why a line wasn't used.
+/// Why a line wasn't used. The catalogue is then as it was.
 #[derive(Clone, Copy, Debug, PartialEq, Eq)]
-pub(crate) enum LineRefusal {
+pub enum LineRefusal {
+    /// It has a fault.
     Fault(LineFault),
+    /// There was no memory.
     OutOfMemory,
 }
 
@@ -30,8 +32,7 @@ pub(crate) fn use_line(
 ) -> Result<(), LineRefusal>
     requires top { catalog.old.top ≡ top }
     requires few { top ≤ 11 }
-    ensures used { OnOk result (after_line catalog.old line.now ≡ Ok catalog.new) }
-    ensures refused { IfErr result (TellsLine (after_line catalog.old line.now)) }
+    ensures answered { IsAnswered (after_line catalog.old line.now) catalog.old result catalog.new }
     ensures top { catalog.new.top ≡ catalog.old.top }
 {
     if line.starts_with(REMOVAL) {
@@ -43,8 +44,7 @@ pub(crate) fn use_line(
 // Takes out the row of an id.
 #[tactic(auto, unfolding(crate::specs::Lines::after_removal))]
 fn remove(catalog: &mut Catalog, id: &[u8]) -> Result<(), LineRefusal>
-    ensures used { OnOk result (after_removal catalog.old id.now ≡ Ok catalog.new) }
-    ensures refused { IfErr result (TellsLine (after_removal catalog.old id.now)) }
+    ensures answered { IsAnswered (after_removal catalog.old id.now) catalog.old result catalog.new }
     ensures top { catalog.new.top ≡ catalog.old.top }
 {
     if !is_id(id) {
@@ -62,8 +62,7 @@ fn remove(catalog: &mut Catalog, id: &[u8]) -> Result<(), LineRefusal>
 fn insert(alloc: Global, catalog: &mut Catalog, top: u8, line: &[u8]) -> Result<(), LineRefusal>
     requires top { catalog.old.top ≡ top }
     requires few { top ≤ 11 }
-    ensures used { OnOk result (after_row catalog.old (read_row catalog.old.top line.now) ≡ Ok catalog.new) }
-    ensures refused { IfErr result (TellsLine (after_row catalog.old (read_row catalog.old.top line.now))) }
+    ensures answered { IsAnswered (after_row catalog.old (read_row catalog.old.top line.now)) catalog.old result catalog.new }
     ensures top { catalog.new.top ≡ catalog.old.top }
 {
     // For the prover: the cell of a row that is read is of the deepest order.
@@ -79,8 +78,7 @@ fn insert(alloc: Global, catalog: &mut Catalog, top: u8, line: &[u8]) -> Result<
 #[tactic(auto, unfolding(crate::specs::Lines::after_row))]
 fn put_in(catalog: &mut Catalog, row: Row) -> Result<(), LineRefusal>
     requires cell { IsCell catalog.old.top row.npix }
-    ensures used { OnOk result (after_row catalog.old (Ok row) ≡ Ok catalog.new) }
-    ensures refused { IfErr result (TellsLine (after_row catalog.old (Ok row))) }
+    ensures answered { IsAnswered (after_row catalog.old (Ok row)) catalog.old result catalog.new }
     ensures top { catalog.new.top ≡ catalog.old.top }
 {
     match catalog.insert(row) {

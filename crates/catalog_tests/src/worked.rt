@@ -3,9 +3,10 @@ ghost use Rattle.std.specs.Prelude.{◌≡◌, ◌≤◌};
 
 use crate::plain::Plain;
 use crate::rows::{Outcome, put, put_line};
+use catalog_command::{LineRefusal, use_lines};
 use healpix_nested::Cell;
 use hips_catalog::{Catalog, InsertRefusal};
-use std::alloc::Global;
+use std::alloc::{AllocError, Global};
 use std::test::Fail;
 
 // Whether the tile's text is this one, empty where it has none.
@@ -64,6 +65,36 @@ fn tiles_are_texts(rt: HostRuntime) -> Result<(), Fail> {
     assert!(&rt; take_id(&mut catalog, 1, b"a")? && !take_id(&mut catalog, 1, b"a")?);
     assert!(&rt; has_text(&catalog, 0, 0, b"rank\tnpix\tid\trest\n7\t0\tb\tthe last\n")?);
     assert!(&rt; has_text(&catalog, 1, 0, b"")? && catalog.len() == 2);
+    Ok(())
+}
+
+// The lines of a text.
+fn lines_of(alloc: Global, text: &[u8]) -> Result<Vec<Vec<u8>>, AllocError> {
+    let mut lines = Vec::new(alloc);
+    for line in text.split(|byte| *byte == b'\n') {
+        lines.push(Vec::from_slice(alloc, line)?)?;
+    }
+    Ok(lines)
+}
+
+// The kind of the fault for which a line wasn't used; 0 where it was.
+fn kind(answer: &Result<(), LineRefusal>) -> u8 {
+    match answer {
+        Ok(()) => 0,
+        Err(LineRefusal::Fault(fault)) => fault.kind(),
+        Err(LineRefusal::OutOfMemory) => 255,
+    }
+}
+
+#[test]
+fn refused_lines_change_nothing(rt: HostRuntime) -> Result<(), Fail> {
+    let alloc = rt.alloc();
+    let mut catalog = Catalog::new(alloc, 1, 1);
+    let text = b"5\t0\ta\t\n7\t1\n5\t0\ta\t\n-\tb\n7\t1\tb\t\n8\t0\tc\t\n-\ta";
+    let answers = use_lines(alloc, &mut catalog, 1, &lines_of(alloc, text)?)?;
+    assert!(&rt; answers.iter().map(kind).eq([0, 1, 7, 9, 0, 0, 0]));
+    assert!(&rt; has_text(&catalog, 0, 0, b"rank\tnpix\tid\trest\n7\t1\tb\t\n")?);
+    assert!(&rt; has_text(&catalog, 1, 0, b"rank\tnpix\tid\trest\n8\t0\tc\t\n")? && catalog.len() == 2);
     Ok(())
 }
 

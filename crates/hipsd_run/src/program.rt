@@ -143,17 +143,10 @@ where
         (connection_of S.Source K.Sink source.old sink.old) (connection_of S.Source K.Sink source.new sink.new) }
     ensures past_unread { (cache : ℕ) → Asks (texts words.now) (Past cache) → (result ≡ 2) ⊎ (result ≡ 3) → source.new ≡ source.old }
 
-<<<<<<< HEAD
-    // A catalogue, where the proof can see the source's input.
-    ensures catalog { (top : ℕ) (per_tile : ℕ) (input : List ℕ) → Asks (texts words.now) (Catalog top per_tile) → S.left source.old ≡ Some input
-        → RunsCatalog top per_tile input (H.files shelf.old) (H.files shelf.new) result
-        (K.held sink.old) (K.held sink.new) (K.flushed sink.old) (K.flushed sink.new) }
-=======
-    // A catalogue, whatever the source tells.
+    // A catalogue, over any source.
     ensures catalog { (top : ℕ) (per_tile : ℕ) → Asks (texts words.now) (Catalog top per_tile)
         → OfInput (λ input. RunsCatalog top per_tile input (H.files shelf.old) (H.files shelf.new) result
         (K.held sink.old) (K.held sink.new) (K.flushed sink.old) (K.flushed sink.new)) (S.left source.old) (S.left source.new) }
->>>>>>> 7323299 (catalog: one clause over any source)
     ensures catalog_end { (top : ℕ) (per_tile : ℕ) → Asks (texts words.now) (Catalog top per_tile)
         → result ≡ 0 → IsAtEnd (S.left source.new) }
 

@@ -2,6 +2,7 @@ use Rattle.std.proofs.Common.{◌≡◌, subst}
 use Rattle.std.proofs.lemmas.Result.{err_from_is_err_and}
 use Rattle.catalog_command.specs.declared.stop.Stop.TheVariants.{ShelfFault}
 use Rattle.catalog_command.specs.Stops.{IsReading}
+use Rattle.catalog_command.proofs.Outcomes.{nothing_read}
 use Rattle.catalog_command.proofs.command.put_catalog.Goals as goal
 
 pub returns-in_err-catalog-clause-shelf_fault : goal.returns-in_err-catalog-clause-shelf_fault
@@ -9,3 +10,10 @@ returns-in_err-catalog-clause-shelf_fault g c = λ e.
     let p = err_from_is_err_and c.from_residual.result c.from_residual.ensures.1 in
     let same : c.in_err-catalog.field-0.0 ≡ ShelfFault = cc (p.1, p.2, e) in
     absurd (subst IsReading same c.in_err-catalog.ensures.kinds)
+
+pub returns-in_err-catalog-clause-outcome : goal.returns-in_err-catalog-clause-outcome
+returns-in_err-catalog-clause-outcome g c =
+    let p = err_from_is_err_and c.from_residual.result c.from_residual.ensures.1 in
+    let files = g.H.Shelf.files c.args.shelf.now in
+    let is = nothing_read c.args.top c.args.per_tile (g.S.Source.left c.args.source.now) (g.S.Source.left c.read_catalog.new.source) files files c.in_err-catalog.field-0.0 c.in_err-catalog.ensures.stopped in
+    rw (p.1, p.2) is

@@ -1,4 +1,4 @@
-use Rattle.std.proofs.Common.{◌∙◌, ap, sym, subst}
+use Rattle.std.proofs.Common.{◌∙◌, refl, ap, sym, subst}
 use Rattle.healpix_nested.specs.Cells.{IsCell}
 use Rattle.hips_catalog.specs.Reading.{read_row}
 use Rattle.catalog_command.specs.Lines.{after_row}
@@ -10,8 +10,8 @@ put_in-requires c = record {
       ((c.row_is_read.ensures c.args.top c.requires.few).read c.args.line.now c.in-Ok.row c.in-Ok.ensures.read).1.npix;
 }
 
-pub returns-in-Err-Fault-clause-refused : goal.returns-in-Err-Fault-clause-refused
+pub returns-in-Err-Fault-clause-answered : goal.returns-in-Err-Fault-clause-answered
 unfolding after_row
-returns-in-Err-Fault-clause-refused c =
+returns-in-Err-Fault-clause-answered c =
     let why = rw c.in-Err-Fault.field-0-is at c.in-Err-Fault.ensures.refused in
-    ap (λ top. after_row c.args.catalog.now (read_row top c.args.line.now)) c.requires.top ∙ ap (after_row c.args.catalog.now) why
+    (ap (λ top. after_row c.args.catalog.now (read_row top c.args.line.now)) c.requires.top ∙ ap (after_row c.args.catalog.now) why, refl)

@@ -1,9 +1,10 @@
 use Rattle.std.proofs.Common.{◌≡◌, ◌+◌, ◌++◌, take, drop, Ok, sym, ap, ◌∙◌, subst, append_assoc}
-use Rattle.std.proofs.lemmas.Result.{err_from_is_err_and, IfErr-at_err, IfOk-at_ok}
+use Rattle.std.proofs.lemmas.Result.{err_from_is_err_and}
 use Rattle.hips_catalog.specs.Catalogue.{Catalogue}
 use Rattle.catalog_command.specs.Lines.{after_line, after_input, then_lines}
 use Rattle.survey_link.specs.Inbox.{held}
-use Rattle.catalog_command.specs.Stops.{TellsLine, TellsStop}
+use Rattle.catalog_command.specs.Stops.{TellsStop}
+use Rattle.catalog_command.specs.Answers.{IsAnswered}
 use Rattle.catalog_command.proofs.Inputs.{of_received}
 use Rattle.catalog_command.proofs.Judged.{ends, stops, is_next, used_stop, used_ok}
 use Rattle.catalog_command.proofs.reading.take_line.Goals as goal
@@ -29,13 +30,13 @@ returns-in_err-used-in-Some-clause-stopped g c =
     let bytes = held c.find.new.inbox in
     let count = c.in-Some.count in
     let line : take count c.held.result.now ≡ take count bytes = ap (take count) c.held.ensures in
+    let answered = subst (λ text. IsAnswered (after_line c.args.catalog.now text) c.args.catalog.now c.use_line.result c.use_line.new.catalog) line c.use_line.ensures.answered in
     let tells = of_received (λ input. TellsStop (after_input c.args.catalog.now c.args.number input) c.in_err-used-in-Some.field-0.0) (held c.args.inbox.now) bytes
     (g.S.Source.left c.args.source.now) (g.S.Source.left c.find.new.source) c.in_ok-found.ensures.received
-    (λ more _. used_stop c.args.number (after_line c.args.catalog.now (take count bytes)) (λ d. after_input d (c.args.number + 1) (drop (count + 1) bytes ++ more)) c.use_line.result
-    c.in_err-used-in-Some.field-0.0 (after_input c.args.catalog.now c.args.number (bytes ++ more))
+    (λ more _. used_stop c.args.number (after_line c.args.catalog.now (take count bytes)) (λ d. after_input d (c.args.number + 1) (drop (count + 1) bytes ++ more)) c.args.catalog.now
+    c.use_line.new.catalog c.use_line.result c.in_err-used-in-Some.field-0.0 (after_input c.args.catalog.now c.args.number (bytes ++ more))
     (is_next c.args.catalog.now c.args.number c.in_ok-found.found bytes (g.S.Source.left c.find.new.source) count (sym c.in_ok-judged.ensures.judged ∙ ap Ok c.in-Some.is) c.in_ok-found.ensures.found more)
-    (λ refusal e. subst (λ text. TellsLine (after_line c.args.catalog.now text) refusal) line (IfErr-at_err (TellsLine (after_line c.args.catalog.now (take count c.held.result.now))) e c.use_line.ensures.refused))
-    (sym c.in_err-used-in-Some.ensures.numbered)) in
+    answered (sym c.in_err-used-in-Some.ensures.numbered)) in
     rw (p.1, p.2) tells
 
 pub returns-in_ok-used-in-Some-clause-taken : goal.returns-in_ok-used-in-Some-clause-taken
@@ -44,8 +45,8 @@ returns-in_ok-used-in-Some-clause-taken g c = λ _.
     let count = c.in-Some.count in
     let got = c.in_ok-found.ensures.received in
     let line : take count bytes ≡ take count c.held.result.now = sym (ap (take count) c.held.ensures) in
-    let went = used_ok c.args.number c.use_line.result c.in_ok-used-in-Some.field-0 (sym c.in_ok-used-in-Some.ensures.numbered) in
-    let made = IfOk-at_ok (λ _. after_line c.args.catalog.now (take count c.held.result.now) ≡ Ok c.use_line.new.catalog) went c.use_line.ensures.used in
+    let made = used_ok c.args.number (after_line c.args.catalog.now (take count c.held.result.now)) c.args.catalog.now c.use_line.new.catalog c.use_line.result c.in_ok-used-in-Some.field-0
+    c.use_line.ensures.answered (sym c.in_ok-used-in-Some.ensures.numbered) in
     record {
       came = got.came;
       consumed = got.consumed;
