@@ -867,7 +867,7 @@ service() {
     systemd-analyze verify --man=no "$1" >"$folder/body" 2>&1 || blame "systemd-analyze verify: $(cat "$folder/body")"
     [ -s "$folder/body" ] && blame "systemd-analyze verify: $(cat "$folder/body")"
     exposure=$(systemd-analyze security --offline=true "$1" 2>/dev/null | sed -n 's/.*exposure level for .*: \([0-9]*\)\.\([0-9]\).*/\1\2/p')
-    [ "${exposure:-100}" -le 11 ] || blame "systemd-analyze security: ${exposure:-nothing} tenths in place of 11"
+    [ "${exposure:-100}" -le 8 ] || blame "systemd-analyze security: ${exposure:-nothing} tenths in place of 8"
     grep -q '^RestartPreventExitStatus=1 2 3 8$' "$1" || blame "the service starts again where its folder or its address is wrong"
     for limit in TasksMax= MemoryMax=70% MemorySwapMax=0 SocketBindDeny=any RestrictAddressFamilies=AF_UNIX; do grep -q "^$limit" "$1" || blame "the service has no $limit"; done
     grep -q '^SocketBindAllow=tcp:8080-8081$' "$examples/hipsd.tcp.conf" || blame "a server at a port may listen at others"

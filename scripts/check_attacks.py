@@ -11,6 +11,8 @@ import gzip
 import http.client
 import os
 import random
+import re
+import select
 import shutil
 import socket
 import ssl
@@ -461,7 +463,7 @@ class Readers(Attack):
             ("over 64 fields", asks(*(b"X-%d: 1" % i for i in range(80)))),
             ("over 8,192 bytes", asks(*(b"X-%d: " % i + b"x" * 4500 for i in range(2)))),
             ("a control character", asks(b"X-Odd: \x01\x02")),
-            ("a long query", asks(path=lambda: b"/survey/properties?" + b"q" * 8145)),
+            ("a long query", asks(path=lambda: (random_leaf() + b"?").ljust(8176, b"q"))),
             ("a long path", asks(path=lambda: b"/survey/" + b"p" * 8165)),
             ("bytes that are spelled longer", asks(path=lambda: b"/survey/" + b"\xff" * 3000)),
             ("a condition", asks(b'If-Match: "x"', path=lambda: b"/survey/properties")),
@@ -477,8 +479,10 @@ class Readers(Attack):
                     self.assertEqual(set(codes), {"412"})
 
     def test_random_misses(self):
-        """Paths of tiles that aren't there."""
-        self.attack("random misses", 2, asks(), 100)
+        """Paths of tiles that aren't there. Of one address 500 a second are answered."""
+        begun = time.monotonic()
+        codes = self.attack("random misses", 2, asks(), 100)
+        self.assertLess(codes.total(), 500 * (time.monotonic() - begun) + 100)
         cached = self.proxy.cached()
         print(f"random misses: {cached} files in the cache", flush=True)
         self.assertLess(cached, 100, "misses fill the cache")
@@ -487,6 +491,20 @@ class Readers(Attack):
         """Many requests at the same moment, each from a connection of its own: those that go on at once share connections."""
         codes = self.attack("bursts", 2, asks(), 1000, threads=24, at_once=2, sources=8)
         self.assertLess(codes["503"], codes["404"] / 10, "many are told that the server is away")
+
+    def test_burst_of_one_address(self):
+        """Eight of its requests go on at once, and the others wait: hipsd has connections left for others."""
+        before, codes = self.server.taken(), Counter()
+        for _ in range(3):
+            held = [socket.create_connection(("127.0.0.1", self.proxy.port), source_address=("127.0.0.2", 0)) for _ in range(120)]
+            for one in held:
+                one.sendall(asks()(b"close"))
+            for one in held:
+                codes[one.makefile("rb").read(12)] += 1
+                one.close()
+            time.sleep(1)
+        self.assertEqual(codes, {b"HTTP/1.1 404": 360})
+        self.assertLess(self.server.taken() - before, 60)
 
     def test_readers_who_leave(self):
         """nginx would close its connection to hipsd with theirs."""
@@ -531,14 +549,13 @@ class Readers(Attack):
             one = socket.create_connection(("127.0.0.1", self.proxy.port), source_address=("127.0.0.2", 0))
             one.sendall(b"GET /survey/properties HTTP/1.1\r\nHost: x\r\nContent-Length: 1\r\n\r\n")
             held.append(one)
-        time.sleep(2)
         answered = Counter()
-        for one in held:
-            one.setblocking(False)
-            try:
+        until = time.monotonic() + 5
+        while answered.total() < 32 and time.monotonic() < until:
+            for one in select.select(held, [], [], 1)[0]:
                 answered[one.recv(12)] += 1
-            except BlockingIOError:
-                pass
+                one.close()
+                held.remove(one)
         self.assertEqual(self.proxy.ask("GET", "/survey/properties", password=None)[0], 200)
         for one in held:
             one.close()
@@ -615,19 +632,25 @@ class Editors(Attack):
                 (self.folder / name).unlink()
         self.assertEqual(self.proxy.ask("POST", "/edit/publish", tls=True)[0], 200)
 
+    def logged(self, line):
+        """Waits for the line: nginx writes it after the reply."""
+        for _ in range(100):
+            log = (self.proxy.folder / "hipsd-edit.log").read_text()
+            if re.search(line, log, re.M):
+                return
+            time.sleep(0.05)
+        self.fail(f"no {line} in: {log}")
+
     def test_who_edited(self):
         """A log of its own has each edit and each guess, with its user and the number that it was answered."""
         self.proxy.ask("POST", "/edit/publish", tls=True)
         self.proxy.ask("POST", "/edit/publish", tls=True, password="wrong")
-        time.sleep(0.1)
-        log = (self.proxy.folder / "hipsd-edit.log").read_text()
-        self.assertRegex(log, r'(?m)^[0-9T:+-]+ 127\.0\.0\.1 "editor" "POST /edit/publish HTTP/1\.1" 200 .* published=\d+$')
-        self.assertRegex(log, r'(?m) "editor" "POST /edit/publish HTTP/1\.1" 401 ')
+        self.logged(r'^[0-9T:+-]+ 127\.0\.0\.1 "editor" "POST /edit/publish HTTP/1\.1" 200 .* published=\d+$')
+        self.logged(r' "editor" "POST /edit/publish HTTP/1\.1" 401 ')
         self.server.end()
         self.assertEqual(self.proxy.ask("POST", "/edit/publish", tls=True)[0], 502)
         type(self).server = Server(self.folder, port=self.server.port)
-        time.sleep(0.1)
-        self.assertIn('"editor" "POST /edit/publish HTTP/1.1" 502 ', (self.proxy.folder / "hipsd-edit.log").read_text())
+        self.logged(r' "editor" "POST /edit/publish HTTP/1\.1" 502 ')
 
     def test_types_are_as_they_are_said(self):
         for path in ("/survey/properties", "/survey/nothing", f"/survey/{LEAF}", "/edit/properties", "/edit/pin"):
