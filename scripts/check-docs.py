@@ -1,7 +1,10 @@
 #!/usr/bin/env python3
-"""Looks through the documents for what no longer is: dead links, and names of files, functions, types and clauses that are gone. It
-counts the words of each page that has a limit, and looks whether docs/PROVED.md names each ported crate that the program stands on,
-and each `unsafe`. Prints a line for each fault; the status is 1 if there is one.
+"""Looks through the documents for what no longer is: dead links, names of files, functions, types and clauses that are gone, and texts
+that the program no longer logs. It counts the words of each page that has a limit, and looks whether docs/PROVED.md names each ported
+crate that the program stands on, and each `unsafe`. Prints a line for each fault; the status is 1 if there is one.
+
+A text of the log is quoted as: a warning `TEXT`, an error `TEXT`, or, of `info`, a line of the log `TEXT`. Numbers and single capital letters in it
+stand for what the program puts there, `..` for any words; its end may be left out.
 """
 
 import re
@@ -35,6 +38,11 @@ PAGES_OF_CLAIMS = {"docs/HEADLINE.md", "docs/PROVED.md"}
 PAGES_ON_SOURCES = PAGES_OF_CLAIMS | {"docs/ARCHITECTURE.md", "docs/DEFINITIONS.md"}
 OTHERS_NAMES = set("abbrev unfoldable record result unsafe Model Wait IfSome OnErr write_vectored astropy fitsverify healpy".split())
 DEFINED = re.compile(r"^ *(?:(?:abbrev|unfoldable) (?:pub )?|pub record |pub data )(\S+)", re.M)
+LEVELS = {"a warning": "warn", "an error": "error", "a line of the log": "info"}
+QUOTED = re.compile(rf"\b({'|'.join(LEVELS)}) `([^`]+)`")
+# A call of the log with its text, and the text of an error, which such a call may show.
+LOGGED = re.compile(r'\b(error|warn|info)!\(\s*rt;\s*"((?:[^"\\]|\\.)*)"|#\[(error)\("((?:[^"\\]|\\.)*)"')
+FILLED_IN = re.compile(r"\{[^{}]*\}|\b(?:[0-9]+|[A-Z])\b")
 ITEM = re.compile(r"([A-Za-z_]\w*)::(?:<.*>::)?([A-Za-z_]\w*)(?:\(.*\))?")
 
 
@@ -75,6 +83,28 @@ def names_of_clauses(paths):
                 for name in re.findall(r"^pub record (\w+)", paragraph, flags=re.M):
                     clauses.setdefault(name, set()).update(re.findall(r"^ +pub (\w+) :", paragraph, flags=re.M))
     return clauses
+
+
+def log_texts(paths):
+    """Returns the texts of each level, with a mark where the program fills something in."""
+    texts = {level: set() for level in LEVELS.values()}
+    for path in paths:
+        if path.endswith(".rt"):
+            for level, text, error, why in LOGGED.findall((ROOT / path).read_text()):
+                texts[level or error].add(FILLED_IN.sub("#", text or why))
+    return texts
+
+
+def is_logged(quoted, text):
+    """Returns whether this is how the text begins, but for the words that are left out."""
+    pieces = [re.escape(FILLED_IN.sub("#", piece.strip())) for piece in quoted.split("..")]
+    return re.match(".*".join(pieces), text)
+
+
+def log_faults(prose, texts):
+    for words, quoted in QUOTED.findall(prose):
+        if not any(is_logged(quoted, text) for text in texts[LEVELS[words]]):
+            yield f"the program doesn't log {words} `{quoted}`"
 
 
 def crates():
@@ -132,7 +162,7 @@ def link_faults(document, prose):
             yield f"the page of the link {link}#{anchor} has no such heading"
 
 
-def faults_of(document, paths, declared, owners, clauses, names):
+def faults_of(document, paths, texts, declared, owners, clauses, names):
     text = (ROOT / document).read_text()
     words = len(text.split())
     if words > MOST_WORDS.get(document, words):
@@ -141,6 +171,7 @@ def faults_of(document, paths, declared, owners, clauses, names):
         return
     prose = without_blocks(text)
     yield from link_faults(document, prose)
+    yield from log_faults(prose, texts)
     if document in PAGES_OF_CLAIMS:
         yield from clause_faults(prose, clauses)
     if document == "docs/PROVED.md":
@@ -162,9 +193,10 @@ def main():
     declared, owners = names_in_code(paths)
     clauses = names_of_clauses(paths)
     names = all_names(paths, declared, owners, clauses)
+    texts = log_texts(paths)
     found = 0
     for document in sorted(path for path in paths if path.endswith(".md") or path in MOST_WORDS):
-        for fault in faults_of(document, paths, declared, owners, clauses, names):
+        for fault in faults_of(document, paths, texts, declared, owners, clauses, names):
             found += 1
             print(f"{document}: {fault}")
     print(f"documents: {found} faults")
