@@ -3,8 +3,8 @@
 that the program no longer logs. It counts the words of each page that has a limit, and looks whether docs/PROVED.md names each ported
 crate that the program stands on, and each `unsafe`. Prints a line for each fault; the status is 1 if there is one.
 
-A text of the log is quoted as: a warning `TEXT`, an error `TEXT`, or, of `info`, a line of the log `TEXT`. Numbers and single capital letters in it
-stand for what the program puts there, `..` for any words; its end may be left out.
+A text of the log is quoted as: a warning `TEXT`, an error `TEXT`, or, of `info`, a line of the log `TEXT`. Numbers and single capital
+letters in it stand for what the program puts there, `..` for any words; its end may be left out.
 """
 
 import re

@@ -1,8 +1,9 @@
 #!/usr/bin/env python3
 """Fills docs/HEADLINE.md with the definitions and clauses that it names, word for word from their files.
 
-A line `<!-- FILE: NAME NAME .. -->` stands before each block of code. The page ends with a table of the definitions of this
-repository that a quoted one uses and that aren't quoted: a file in bold, then a row `- NAME: SENTENCE` for each of its names.
+Before each block of code stands a line with its file in code, a colon and the names, with commas between them. The page ends with a
+table of the definitions of this repository that a quoted one uses and that aren't quoted: a file in bold, then a row
+`- NAME: SENTENCE` for each of its names.
 
 With --check nothing is written, and these are faults: a block that differs from its file, a definition that is used and neither
 quoted nor in the table, a row of the table that nothing uses, and a count in docs/PROVED.md that is a tenth or more off.
@@ -18,7 +19,7 @@ from pathlib import Path
 ROOT = Path(__file__).resolve().parent.parent
 HEADLINE = ROOT / "docs" / "HEADLINE.md"
 PROVED = ROOT / "docs" / "PROVED.md"
-QUOTE = re.compile(r"(<!-- (\S+): ([^>]+?) -->\n)```\n.*?```\n", re.S)
+QUOTE = re.compile(r"^(`(\S+)`: (.+)\n)```\n(?:.*\n)*?```\n", re.M)
 TABLE = "\n## What they use\n"
 ROW = re.compile(r"^- `([^`]+)`: .+$|^\*\*`([^`]+)`\*\*$", re.M)
 # The traits of the ends and of boards, whose members the clauses name without an import.
@@ -121,11 +122,11 @@ def used(part, names):
 
 def filled(quote):
     heading, file, names = quote.groups()
-    return heading + "```\n" + "\n\n".join(quoted(file, name) for name in names.split()) + "\n```\n"
+    return heading + "```\n" + "\n\n".join(quoted(file, name) for name in names.split(", ")) + "\n```\n"
 
 
 def quotations(text):
-    return [(file, name) for _, file, names in QUOTE.findall(text) for name in names.split()]
+    return [(file, name) for _, file, names in QUOTE.findall(text) for name in names.split(", ")]
 
 
 def table(text):
