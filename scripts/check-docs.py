@@ -40,8 +40,9 @@ OTHERS_NAMES = set("abbrev unfoldable record result unsafe Model Wait IfSome OnE
 DEFINED = re.compile(r"^ *(?:(?:abbrev|unfoldable) (?:pub )?|pub record |pub data )(\S+)", re.M)
 LEVELS = {"a warning": "warn", "an error": "error", "a line of the log": "info"}
 QUOTED = re.compile(rf"\b({'|'.join(LEVELS)}) `([^`]+)`")
-# A call of the log with its text, and the text of an error, which such a call may show.
-LOGGED = re.compile(r'\b(error|warn|info)!\(\s*rt;\s*"((?:[^"\\]|\\.)*)"|#\[(error)\("((?:[^"\\]|\\.)*)"')
+# A call of the log with its level and text, and the text of an error.
+LOGGED = re.compile(r'\b(error|warn|info)!\(\s*rt;\s*"((?:[^"\\]|\\.)*)"')
+ERROR = re.compile(r'#\[error\("((?:[^"\\]|\\.)*)"')
 FILLED_IN = re.compile(r"\{[^{}]*\}|\b(?:[0-9]+|[A-Z])\b")
 ITEM = re.compile(r"([A-Za-z_]\w*)::(?:<.*>::)?([A-Za-z_]\w*)(?:\(.*\))?")
 
@@ -87,12 +88,18 @@ def names_of_clauses(paths):
 
 def log_texts(paths):
     """Returns the texts of each level, with a mark where the program fills something in."""
-    texts = {level: set() for level in LEVELS.values()}
+    texts, errors = {level: set() for level in LEVELS.values()}, set()
     for path in paths:
         if path.endswith(".rt"):
-            for level, text, error, why in LOGGED.findall((ROOT / path).read_text()):
-                texts[level or error].add(FILLED_IN.sub("#", text or why))
-    return texts
+            source = (ROOT / path).read_text()
+            errors.update(FILLED_IN.sub("#", text) for text in ERROR.findall(source))
+            for level, text in LOGGED.findall(source):
+                texts[level].add(FILLED_IN.sub("#", text))
+    # A text may end with that of an error.
+    return {
+        level: all_texts | {text[:-1] + error for text in all_texts if text.endswith("#") for error in errors}
+        for level, all_texts in texts.items()
+    }
 
 
 def is_logged(quoted, text):
