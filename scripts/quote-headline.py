@@ -5,8 +5,8 @@ Before each block of code stands a line with its file in code, a colon and the n
 table of the definitions of this repository that a quoted one uses and that aren't quoted: a file in bold, then a row
 `- NAME: SENTENCE` for each of its names.
 
-With --check nothing is written, and these are faults: a block that differs from its file, a definition that is used and neither
-quoted nor in the table, a row of the table that nothing uses, and a count in docs/PROVED.md that is a tenth or more off.
+With --check nothing is written, and these are faults: a block that differs from its file or names none, a definition that is used
+and neither quoted nor in the table, a row of the table that nothing uses, and a count in docs/PROVED.md that is a tenth or more off.
 
 With --count it prints how many lines a reader has to read who follows the definitions to their ends, and in which files; and how
 many lines the real ends have, of whose bytes no clause speaks. Comments and empty lines don't count.
@@ -140,6 +140,8 @@ def table(text):
 
 
 def faults_of(text):
+    if len(re.findall(r"^```", text, re.M)) != 2 * len(QUOTE.findall(text)):
+        yield "a block of code has no line with its file and names above it"
     here, cited = quotations(text), {}
     for file, name in here:
         for target in used(quoted(file, name), meanings(file)):
