@@ -845,7 +845,7 @@ SHELL
 
 # levels: what names none is said, and nothing is said at `off`.
 levels() {
-    HIPSD_LOG=loud says 1 'HIPSD_LOG = "loud": off, error, warn, info, debug or trace' --version
+    HIPSD_LOG=loud says 1 'HIPSD_LOG = "loud" is none of off, error, warn, info, debug and trace' --version
     HIPSD_LOG=off says 8 '' serve nowhere.invalid:1 1 1
     [ -s "$folder/said" ] && blame "at off it says $(cat "$folder/said")"
 }

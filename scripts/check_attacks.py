@@ -9,6 +9,7 @@ test whose tool isn't installed fails if CI=true, and is skipped otherwise.
 import base64
 import gzip
 import http.client
+import multiprocessing
 import os
 import random
 import re
@@ -334,18 +335,21 @@ class Proxy:
         self.process.communicate()
 
 
-class Reader(threading.Thread):
-    """Reads on until it is ended, on one connection: what it was answered, and how long it took."""
+class Reader:
+    """Reads on until it is ended, on one connection: what it was answered, and how long it took. In a process of its own, since the threads
+    of the attackers hold up one another."""
 
     def __init__(self, port):
-        super().__init__(daemon=True)
-        self.port, self.ended = port, threading.Event()
-        self.answers, self.times = Counter(), []
-        self.start()
+        several = multiprocessing.get_context("fork")
+        self.told, tells = several.Pipe()
+        self.process = several.Process(target=self.run, args=(port, tells), daemon=True)
+        self.process.start()
 
-    def run(self):
-        connection = http.client.HTTPConnection("127.0.0.1", self.port, timeout=20)
-        while not self.ended.wait(0.02):
+    @staticmethod
+    def run(port, tells):
+        answers, times = Counter(), []
+        connection = http.client.HTTPConnection("127.0.0.1", port, timeout=20)
+        while not tells.poll(0.02):
             began = time.monotonic()
             try:
                 connection.request("GET", "/survey/properties")
@@ -355,14 +359,15 @@ class Reader(threading.Thread):
             except (OSError, http.client.HTTPException) as fault:
                 connection.close()
                 answer = type(fault).__name__
-            self.answers[answer] += 1
-            self.times.append((time.monotonic() - began) * 1000)
+            answers[answer] += 1
+            times.append((time.monotonic() - began) * 1000)
         connection.close()
+        tells.send((answers, times))
 
     def end(self):
-        self.ended.set()
-        self.join()
-        return self
+        self.told.send(None)
+        self.answers, self.times = self.told.recv()
+        self.process.join()
 
 
 def flood(port, seconds, request, threads=4, at_once=20, sources=1, first=2):
