@@ -1,8 +1,7 @@
 -- The files that the leaves decide, and what the peer sent of them.
-use Rattle.std.proofs.Common.{◌≡◌, ◌≢◌, ◌⊎◌, inl, inr, ℕ, ◌+◌, ◌<◌, ◌^◌, Bool, List, [], ◌∷◌, Option, Some, None, Result, Ok, Err, refl, sym, ap, ◌∙◌, subst, arith, length}
-use Rattle.std.specs.Prelude.{All, IfSome, IfOk, IfErr, OnOk, IsTrue, ◌↔◌}
+use Rattle.std.proofs.Common.{◌≡◌, ◌≢◌, ℕ, ◌<◌, ◌^◌, Bool, List, [], ◌∷◌, Option, Some, sym, ap, ◌∙◌, arith, length}
+use Rattle.std.specs.Prelude.{All, IsTrue, ◌↔◌}
 use Rattle.std.specs.Option.{option_eq}
-use Rattle.generation.specs.Generation.{GenerationContent}
 use Rattle.std.specs.Map.{keys_of}
 use Rattle.std.specs.FinMap.{get}
 use Rattle.std.specs.Str.{bytes_eq}
@@ -17,19 +16,8 @@ use Rattle.tile_path.specs.declared.path.Path.TheVariants as path
 use Rattle.edit_journal.specs.Leaves.{LeafTiles}
 use Rattle.generation.specs.Files.{leaf_map, file_of, files}
 use Rattle.generation.proofs.FileLemmas.{file_there}
-use Rattle.std.specs.Io.KnownBytes.{Appends}
-use Rattle.std.proofs.KnownBytes.{Appends-nil}
-use Rattle.std.proofs.lemmas.List.{append-nil}
-use Rattle.mirror_frame.specs.Requests.{request_bytes, mosaic_asks}
-use Rattle.mirror_frame.specs.declared.ask.Ask.TheVariants.{File}
-use Rattle.mirror_frame.specs.Reply.{IsReply}
-use Rattle.mirror_frame.specs.declared.due.Due.TheVariants.{Survey}
-use Rattle.hips_mirror.specs.declared.refusal.MirrorRefusal.{MirrorRefusal}
-use Rattle.hips_mirror.specs.declared.refusal.MirrorRefusal.TheVariants.{Differs, OutOfMemory}
-use Rattle.hips_mirror.specs.Mirror.{IsMosaicReply, WrongMosaic, RefusesReply, RefusesFiles}
-use Rattle.hips_mirror.specs.Stages.{Counts, RefusedBy}
+use Rattle.hips_mirror.specs.Stages.{Counts}
 use Rattle.hips_mirror.proofs.LeavesLemmas.{map_length}
-use Rattle.hips_mirror.proofs.ToldLemmas.{told_so, some_so, body_refused}
 
 -- the mosaic is a file where there is a leaf
 pub mosaic_there : (d : Description) (leaves : LeafMap) → IsShape d.shape.top d.shape.low d.shape.n → All (λ leaf. leaf < cell_count d.shape.top) (keys_of leaves) → SpellingsDiffer

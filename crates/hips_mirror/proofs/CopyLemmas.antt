@@ -1,6 +1,6 @@
 -- The stages of a copy: which bytes each leads over, and why one stops there.
-use Rattle.std.proofs.Common.{◌≡◌, ◌⊎◌, inl, inr, Bool, ℕ, ◌+◌, ◌<◌, ◌≤◌, ◌^◌, true, false, List, [], ◌∷◌, ◌++◌, Option, Some, None, zero, suc, refl, sym, ap, ◌∙◌, subst, arith, length, map, append_assoc}
-use Rattle.std.specs.Prelude.{◌≢◌, ◌||◌, nat_lt, if◌then◌else◌, IfSome}
+use Rattle.std.proofs.Common.{◌≡◌, ◌⊎◌, inl, inr, Bool, ℕ, ◌+◌, ◌<◌, ◌≤◌, ◌^◌, true, false, List, [], ◌∷◌, ◌++◌, Option, Some, zero, suc, refl, sym, ap, ◌∙◌, subst, arith, length, map, append_assoc}
+use Rattle.std.specs.Prelude.{◌≢◌, ◌||◌, nat_lt, if◌then◌else◌}
 use Rattle.std.proofs.lemmas.Bool.Decides.{nat_tests}
 use Rattle.std.specs.Map.{keys_of}
 use Rattle.std.proofs.lemmas.Map.Entries.{length-keys_of}
@@ -12,22 +12,22 @@ use Rattle.tile_path.specs.declared.path.Path.TheVariants as path
 use Rattle.edit_journal.specs.Leaves.{LeafTiles}
 use Rattle.generation.specs.Files.{leaf_map, file_of}
 use Rattle.generation.specs.Generation.{GenerationContent}
-use Rattle.mirror_frame.specs.Requests.{asks, leaf_ask, mosaic_asks, later_asks}
+use Rattle.mirror_frame.specs.Requests.{asks, leaf_ask, mosaic_asks}
 use Rattle.mirror_frame.specs.Reply.{IsReply, pinned_line}
 use Rattle.mirror_frame.specs.declared.ask.Ask.{Ask}
 use Rattle.mirror_frame.specs.declared.ask.Ask.TheVariants.{Pin, File, Unpin}
 use Rattle.mirror_frame.specs.declared.due.Due.TheVariants.{Pinned, Survey, Any}
 use Rattle.mirror_frame.specs.declared.peer.Peer.{Peer}
 use Rattle.mirror_frame.specs.Exchange.{IsExchanged}
-use Rattle.mirror_frame.specs.Peer.{talk, body_of, unread_at, Goes, Told}
+use Rattle.mirror_frame.specs.Peer.{talk, body_of, unread_at, Goes}
 use Rattle.hips_mirror.specs.declared.refusal.MirrorRefusal.{MirrorRefusal}
 use Rattle.hips_mirror.specs.declared.refusal.MirrorRefusal.TheVariants.{Differs, OutOfMemory}
-use Rattle.hips_mirror.specs.Mirror.{is_too_large, Covered, AreLeaves, HasLeaves, IsMosaicReply, Compared, IsCopy, RefusesReply, RefusesAt, WrongCover, RefusesLeaf, RefusesFiles, WrongMosaic, last_request, TellsNumbers, Refuses, at_cover, at_leaf, at_mosaic, at_unpin}
-use Rattle.hips_mirror.specs.Stages.{Counts, TellsProperties, TellsSurvey, TellsCover, TellsCovered, TellsTiles, TellsMosaic, asks_of_mosaic, unpin_request, Reaches, IsRefusedIn, IsRefused, IsOfBody, RefusedBy}
+use Rattle.hips_mirror.specs.Mirror.{is_too_large, Covered, AreLeaves, HasLeaves, IsMosaicReply, Compared, IsCopy, RefusesReply, RefusesAt, WrongCover, RefusesLeaf, RefusesFiles, WrongMosaic, last_request, TrueOf, TellsNumbers, Refuses, at_cover, at_leaf, at_mosaic, at_unpin}
+use Rattle.hips_mirror.specs.Stages.{Counts, TellsProperties, TellsSurvey, TellsCover, TellsCovered, TellsTiles, TellsMosaic, asks_of_mosaic, unpin_request, Reaches, IsRefusedIn, IsRefused, IsOfBody}
 use Rattle.hips_mirror.proofs.LeavesLemmas.{map_keys, map_length}
 use Rattle.hips_mirror.proofs.CompareLemmas.{properties_are}
-use Rattle.hips_mirror.proofs.ToldLemmas.{told_so}
-use Rattle.hips_mirror.proofs.StageLemmas.{reaches_then, stopped_then, stopped_more, refused_here, one_reached}
+use Rattle.hips_mirror.proofs.ToldLemmas.{true_unread}
+use Rattle.hips_mirror.proofs.StageLemmas.{reaches_then, reaches_so, stopped_then, stopped_more, refused_here, one_reached, unread_led}
 
 last_is : (tiles : LeafTiles) → unpin_request (length tiles) ≡ last_request (keys_of (leaf_map tiles))
 last_is [] = refl
@@ -152,11 +152,10 @@ fits_most shape n fits =
 -- ---- the mosaic
 
 pub mosaic_reached : {S K : Type 0} (told_source : source.Ghosts S) (told_sink : sink.Ghosts K) (k : ℕ) (own : Ask) (leaves : ℕ) (x y : Peer S K) → 0 < leaves → own ≡ File path.Allsky
-    → IsExchanged told_source told_sink own (Survey k) (body_of y) (talk x) (talk y) → Told (unread_at told_source x) (unread_at told_source y) (λ bytes rest. IsReply (Survey k) bytes (body_of y) rest)
-    → Goes told_source told_sink x y → Reaches told_source told_sink k (asks_of_mosaic leaves) (TellsMosaic k leaves (body_of y)) x y
-mosaic_reached told_source told_sink k own zero x y some same exchanged told goes = absurd (omega (arith, some))
-mosaic_reached told_source told_sink k own (suc leaves) x y some same exchanged told goes =
-    one_reached told_source told_sink k (File path.Allsky) own (Survey k) x y same refl (TellsMosaic k (suc leaves) (body_of y)) exchanged told goes
+    → IsExchanged told_source told_sink own (Survey k) (body_of y) (talk x) (talk y) → Goes told_source told_sink x y → Reaches told_source told_sink k (asks_of_mosaic leaves) (TellsMosaic k leaves (body_of y)) x y
+mosaic_reached told_source told_sink k own zero x y some same exchanged goes = absurd (omega (arith, some))
+mosaic_reached told_source told_sink k own (suc leaves) x y some same exchanged goes =
+    one_reached told_source told_sink k (File path.Allsky) own (Survey k) x y same refl (TellsMosaic k (suc leaves) (body_of y)) (λ p q reply. reply) exchanged goes
 
 -- ---- why the files that were built are refused
 
@@ -234,13 +233,10 @@ module _ {S K : Type 0} (told_source : source.Ghosts S) (told_sink : sink.Ghosts
   reaches_cover numbers y z fits before last =
       reaches_then told_source told_sink k first_asks (File path.Moc ∷ []) (TellsSurvey k d counted) (TellsCover k d numbers) (TellsCovered k d counted numbers) x y z (cover_step k d counted numbers fits) before last
 
-  pub told_numbers : (numbers : List ℕ) (y : Peer S K) → Reaches told_source told_sink k cover_asks (TellsCovered k d counted numbers) x y → IfSome (unread_at told_source x) (λ bytes. TellsNumbers bytes d.shape numbers)
-  told_numbers numbers y reached = by (unread_at told_source x) (unread_at told_source y) reached.told
-    where
-      by : (a b : Option (List ℕ)) → Told a b (TellsCovered k d counted numbers) → IfSome a (λ bytes. TellsNumbers bytes d.shape numbers)
-      by None b told = tt
-      by (Some p) None told = absurd told
-      by (Some p) (Some q) told = numbers_told k d counted numbers p q told
+  pub told_numbers : (numbers : List ℕ) (y : Peer S K) → Reaches told_source told_sink k cover_asks (TellsCovered k d counted numbers) x y → TrueOf (unread_at told_source x) (λ bytes. TellsNumbers bytes d.shape numbers)
+  told_numbers numbers y reached =
+      true_unread (talk x).held (told_source.left x.src.now) (λ bytes. TellsNumbers bytes d.shape numbers)
+      (unread_led told_source told_sink k cover_asks (TellsCovered k d counted numbers) (λ bytes. TellsNumbers bytes d.shape numbers) x y (numbers_told k d counted numbers) reached)
 
   module _ (numbers : List ℕ) where
     abbrev leaf_asks : List Ask
@@ -305,22 +301,15 @@ module _ {S K : Type 0} (told_source : source.Ghosts S) (told_sink : sink.Ghosts
           → IsRefused told_source told_sink x y why
       stops_at_files body y why of_body wrong before =
           refused_as told_source told_sink k x d.shape.top numbers (files_asks ++ (Unpin ∷ [])) whole_asks y why
-          (short_before told_source told_sink k x files_asks Unpin [] y why (refused_here told_source told_sink k files_asks (Came body) (λ bytes. Refuses bytes why) x y why of_body (by (unread_at told_source x) (unread_at told_source y) before.told) before))
-        where
-          by : (a b : Option (List ℕ)) → Told a b (Came body) → IfSome a (λ bytes. Refuses bytes why)
-          by None b told = tt
-          by (Some p) None told = absurd told
-          by (Some p) (Some q) told = files_why k d counted tiles body why wrong p told.0 q told.1 told.2
+          (short_before told_source told_sink k x files_asks Unpin [] y why
+          (refused_here told_source told_sink k files_asks (Came body) (λ bytes. Refuses bytes why) x y why of_body (λ p q came. files_why k d counted tiles body why wrong p came.0 q came.1 came.2) before))
 
       module _ (body : List ℕ) (few : length tiles < 2 ^ 64) (same : counted ≡ Some (length tiles)) (is : 0 < length tiles → body ≡ file_of d (leaf_map tiles) path.Allsky) (y z : Peer S K)
           (before : Reaches told_source told_sink k files_asks (Came body) x y) where
         compared : Reaches told_source told_sink k files_asks (λ bytes rest. Compared bytes k d (leaf_map tiles) rest) x y
-        compared = record {
-          conversed = before.conversed;
-          told = told_so (unread_at told_source x) (unread_at told_source y) (Came body) (λ bytes rest. Compared bytes k d (leaf_map tiles) rest)
-              (λ p r came. mosaic_step k d counted tiles body few same is p came.0 r came.1 came.2) before.told;
-          goes = before.goes;
-        }
+        compared =
+            reaches_so told_source told_sink k files_asks (Came body) (λ bytes rest. Compared bytes k d (leaf_map tiles) rest) x y
+            (λ p r came. mosaic_step k d counted tiles body few same is p came.0 r came.1 came.2) before
 
         pub stops_at_unpin : (why : MirrorRefusal) → (r : IsRefusedIn told_source told_sink k (Unpin ∷ []) (λ bytes. RefusesReply Any (unpin_request (length tiles)) bytes why) y z why) → r.stops.rest ≢ []
             → IsRefused told_source told_sink x z why

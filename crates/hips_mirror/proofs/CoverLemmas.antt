@@ -1,5 +1,5 @@
 -- The leaves of a cover that was read.
-use Rattle.std.proofs.Common.{◌≡◌, ◌≢◌, ◌⊎◌, inl, inr, ℕ, ◌+◌, ◌<◌, true, List, [], ◌∷◌, Option, Result, Ok, Err, length, get_or, refl, sym, ap, ◌∙◌, subst, arith}
+use Rattle.std.proofs.Common.{◌≡◌, ◌≢◌, ◌⊎◌, inl, inr, ℕ, ◌+◌, ◌<◌, true, List, [], ◌∷◌, Result, Ok, Err, length, get_or, refl, sym, ap, ◌∙◌, subst, arith}
 use Rattle.std.specs.Prelude.{All, IfOk, IfErr, Vec}
 use Rattle.std.specs.declared.alloc.Global.{Global}
 use Rattle.std.specs.List.{range_with_len}
@@ -10,7 +10,6 @@ use Rattle.std.proofs.lemmas.List.FromFn.{length-range_with_len, get_or-range_wi
 use Rattle.healpix_nested.specs.Cells.{cell_count}
 use Rattle.pyramid_model.specs.Shape.{PyramidShape}
 use Rattle.survey_conf.specs.Description.{Description}
-use Rattle.mirror_frame.specs.Reply.{IsReply}
 use Rattle.mirror_frame.specs.declared.due.Due.TheVariants.{Survey}
 use Rattle.coverage_moc.specs.Cover.{IsAscending, is_under, leaves_under, cover}
 use Rattle.coverage_moc.specs.CoverFile.{moc_file}
@@ -23,12 +22,11 @@ use Rattle.survey_link.specs.declared.source.Source as source
 use Rattle.survey_link.specs.declared.sink.Sink as sink
 use Rattle.tile_path.specs.declared.path.Path.TheVariants.{Moc}
 use Rattle.mirror_frame.specs.Exchange.{IsExchanged}
-use Rattle.mirror_frame.specs.Peer.{talk, body_of, unread_at, Goes, Told}
+use Rattle.mirror_frame.specs.Peer.{talk, body_of, Goes}
 use Rattle.mirror_frame.specs.declared.ask.Ask.{Ask}
 use Rattle.mirror_frame.specs.declared.ask.Ask.TheVariants.{File}
 use Rattle.mirror_frame.specs.declared.peer.Peer.{Peer}
 use Rattle.hips_mirror.specs.Stages.{TellsCover, RefusedBy, Reaches}
-use Rattle.hips_mirror.proofs.ToldLemmas.{told_so}
 use Rattle.hips_mirror.proofs.StageLemmas.{one_reached}
 
 pub under_rises : (top : ℕ) (rows : List ℕ) → IsStrictlyIncreasing (leaves_under top rows)
@@ -94,13 +92,11 @@ no_cover d shape t body same at none =
 -- ---- the reply
 
 pub cover_reached : {S K : Type 0} (told_source : source.Ghosts S) (told_sink : sink.Ghosts K) (k : ℕ) (d : Description) (asked : Ask) (x y : Peer S K) → asked ≡ File Moc
-    → IsExchanged told_source told_sink asked (Survey k) (body_of y) (talk x) (talk y) → Told (unread_at told_source x) (unread_at told_source y) (λ bytes rest. IsReply (Survey k) bytes (body_of y) rest)
-    → Goes told_source told_sink x y → (r : Result (Vec ℕ Global) MirrorRefusal) → IfOk r (λ numbers. IsCoverOf d.shape.top (body_of y) numbers.items)
+    → IsExchanged told_source told_sink asked (Survey k) (body_of y) (talk x) (talk y) → Goes told_source told_sink x y → (r : Result (Vec ℕ Global) MirrorRefusal) → IfOk r (λ numbers. IsCoverOf d.shape.top (body_of y) numbers.items)
     → IfOk r (λ numbers. Reaches told_source told_sink k (File Moc ∷ []) (TellsCover k d numbers.items) x y)
-cover_reached told_source told_sink k d asked x y same exchanged told goes (Ok numbers) is =
-    one_reached told_source told_sink k (File Moc) asked (Survey k) x y same refl (TellsCover k d numbers.items) exchanged
-    (told_so (unread_at told_source x) (unread_at told_source y) (λ bytes rest. IsReply (Survey k) bytes (body_of y) rest) (TellsCover k d numbers.items) (λ p q reply. record { body = body_of y; reply = reply; is = is }) told) goes
-cover_reached told_source told_sink k d asked x y same exchanged told goes (Err why) is = tt
+cover_reached told_source told_sink k d asked x y same exchanged goes (Ok numbers) is =
+    one_reached told_source told_sink k (File Moc) asked (Survey k) x y same refl (TellsCover k d numbers.items) (λ p q reply. record { body = body_of y; reply = reply; is = is }) exchanged goes
+cover_reached told_source told_sink k d asked x y same exchanged goes (Err why) is = tt
 
 pub cover_cells : {E : Type 0} (d : Description) (body : List ℕ) (r : Result (Vec ℕ Global) E) → IfOk r (λ numbers. IsCoverOf d.shape.top body numbers.items)
     → IfOk r (λ numbers. All (λ leaf. leaf < cell_count d.shape.top) numbers.items)

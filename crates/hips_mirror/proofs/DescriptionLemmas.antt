@@ -1,12 +1,12 @@
 -- The description that a peer tells.
-use Rattle.std.proofs.Common.{◌≡◌, ℕ, List, [], ◌∷◌, Result, Ok, Err, refl, sym, subst}
+use Rattle.std.proofs.Common.{◌≡◌, ℕ, [], ◌∷◌, Result, Ok, Err, refl, sym, subst}
 use Rattle.std.specs.Prelude.{IfOk, IfErr}
 use Rattle.survey_link.specs.declared.source.Source as source
 use Rattle.survey_link.specs.declared.sink.Sink as sink
 use Rattle.tile_path.specs.declared.path.Path.TheVariants.{Properties}
 use Rattle.mirror_frame.specs.Reply.{IsReply, pinned_line}
 use Rattle.mirror_frame.specs.Exchange.{IsExchanged}
-use Rattle.mirror_frame.specs.Peer.{talk, body_of, unread_at, Goes, Told}
+use Rattle.mirror_frame.specs.Peer.{talk, body_of, Goes}
 use Rattle.mirror_frame.specs.declared.ask.Ask.{Ask}
 use Rattle.mirror_frame.specs.declared.ask.Ask.TheVariants.{Pin, File}
 use Rattle.mirror_frame.specs.declared.due.Due.TheVariants.{Pinned, Survey}
@@ -15,20 +15,17 @@ use Rattle.hips_mirror.specs.declared.description.Survey.{Survey as PeerSurvey}
 use Rattle.hips_mirror.specs.declared.refusal.MirrorRefusal.{MirrorRefusal}
 use Rattle.hips_mirror.specs.Mirror.{IsProperties, WrongProperties, RefusesAt, Refuses, at_properties}
 use Rattle.hips_mirror.specs.Stages.{Counts, TellsProperties, TellsSurvey, Reaches, IsRefusedIn}
-use Rattle.hips_mirror.proofs.ToldLemmas.{told_so}
 use Rattle.hips_mirror.proofs.StageLemmas.{one_reached, reaches_then, stopped_then}
 use Rattle.hips_mirror.proofs.CopyLemmas.{properties_step}
 
 module _ {S K : Type 0} (told_source : source.Ghosts S) (told_sink : sink.Ghosts K) (k : ℕ) where
   pub properties_reached : (own : Ask) (x y : Peer S K) → own ≡ File Properties
-      → IsExchanged told_source told_sink own (Survey k) (body_of y) (talk x) (talk y) → Told (unread_at told_source x) (unread_at told_source y) (λ bytes rest. IsReply (Survey k) bytes (body_of y) rest)
-      → Goes told_source told_sink x y → (r : Result PeerSurvey MirrorRefusal) → IfOk r (λ survey. IsProperties (body_of y) survey.conf) → IfOk r (λ survey. Counts survey.conf (body_of y) survey.counted)
+      → IsExchanged told_source told_sink own (Survey k) (body_of y) (talk x) (talk y) → Goes told_source told_sink x y → (r : Result PeerSurvey MirrorRefusal) → IfOk r (λ survey. IsProperties (body_of y) survey.conf) → IfOk r (λ survey. Counts survey.conf (body_of y) survey.counted)
       → IfOk r (λ survey. Reaches told_source told_sink k (File Properties ∷ []) (TellsProperties k survey.conf survey.counted) x y)
-  properties_reached own x y same exchanged told goes (Ok survey) is counts =
-      one_reached told_source told_sink k (File Properties) own (Survey k) x y same refl (TellsProperties k survey.conf survey.counted) exchanged
-      (told_so (unread_at told_source x) (unread_at told_source y) (λ bytes rest. IsReply (Survey k) bytes (body_of y) rest) (TellsProperties k survey.conf survey.counted)
-      (λ p q reply. record { body = body_of y; reply = reply; is = is; counts = counts }) told) goes
-  properties_reached own x y same exchanged told goes (Err why) is counts = tt
+  properties_reached own x y same exchanged goes (Ok survey) is counts =
+      one_reached told_source told_sink k (File Properties) own (Survey k) x y same refl (TellsProperties k survey.conf survey.counted)
+      (λ p q reply. record { body = body_of y; reply = reply; is = is; counts = counts }) exchanged goes
+  properties_reached own x y same exchanged goes (Err why) is counts = tt
 
   module _ (x y z : Peer S K) (pinned : Reaches told_source told_sink k (Pin ∷ []) (λ bytes rest. IsReply Pinned bytes (pinned_line k) rest) x y) where
     pub description_reached : (r : Result PeerSurvey MirrorRefusal) → IfOk r (λ survey. survey.pinned ≡ k)

@@ -1,6 +1,6 @@
 -- One leaf more of a copy: its request, its reply and its tile.
-use Rattle.std.proofs.Common.{◌≡◌, inl, ℕ, ◌+◌, ◌<◌, List, [], ◌∷◌, ◌++◌, refl, sym, ap, ◌∙◌, subst, length, map, take, drop, get_or}
-use Rattle.std.specs.Prelude.{slice_get, Some}
+use Rattle.std.proofs.Common.{◌≡◌, ℕ, ◌+◌, ◌<◌, List, [], ◌∷◌, ◌++◌, refl, sym, ap, ◌∙◌, subst, length, map, take, drop, get_or}
+use Rattle.std.specs.Prelude.{slice_get}
 use Rattle.std.specs.Map.{keys_of}
 use Rattle.std.proofs.lemmas.List.{take_more, map-append, take-append-drop}
 use Rattle.survey_link.specs.declared.source.Source as source
@@ -9,16 +9,15 @@ use Rattle.survey_conf.specs.Description.{Description}
 use Rattle.edit_journal.specs.Leaves.{LeafTiles}
 use Rattle.generation.specs.Files.{leaf_map}
 use Rattle.mirror_frame.specs.Requests.{leaf_ask}
-use Rattle.mirror_frame.specs.Reply.{IsReply}
 use Rattle.mirror_frame.specs.Exchange.{IsExchanged}
-use Rattle.mirror_frame.specs.Peer.{talk, body_of, unread_at, Goes, Told}
+use Rattle.mirror_frame.specs.Peer.{talk, body_of, Goes}
 use Rattle.mirror_frame.specs.declared.ask.Ask.{Ask}
 use Rattle.mirror_frame.specs.declared.due.Due.TheVariants.{Survey}
 use Rattle.mirror_frame.specs.declared.peer.Peer.{Peer}
 use Rattle.hips_mirror.specs.declared.refusal.MirrorRefusal.{MirrorRefusal}
 use Rattle.hips_mirror.specs.Mirror.{AreLeaves, WrongLeaf, RefusesAt, RefusesLeaf}
 use Rattle.hips_mirror.specs.Stages.{TellsLeaf, PutsLeaf, Reaches, IsRefusedIn}
-use Rattle.hips_mirror.proofs.LeavesLemmas.{map_keys, map_length, leaves_more, put_told, at_place}
+use Rattle.hips_mirror.proofs.LeavesLemmas.{map_keys, map_length, leaves_more, put_tells, at_place}
 use Rattle.hips_mirror.proofs.StageLemmas.{one_reached, reaches_then, stopped_then, stopped_more}
 
 module _ {S K : Type 0} (told_source : source.Ghosts S) (told_sink : sink.Ghosts K) (k : ℕ) (d : Description) (numbers : List ℕ) (tiles : LeafTiles) (i : ℕ) (h : i < length numbers) (x y : Peer S K)
@@ -33,12 +32,10 @@ module _ {S K : Type 0} (told_source : source.Ghosts S) (told_sink : sink.Ghosts
   one_more = sym (ap asked (take_more numbers i 0 h) ∙ map-append (leaf_ask d.shape.top) (take i numbers) (number ∷ []))
 
   pub leaf_reached : (own : Ask) (z : Peer S K) (tiles' : LeafTiles) → own ≡ leaf_ask d.shape.top number
-      → IsExchanged told_source told_sink own (Survey k) (body_of z) (talk y) (talk z) → Told (unread_at told_source y) (unread_at told_source z) (λ bytes rest. IsReply (Survey k) bytes (body_of z) rest)
-      → Goes told_source told_sink y z → PutsLeaf d number (body_of z) tiles tiles'
+      → IsExchanged told_source told_sink own (Survey k) (body_of z) (talk y) (talk z) → Goes told_source told_sink y z → PutsLeaf d number (body_of z) tiles tiles'
       → Reaches told_source told_sink k (asked (take (i + 1) numbers)) (λ bytes rest. AreLeaves k d bytes (leaf_map tiles') rest) x z
-  leaf_reached own z tiles' same exchanged told goes puts =
-      let told' = put_told d number (body_of z) tiles tiles' k (unread_at told_source y) (unread_at told_source z) told puts in
-      let one = one_reached told_source told_sink k (leaf_ask d.shape.top number) own (Survey k) y z same refl (TellsLeaf k d (leaf_map tiles) (leaf_map tiles')) exchanged told' goes in
+  leaf_reached own z tiles' same exchanged goes puts =
+      let one = one_reached told_source told_sink k (leaf_ask d.shape.top number) own (Survey k) y z same refl (TellsLeaf k d (leaf_map tiles) (leaf_map tiles')) (put_tells d number (body_of z) tiles tiles' k puts) exchanged goes in
       subst (λ a. Reaches told_source told_sink k a (λ bytes rest. AreLeaves k d bytes (leaf_map tiles') rest) x z) one_more
       (reaches_then told_source told_sink k (asked (take i numbers)) (leaf_ask d.shape.top number ∷ []) (λ bytes rest. AreLeaves k d bytes (leaf_map tiles) rest) (TellsLeaf k d (leaf_map tiles) (leaf_map tiles')) (λ bytes rest. AreLeaves k d bytes (leaf_map tiles') rest) x y z
       (λ p q r are tells. subst (λ ls. AreLeaves k d p ls r) (sym tells.put) (leaves_more k d (leaf_map tiles) tells.leaf p q r tells.body are tells.reply tells.reads)) reached one)

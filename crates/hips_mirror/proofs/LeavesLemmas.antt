@@ -1,12 +1,9 @@
 -- The leaves that were read, one after another.
-use Rattle.std.proofs.Common.{◌≡◌, inl, ℕ, zero, suc, ◌+◌, ◌<◌, List, [], ◌∷◌, ◌++◌, Option, Some, None, Ok, Err, length-append, refl, sym, ap, ◌∙◌, subst, arith, length, map, take, get_or, ℤ}
-use Rattle.std.specs.Prelude.{All, IfSome, slice_get}
+use Rattle.std.proofs.Common.{◌≡◌, inl, ℕ, zero, suc, ◌+◌, ◌<◌, List, [], ◌∷◌, ◌++◌, Some, Ok, Err, length-append, refl, sym, ap, ◌∙◌, subst, arith, length, get_or, ℤ}
+use Rattle.std.specs.Prelude.{All, slice_get}
 use Rattle.std.specs.List.Sorted.{IsStrictlySortedBy}
 use Rattle.std.specs.Map.{keys_of}
-use Rattle.std.specs.Io.KnownBytes.{Appends}
-use Rattle.std.proofs.KnownBytes.{Appends-trans}
-use Rattle.std.proofs.lemmas.List.{take_more, map-append, append-nil}
-use Rattle.std.proofs.lemmas.Grind.{flat_map-append}
+use Rattle.std.proofs.lemmas.List.{map-append}
 use Rattle.std.proofs.lemmas.Map.Made.{keys_of-map_values}
 use Rattle.std.proofs.lemmas.Map.Entries.{length-keys_of}
 use Rattle.healpix_nested.specs.Cells.{NestedCell, cell_count}
@@ -20,18 +17,15 @@ use Rattle.tile_path.specs.declared.path.Path.TheVariants.{Tile}
 use Rattle.leaf_store.specs.Store.{IsAscending}
 use Rattle.edit_journal.specs.Leaves.{LeafTiles, FitsTile, FitsLeaves}
 use Rattle.generation.specs.Files.{leaf_map}
-use Rattle.mirror_frame.specs.Requests.{request_bytes, leaf_ask}
+use Rattle.mirror_frame.specs.Requests.{leaf_ask}
 use Rattle.mirror_frame.specs.Reply.{IsReply}
 use Rattle.mirror_frame.specs.declared.ask.Ask.TheVariants.{File}
 use Rattle.mirror_frame.specs.declared.due.Due.TheVariants.{Survey}
 use Rattle.shelf_io.proofs.PathLemmas.{same_cell}
 use Rattle.shelf_io.proofs.LeafLemmas.{fits_put, higher_put}
-use Rattle.hips_mirror.specs.declared.refusal.MirrorRefusal.{MirrorRefusal}
 use Rattle.hips_mirror.specs.declared.refusal.MirrorRefusal.TheVariants.{Leaf}
-use Rattle.hips_mirror.specs.Mirror.{AreLeaves, WrongLeaf, RefusesAt, RefusesLeaf}
-use Rattle.mirror_frame.specs.Peer.{Told}
+use Rattle.hips_mirror.specs.Mirror.{AreLeaves, WrongLeaf}
 use Rattle.hips_mirror.specs.Stages.{TellsLeaf, PutsLeaf, RefusedBy}
-use Rattle.hips_mirror.proofs.ToldLemmas.{told_then, told_so, refused_then}
 
 -- ---- the map of the tiles
 
@@ -48,11 +42,6 @@ pub leaves_more : (k : ℕ) (d : Description) (leaves : LeafMap) (leaf : ℕ × 
 leaves_more k d [] leaf bytes mid rest body are reply read = (body, rest, subst (λ u. IsReply (Survey k) u body rest) are reply, read, refl)
 leaves_more k d (first ∷ leaves) leaf bytes mid rest body are reply read =
     (are.0, are.1, are.2, are.3, leaves_more k d leaves leaf are.1 mid rest body are.4 reply read)
-
--- none was read
-pub none_told : (k : ℕ) (d : Description) (a : Option (List ℕ)) → Told a a (λ bytes rest. AreLeaves k d bytes [] rest)
-none_told k d None = tt
-none_told k d (Some x) = refl
 
 -- ---- the leaf that is put
 
@@ -74,13 +63,11 @@ module _ (d : Description) (number : ℕ) (body : List ℕ) (tiles tiles' : Leaf
   pub put_higher : All (λ key. key < number) (keys_of tiles) → PutsLeaf d number body tiles tiles' → All (λ key. key < number + 1) (keys_of tiles')
   put_higher lower puts = higher_put number puts.tile tiles tiles' puts.put lower
 
-  pub put_told : (k : ℕ) (a b : Option (List ℕ)) → Told a b (λ bytes rest. IsReply (Survey k) bytes body rest) → PutsLeaf d number body tiles tiles'
-      → Told a b (TellsLeaf k d (leaf_map tiles) (leaf_map tiles'))
-  put_told k a b told puts =
+  pub put_tells : (k : ℕ) → PutsLeaf d number body tiles tiles' → (bytes rest : List ℕ) → IsReply (Survey k) bytes body rest → TellsLeaf k d (leaf_map tiles) (leaf_map tiles') bytes rest
+  put_tells k puts bytes rest reply =
       let mapped : leaf_map tiles' ≡ leaf_map tiles ++ (number, puts.tile.numbers) ∷ [] =
       ap leaf_map puts.put ∙ map-append (λ (leaf : ℕ × PixelTile). (leaf.0, leaf.1.numbers)) tiles ((number, puts.tile) ∷ []) in
-      told_so a b (λ bytes rest. IsReply (Survey k) bytes body rest) (TellsLeaf k d (leaf_map tiles) (leaf_map tiles'))
-      (λ x y reply. record { body = body; leaf = (number, puts.tile.numbers); reply = reply; reads = puts.reads; put = mapped }) told
+      record { body = body; leaf = (number, puts.tile.numbers); reply = reply; reads = puts.reads; put = mapped }
 
 pub wrong_leaf : (d : Description) (cell : NestedCell) (number : ℕ) (fault : TileFault) (body : List ℕ) → cell.order ≡ d.shape.top → cell.npix ≡ number → reads d body ≡ Err fault
     → RefusedBy (WrongLeaf d number) body (Leaf cell fault)
@@ -105,6 +92,6 @@ pub empty_lower : (n : ℕ) (tiles : LeafTiles) → tiles ≡ [] → All (λ key
 empty_lower n [] none = All-nil (λ key. key < n)
 empty_lower n (e ∷ es) none = absurd (omega (arith, ap length none))
 
-pub none_told_of : (k : ℕ) (d : Description) (tiles : LeafTiles) (a : Option (List ℕ)) → tiles ≡ [] → Told a a (λ bytes rest. AreLeaves k d bytes (leaf_map tiles) rest)
-none_told_of k d [] a none = none_told k d a
-none_told_of k d (e ∷ es) a none = absurd (omega (arith, ap length none))
+pub none_are : (k : ℕ) (d : Description) (tiles : LeafTiles) → tiles ≡ [] → (bytes : List ℕ) → AreLeaves k d bytes (leaf_map tiles) bytes
+none_are k d [] none bytes = refl
+none_are k d (e ∷ es) none bytes = absurd (omega (arith, ap length none))

@@ -1,6 +1,6 @@
 -- What a whole copy does, once its files are on the shelf.
-use Rattle.std.proofs.Common.{◌≡◌, ◌⊎◌, inl, inr, ℕ, ◌+◌, ◌≤◌, false, List, Option, Some, None, Result, Ok, Err, sym, ap, ◌∙◌, subst, length}
-use Rattle.std.specs.Prelude.{◌≢◌, IfSome, IfOk, IfErr, OnOk, OnErr}
+use Rattle.std.proofs.Common.{◌≡◌, ◌⊎◌, inl, inr, ℕ, ◌+◌, ◌≤◌, List, Option, Result, Ok, Err, sym, subst, length}
+use Rattle.std.specs.Prelude.{◌≢◌, IfOk, IfErr, OnOk, OnErr}
 use Rattle.std.specs.Map.{keys_of}
 use Rattle.std.specs.FinMap.{len}
 use Rattle.std.specs.Io.KnownBytes.{Appends}
@@ -12,7 +12,8 @@ use Rattle.shelf_io.specs.Survey.{Replaces, OthersStay}
 use Rattle.mirror_frame.specs.Requests.{mirror_requests}
 use Rattle.hips_mirror.specs.declared.refusal.MirrorRefusal.{MirrorRefusal}
 use Rattle.hips_mirror.specs.declared.refusal.MirrorRefusal.TheVariants.{ShelfFault, OutOfMemory}
-use Rattle.hips_mirror.specs.Mirror.{is_too_large, IsCopy, Refuses, at_pin, Talks, Copies, StepsFit}
+use Rattle.hips_mirror.specs.Mirror.{IsCopy, Refuses, at_pin, TrueOf, Talks, Copies, StepsFit}
+use Rattle.hips_mirror.proofs.ToldLemmas.{true_of_all}
 use Rattle.hips_mirror.proofs.LeavesLemmas.{map_keys, map_length}
 use Rattle.hips_mirror.proofs.StepsLemmas.{copy_fits}
 
@@ -20,14 +21,13 @@ refuses_shelf : (refusal : MirrorRefusal) → (refusal ≡ ShelfFault) ⊎ (refu
 refuses_shelf refusal (inl fault) bytes = at_pin (rw fault tt)
 refuses_shelf refusal (inr none) bytes = at_pin (rw none tt)
 
-module _ (made : GenerationContent) (left held held' : Option (List ℕ)) (copied : IfSome left (λ bytes. IsCopy bytes made.conf (leaf_map made.leaves)))
-    (fits : is_too_large made.conf.shape (length made.leaves) ≡ false) (sent : Appends held held' (mirror_requests made.conf.shape.top (keys_of made.leaves))) where
+module _ (made : GenerationContent) (left held held' : Option (List ℕ)) (copied : TrueOf left (λ bytes. IsCopy bytes made.conf (leaf_map made.leaves)))
+    (sent : Appends held held' (mirror_requests made.conf.shape.top (keys_of made.leaves))) where
   pub talk : Talks left held held'
   talk = record {
     conf = made.conf;
     leaves = leaf_map made.leaves;
     read = copied;
-    fits = ap (is_too_large made.conf.shape) (map_length made.leaves) ∙ fits;
     sent = subst (λ ks. Appends held held' (mirror_requests made.conf.shape.top ks)) (sym (map_keys made.leaves)) sent;
   }
 
@@ -51,10 +51,9 @@ module _ (made : GenerationContent) (left held held' : Option (List ℕ)) (copie
   mirror_last (Ok t) old new others = tt
   mirror_last (Err e) old new others = inr (talk, others)
 
-pub shelf_refused : {T : Type 0} (left : Option (List ℕ)) (r : Result T MirrorRefusal) → IfErr r (λ refusal. (refusal ≡ ShelfFault) ⊎ (refusal ≡ OutOfMemory)) → IfErr r (λ refusal. IfSome left (λ bytes. Refuses bytes refusal))
+pub shelf_refused : {T : Type 0} (left : Option (List ℕ)) (r : Result T MirrorRefusal) → IfErr r (λ refusal. (refusal ≡ ShelfFault) ⊎ (refusal ≡ OutOfMemory)) → IfErr r (λ refusal. TrueOf left (λ bytes. Refuses bytes refusal))
 shelf_refused left (Ok t) why = tt
-shelf_refused None (Err e) why = tt
-shelf_refused (Some x) (Err e) why = refuses_shelf e why x
+shelf_refused left (Err e) why = true_of_all left (λ bytes. Refuses bytes e) (refuses_shelf e why)
 
 pub shelf_touched : {T : Type 0} (old new : Option ShelfFiles) (r : Result T MirrorRefusal) → IfErr r (λ refusal. (refusal ≡ ShelfFault) ⊎ (refusal ≡ OutOfMemory))
     → IfErr r (λ refusal. refusal ≢ ShelfFault → refusal ≢ OutOfMemory → new ≡ old)

@@ -1,5 +1,5 @@
 -- The order of a copy's requests and replies, and what was written in it.
-use Rattle.std.proofs.Common.{◌≡◌, ◌≢◌, ◌⊎◌, inl, inr, ℕ, List, [], ◌∷◌, Option, Some, None, Result, Ok, Err, refl, sym, subst}
+use Rattle.std.proofs.Common.{◌≡◌, ◌≢◌, ◌⊎◌, inl, inr, ℕ, List, [], ◌∷◌, ◌++◌, Option, Some, None, Result, Ok, Err, refl, sym, ap, ◌∙◌, subst}
 use Rattle.std.specs.Prelude.{IfOk, IfErr, OnOk, OnErr}
 use Rattle.std.specs.Map.{keys_of}
 use Rattle.std.specs.Io.KnownBytes.{Appends}
@@ -17,9 +17,10 @@ use Rattle.mirror_frame.specs.declared.peer.Peer.{Peer}
 use Rattle.mirror_frame.proofs.Exchanges.{conversed_sent, conversed_flushed}
 use Rattle.hips_mirror.specs.declared.refusal.MirrorRefusal.{MirrorRefusal}
 use Rattle.hips_mirror.specs.declared.refusal.MirrorRefusal.TheVariants.{OutOfMemory}
-use Rattle.hips_mirror.specs.Mirror.{IsCopy, StepsFit}
+use Rattle.hips_mirror.specs.Mirror.{IsCopy, Refuses, TrueOf, StepsFit}
 use Rattle.hips_mirror.specs.Stages.{Reaches, IsRefused}
 use Rattle.hips_mirror.specs.Order.{IsWhole, InOrder}
+use Rattle.hips_mirror.proofs.StageLemmas.{unread_led}
 
 no_asks : (top : ℕ) (leaves : List ℕ) → asks top leaves ≢ []
 no_asks top leaves none = cc
@@ -30,6 +31,10 @@ unread_none held left none = subst (λ h. unread h left ≡ left) (sym none) (sa
     same : (o : Option (List ℕ)) → unread [] o ≡ o
     same None = refl
     same (Some x) = refl
+
+-- what is true of the unread bytes, where none is held
+pub true_from : (held : List ℕ) (left : Option (List ℕ)) (P : List ℕ → Type 0) → held ≡ [] → TrueOf left (λ bytes. P (held ++ bytes)) → TrueOf left P
+true_from held left P none p = subst (λ h. TrueOf left (λ bytes. P (h ++ bytes))) none p
 
 pub steps_from : {T E : Type 0} (r : Result T E) (held : List ℕ) (left : Option (List ℕ)) (steps steps' : ℕ) → held ≡ [] → OnErr r ((steps' ≡ steps) ⊎ StepsFit (unread held left) steps steps')
     → OnErr r ((steps' ≡ steps) ⊎ StepsFit left steps steps')
@@ -77,3 +82,17 @@ module _ {S K : Type 0} (told_source : source.Ghosts S) (told_sink : sink.Ghosts
         → OnOk r (told_sink.flushed y.sink.now ≡ told_sink.held y.sink.now)
     flushed_of (Ok made) copied = conversed_flushed told_source told_sink copied.0 Pin (File path.Properties ∷ File path.Moc ∷ later_asks made.conf.shape.top (keys_of made.leaves)) (talk x) (talk y) copied.1.conversed
     flushed_of (Err why) copied = tt
+
+    pub copied_of : (r : Result GenerationContent MirrorRefusal)
+        → IfOk r (λ made. (k : ℕ) × Reaches told_source told_sink k (asks made.conf.shape.top (keys_of made.leaves)) (λ bytes rest. IsCopy bytes made.conf (leaf_map made.leaves)) x y)
+        → start.held ≡ [] → IfOk r (λ made. TrueOf (told_source.left x.src.now) (λ bytes. IsCopy bytes made.conf (leaf_map made.leaves)))
+    copied_of (Ok made) copied none =
+        true_from (talk x).held (told_source.left x.src.now) (λ bytes. IsCopy bytes made.conf (leaf_map made.leaves)) (ap (λ t. t.held) begins ∙ none)
+        (unread_led told_source told_sink copied.0 (asks made.conf.shape.top (keys_of made.leaves)) (λ bytes rest. IsCopy bytes made.conf (leaf_map made.leaves)) (λ bytes. IsCopy bytes made.conf (leaf_map made.leaves)) x y (λ p q copy. copy) copied.1)
+    copied_of (Err why) copied none = tt
+
+    pub refused_of : (r : Result GenerationContent MirrorRefusal) → IfErr r (IsRefused told_source told_sink x y) → start.held ≡ []
+        → IfErr r (λ why. TrueOf (told_source.left x.src.now) (λ bytes. Refuses bytes why))
+    refused_of (Ok made) refused none = tt
+    refused_of (Err why) refused none =
+        true_from (talk x).held (told_source.left x.src.now) (λ bytes. Refuses bytes why) (ap (λ t. t.held) begins ∙ none) refused.stopped.refused

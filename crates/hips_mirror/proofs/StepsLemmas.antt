@@ -1,6 +1,6 @@
 -- How many steps a copy takes.
-use Rattle.std.proofs.Common.{◌≡◌, ℕ, ◌+◌, ◌≤◌, List, [], ◌∷◌, Option, Some, None, Result, Ok, Err, refl, sym, ap, ◌∙◌, arith, length, filter}
-use Rattle.std.specs.Prelude.{IfSome, IfOk, sum_by, ◌||◌}
+use Rattle.std.proofs.Common.{◌≡◌, ℕ, ◌+◌, ◌≤◌, List, [], ◌∷◌, Option, refl, sym, ap, ◌∙◌, arith, length, filter}
+use Rattle.std.specs.Prelude.{sum_by, ◌||◌}
 use Rattle.std.specs.List.{range_with_len}
 use Rattle.std.specs.Map.{keys_of}
 use Rattle.std.proofs.lemmas.Map.Entries.{length-keys_of}
@@ -10,10 +10,11 @@ use Rattle.pyramid_model.specs.Tile.{exists}
 use Rattle.survey_conf.specs.Description.{Description}
 use Rattle.dirty_plan.specs.Dirty.{orders_down}
 use Rattle.edit_journal.specs.Leaves.{LeafTiles}
-use Rattle.generation.specs.Files.{leaf_map}
-use Rattle.generation.specs.Generation.{GenerationContent}
+use Rattle.tile_path.specs.declared.path.Path.TheVariants as path
+use Rattle.generation.specs.Files.{leaf_map, file_of}
 use Rattle.generation.specs.Steps.{tiles_above}
-use Rattle.hips_mirror.specs.Mirror.{bare, TellsNumbers, StepsFit, IsCopy}
+use Rattle.hips_mirror.specs.Mirror.{bare, TrueOf, TellsNumbers, StepsFit, IsCopy}
+use Rattle.hips_mirror.proofs.ToldLemmas.{true_so}
 use Rattle.hips_mirror.proofs.LeavesLemmas.{map_keys, map_length}
 
 -- which tiles exist asks for the numbers of the leaves alone
@@ -37,14 +38,16 @@ leaves_few shape tiles numbers steps mid last keys first second =
     (omega (arith, first, second, long), omega (arith, first, second, same))
 
 -- after the whole conversation
-pub copy_fits : (d : Description) (tiles : LeafTiles) (a : Option (List ℕ)) (steps steps' : ℕ) → IfSome a (λ bytes. IsCopy bytes d (leaf_map tiles))
+pub copy_fits : (d : Description) (tiles : LeafTiles) (a : Option (List ℕ)) (steps steps' : ℕ) → TrueOf a (λ bytes. IsCopy bytes d (leaf_map tiles))
     → steps' ≤ steps + (length tiles + tiles_above d.shape (leaf_map tiles)) → StepsFit a steps steps'
 copy_fits d tiles a steps steps' copy few =
     let keys = keys_of (leaf_map tiles) in
     let same : tiles_above d.shape (leaf_map tiles) ≡ tiles_above d.shape (bare keys) = above_by_keys d.shape (leaf_map tiles) in
     let long : length keys ≡ length tiles = length-keys_of (leaf_map tiles) ∙ map_length tiles in
-    record { shape = d.shape; numbers = keys; told = by a copy; few = omega (arith, few, long, same) }
-  where
-    by : (o : Option (List ℕ)) → IfSome o (λ bytes. IsCopy bytes d (leaf_map tiles)) → IfSome o (λ bytes. TellsNumbers bytes d.shape (keys_of (leaf_map tiles)))
-    by None c = tt
-    by (Some x) c = record { k = c.k; properties = _; d = d; unread = c.compared.has.behind; covered = c.compared.has.covered; shape_is = refl }
+    record {
+      shape = d.shape;
+      numbers = keys;
+      told = true_so a (λ bytes. IsCopy bytes d (leaf_map tiles)) (λ bytes. TellsNumbers bytes d.shape keys)
+          (λ bytes c. record { k = c.k; properties = file_of d (leaf_map tiles) path.Properties; d = d; unread = c.compared.has.behind; covered = c.compared.has.covered; shape_is = refl }) copy;
+      few = omega (arith, few, long, same);
+    }

@@ -1,80 +1,83 @@
--- What is told of the unread bytes, step after step.
-use Rattle.std.proofs.Common.{◌≡◌, inl, inr, ℕ, List, Option, Some, None, Result, Ok, Err, sym, subst}
+-- What is true of the unread bytes, step after step.
+use Rattle.std.proofs.Common.{◌≡◌, ◌+◌, ◌-◌, ◌≤◌, ◌++◌, [], ℕ, List, Option, Some, None, Result, Ok, Err, refl, sym, ap, ◌∙◌, subst, arith, length, append_assoc}
 use Rattle.std.specs.Prelude.{IfSome, IsSome, IfOk, IfErr, OnOk, OnErr}
-use Rattle.mirror_frame.specs.Reply.{IsReply, pinned_line}
-use Rattle.mirror_frame.specs.declared.due.Due.TheVariants.{Pinned}
+use Rattle.std.specs.Io.KnownBytes.{Consumes}
+use Rattle.std.proofs.lemmas.List.{drop-append-le}
+use Rattle.survey_link.specs.declared.source.Source as source
+use Rattle.survey_link.specs.declared.sink.Sink as sink
+use Rattle.http_frame.specs.Next.{IsHeadLength}
+use Rattle.http_frame.proofs.Nexts.{head_length_of_more, text_of_more}
+use Rattle.mirror_frame.specs.Reading.{unread, StopsReply}
+use Rattle.mirror_frame.specs.Reply.{pinned_line, IsReply, IsWrongReply, IsCutReply}
+use Rattle.mirror_frame.specs.Exchange.{Talk, BreaksOff, in_request, in_reply}
+use Rattle.mirror_frame.specs.declared.ask.Ask.{Ask}
 use Rattle.mirror_frame.specs.declared.due.Due.{Due}
-use Rattle.hips_mirror.specs.declared.refusal.MirrorRefusal.{MirrorRefusal}
-use Rattle.hips_mirror.specs.Mirror.{RefusesReply, RefusesAt}
-use Rattle.mirror_frame.specs.Peer.{Told}
-use Rattle.hips_mirror.specs.Stages.{RefusedBy}
+use Rattle.mirror_frame.specs.declared.reading.Stop.{Stop}
+use Rattle.mirror_frame.specs.declared.reading.Stop.TheVariants as stop
+use Rattle.hips_mirror.specs.Mirror.{TrueOf, RefusesReply}
+use Rattle.hips_mirror.specs.Stages.{of_stop}
 
--- two steps
-pub told_then : (a b c : Option (List ℕ)) (P Q R : List ℕ → List ℕ → Type 0) → ((x y z : List ℕ) → P x y → Q y z → R x z) → Told a b P → Told b c Q → Told a c R
-told_then None b c P Q R both p q = tt
-told_then (Some x) None c P Q R both p q = absurd p
-told_then (Some x) (Some y) None P Q R both p q = absurd q
-told_then (Some x) (Some y) (Some z) P Q R both p q = both x y z p q
+-- before these bytes came
+pub true_before : (a b : Option (List ℕ)) (came : List ℕ) (P Q : List ℕ → Type 0) → Consumes a b came → ((x : List ℕ) → Q x → P (came ++ x)) → TrueOf b Q → TrueOf a P
+true_before None None came P Q taken so q = (came ++ q.0, so q.0 q.1)
+true_before None (Some y) came P Q taken so q = (came ++ y, so y q)
+true_before (Some x) None came P Q taken so q = absurd taken
+true_before (Some x) (Some y) came P Q taken so q = subst P (sym taken) (so y q)
 
--- a step, and then a refusal
-pub refused_then : (a b : Option (List ℕ)) (P : List ℕ → List ℕ → Type 0) (W V : List ℕ → Type 0) → ((x y : List ℕ) → P x y → W y → V x) → Told a b P → IfSome b W → IfSome a V
-refused_then None b P W V both p w = tt
-refused_then (Some x) None P W V both p w = absurd p
-refused_then (Some x) (Some y) P W V both p w = both x y p w
+pub true_so : (a : Option (List ℕ)) (P Q : List ℕ → Type 0) → ((x : List ℕ) → P x → Q x) → TrueOf a P → TrueOf a Q
+true_so None P Q each p = (p.0, each p.0 p.1)
+true_so (Some x) P Q each p = each x p
 
-pub told_so : (a b : Option (List ℕ)) (P R : List ℕ → List ℕ → Type 0) → ((x y : List ℕ) → P x y → R x y) → Told a b P → Told a b R
-told_so None b P R each p = tt
-told_so (Some x) None P R each p = absurd p
-told_so (Some x) (Some y) P R each p = each x y p
+-- of all bytes
+pub true_of_all : (a : Option (List ℕ)) (P : List ℕ → Type 0) → ((x : List ℕ) → P x) → TrueOf a P
+true_of_all None P all = ([], all [])
+true_of_all (Some x) P all = all x
 
-pub some_so : (a : Option (List ℕ)) (W V : List ℕ → Type 0) → ((x : List ℕ) → W x → V x) → IfSome a W → IfSome a V
-some_so None W V each w = tt
-some_so (Some x) W V each w = each x w
+pub true_unread : (held : List ℕ) (left : Option (List ℕ)) (P : List ℕ → Type 0) → TrueOf left (λ x. P (held ++ x)) → TrueOf (unread held left) P
+true_unread held None P p = (held ++ p.0, p.1)
+true_unread held (Some x) P p = p
 
-pub ok_so : {T E : Type 0} (r : Result T E) (P Q : T → Type 0) → ((t : T) → P t → Q t) → IfOk r P → IfOk r Q
-ok_so (Ok t) P Q each p = each t p
-ok_so (Err e) P Q each p = tt
+-- a well-formed reply stands first in more bytes, too, and these follow it
+pub reply_of_more : (due : Due) (bytes more body rest : List ℕ) → IsReply due bytes body rest → IsReply due (bytes ++ more) body (rest ++ more)
+reply_of_more due bytes more body rest r =
+    let n = r.head_length in
+    let ends : IsHeadLength bytes n = r.begins.ends in
+    let fits : n - 4 + 4 ≤ length bytes = ends.ends.fits in
+    let least : 4 ≤ n = ends.least in
+    record {
+      head_length = n;
+      prefix = r.prefix;
+      begins = record { ends = head_length_of_more bytes more n ends; says = rw (text_of_more bytes more n ends) r.begins.says; fits = r.begins.fits };
+      told = r.told;
+      rest_is = drop-append-le n bytes more (omega (arith, fits, least)) ∙ ap (λ after. after ++ more) r.rest_is ∙ append_assoc body rest more;
+    }
 
-pub err_so : {T E : Type 0} (r : Result T E) (P Q : E → Type 0) → ((e : E) → P e → Q e) → IfErr r P → IfErr r Q
-err_so (Ok t) P Q each p = tt
-err_so (Err e) P Q each p = each e p
+-- why a request has no reply
+module _ {S K : Type 0} (told_source : source.Ghosts S) (told_sink : sink.Ghosts K) (ask : Ask) (due : Due) (old new : Talk S K) (n : ℕ) where
+  pub wrong_came : BreaksOff told_source told_sink ask due old new stop.Wrong → (bytes : List ℕ) × IsWrongReply due (old.held ++ bytes)
+  wrong_came (in_request is src part) = absurd cc
+  wrong_came (in_reply asked came body rest sent read why) = (came, subst (λ held. IsWrongReply due (held ++ came)) sent.held why)
 
-pub on_so : {T E : Type 0} (r : Result T E) (P Q : Type 0) → (P → Q) → OnOk r P → OnOk r Q
-on_so (Ok t) P Q each p = each p
-on_so (Err e) P Q each p = tt
+  pub cut_came : BreaksOff told_source told_sink ask due old new stop.Cut → (bytes : List ℕ) × IsCutReply due (old.held ++ bytes)
+  cut_came (in_request is src part) = absurd cc
+  cut_came (in_reply asked came body rest sent read why) = (came, subst (λ held. IsCutReply due (held ++ came)) sent.held why.0)
 
-pub err_given : {T E : Type 0} (r : Result T E) (X : Type 0) → X → OnErr r X
-err_given (Ok t) X x = tt
-err_given (Err e) X x = x
+  pub stopped_of : (left : Option (List ℕ)) (why : Stop) → BreaksOff told_source told_sink ask due old new why → IfSome (unread old.held left) (λ bytes. StopsReply due bytes why)
+      → TrueOf left (λ bytes. RefusesReply due n (old.held ++ bytes) (of_stop why n))
+  stopped_of None stop.Wrong off told = let came = wrong_came off in (came.0, (refl, came.1))
+  stopped_of None stop.Cut off told = cut_came off
+  stopped_of None stop.ReadFault off told = ([], tt)
+  stopped_of None stop.WriteFault off told = ([], tt)
+  stopped_of None stop.OutOfMemory off told = ([], tt)
+  stopped_of (Some x) stop.Wrong off told = (refl, told)
+  stopped_of (Some x) stop.Cut off told = told
+  stopped_of (Some x) stop.ReadFault off told = tt
+  stopped_of (Some x) stop.WriteFault off told = tt
+  stopped_of (Some x) stop.OutOfMemory off told = tt
 
-pub on_given : {T E : Type 0} (r : Result T E) (X : Type 0) → X → OnOk r X
-on_given (Ok t) X x = x
-on_given (Err e) X x = tt
-
-pub reply_at : (due : Due) (n : ℕ) (Wrong : MirrorRefusal → List ℕ → Type 0) (a : Option (List ℕ)) (refusal : MirrorRefusal) → IfSome a (λ bytes. RefusesReply due n bytes refusal)
-    → IfSome a (λ bytes. RefusesAt due n Wrong bytes refusal)
-reply_at due n Wrong None refusal why = tt
-reply_at due n Wrong (Some x) refusal why = inl why
-
--- a reply that came, and a body that is refused
-pub body_refused : (due : Due) (request : ℕ) (Wrong : MirrorRefusal → List ℕ → Type 0) (a b : Option (List ℕ)) (body : List ℕ) (refusal : MirrorRefusal)
-    → Told a b (λ bytes rest. IsReply due bytes body rest) → RefusedBy Wrong body refusal → IfSome a (λ bytes. RefusesAt due request Wrong bytes refusal)
-body_refused due request Wrong None b body refusal told wrong = tt
-body_refused due request Wrong (Some x) None body refusal told wrong = absurd told
-body_refused due request Wrong (Some x) (Some y) body refusal told (inl wrong) = inr (record { body = body; rest = y; reply = told; wrong = wrong })
-body_refused due request Wrong (Some x) (Some y) body refusal told (inr none) = inl (rw none tt)
-
-pub bodies_refused : {T : Type 0} (due : Due) (request : ℕ) (Wrong : MirrorRefusal → List ℕ → Type 0) (a b : Option (List ℕ)) (body : List ℕ) (r : Result T MirrorRefusal)
-    → Told a b (λ bytes rest. IsReply due bytes body rest) → IfErr r (RefusedBy Wrong body) → IfErr r (λ refusal. IfSome a (λ bytes. RefusesAt due request Wrong bytes refusal))
-bodies_refused due request Wrong a b body r told =
-    err_so r (RefusedBy Wrong body) (λ refusal. IfSome a (λ bytes. RefusesAt due request Wrong bytes refusal)) (λ refusal why. body_refused due request Wrong a b body refusal told why)
-
--- the reply to the first request tells which state is held
-pub pinned_told : (k : ℕ) (body : List ℕ) (prefix : Option ℕ) (a b : Option (List ℕ)) → Some k ≡ prefix → IsSome prefix × IfSome prefix (λ n. body ≡ pinned_line n)
-    → Told a b (λ bytes rest. IsReply Pinned bytes body rest) → Told a b (λ bytes rest. IsReply Pinned bytes (pinned_line k) rest)
-pinned_told k body prefix a b is line told =
-    let own : body ≡ pinned_line k = subst (λ o. IfSome o (λ n. body ≡ pinned_line n)) (sym is) line.1 in
-    subst (λ x. Told a b (λ bytes rest. IsReply Pinned bytes x rest)) own told
+-- the body of the reply to the first request tells which state is held
+pub pinned_body : (k : ℕ) (body : List ℕ) (prefix : Option ℕ) → Some k ≡ prefix → IsSome prefix × IfSome prefix (λ n. body ≡ pinned_line n) → body ≡ pinned_line k
+pinned_body k body prefix is line = subst (λ o. IfSome o (λ n. body ≡ pinned_line n)) (sym is) line.1
 
 -- what holds of a refusal holds of the one that was given
 pub of_err : {T E : Type 0} (r : Result T E) (e : E) (P : E → Type 0) → r ≡ Err e → IfErr r P → P e
@@ -86,3 +89,7 @@ of_ok r t P is holds = subst (λ q. IfOk q P) is holds
 pub given_ok : {T E : Type 0} (r : Result T E) (X : Type 0) → OnOk r X → IfOk r (λ _. X)
 given_ok (Ok t) X x = x
 given_ok (Err e) X x = tt
+
+pub err_given : {T E : Type 0} (r : Result T E) (X : Type 0) → X → OnErr r X
+err_given (Ok t) X x = tt
+err_given (Err e) X x = x

@@ -1,7 +1,7 @@
 -- What the bytes of a peer make of a copy of its survey, stage by stage: the description, the cover, the leaves one by one, the
 -- mosaic and the last reply. The files are those of HiPS 1.0 (section 4). Which requests are sent, in which order the replies
 -- are judged, and what is refused is this project's profile.
-use Rattle.std.specs.Prelude.{◌≡◌, ◌≢◌, ◌⊎◌, ℕ, ◌<◌, ◌+◌, ◌-◌, ◌*◌, ◌≤◌, ◌==◌, ◌&&◌, ◌||◌, not, nat_le, nat_lt, Bool, true, false, List, [], ◌∷◌, ◌++◌, codes, length, map, take, slice_get, slice_index, All, Option, Some, None, IfSome, Ok, Err, ⊤}
+use Rattle.std.specs.Prelude.{◌≡◌, ◌≢◌, ◌⊎◌, ℕ, ◌<◌, ◌+◌, ◌-◌, ◌*◌, ◌≤◌, ◌==◌, ◌&&◌, ◌||◌, not, nat_le, nat_lt, Bool, true, false, List, [], ◌∷◌, ◌++◌, codes, length, map, take, slice_get, slice_index, All, Option, Some, None, Ok, Err, ⊤}
 use Rattle.std.specs.Map.{keys_of}
 use Rattle.std.specs.FinMap.{len}
 use Rattle.std.specs.Io.KnownBytes.{Appends}
@@ -200,13 +200,16 @@ pub data Refuses (bytes : List ℕ) (refusal : MirrorRefusal) : Type 0 where
 
 -- ---- what a copy does
 
--- the whole conversation: these were the description and the leaves, where the proof can see the bytes, and all requests were
--- sent
+-- this is true of the bytes that are left, where the proof can see them; of some bytes, where it can't
+abbrev pub TrueOf : Option (List ℕ) → (List ℕ → Type 0) → Type 0
+TrueOf None P = (bytes : List ℕ) × P bytes
+TrueOf (Some bytes) P = P bytes
+
+-- the whole conversation: the bytes are a copy of this description and these leaves, and all requests were sent
 pub record Talks (left held held' : Option (List ℕ)) : Type 0 where
   pub conf : Description
   pub leaves : LeafMap
-  pub read : IfSome left (λ bytes. IsCopy bytes conf leaves)
-  pub fits : is_too_large conf.shape (length leaves) ≡ false
+  pub read : TrueOf left (λ bytes. IsCopy bytes conf leaves)
   pub sent : Appends held held' (mirror_requests conf.shape.top (keys_of leaves))
 
 -- after it the shelf has exactly these files of a survey, so many; a step was taken for each leaf and each tile above them,
@@ -221,7 +224,7 @@ pub record Copies (left held held' : Option (List ℕ)) (old new : Option ShelfF
 abbrev pub bare : List ℕ → LeafMap
 bare numbers = map (λ number. (number, [])) numbers
 
--- where the proof can see the bytes, these are the leaves of their cover
+-- these are the leaves of the cover
 pub record TellsNumbers (bytes : List ℕ) (shape : PyramidShape) (numbers : List ℕ) : Type 0 where
   pub k : ℕ
   pub properties : List ℕ
@@ -234,5 +237,5 @@ pub record TellsNumbers (bytes : List ℕ) (shape : PyramidShape) (numbers : Lis
 pub record StepsFit (left : Option (List ℕ)) (steps steps' : ℕ) : Type 0 where
   pub shape : PyramidShape
   pub numbers : List ℕ
-  pub told : IfSome left (λ bytes. TellsNumbers bytes shape numbers)
+  pub told : TrueOf left (λ bytes. TellsNumbers bytes shape numbers)
   pub few : steps' ≤ steps + (length numbers + tiles_above shape (bare numbers))

@@ -1,7 +1,7 @@
 -- The order of a copy's requests and replies: each request is sent once the reply to the one before was read, and nothing
 -- else is written or read. It holds whatever the proof sees of the ends. That it is so also where the very next reading or
 -- writing fails, which nobody can know before, is what keeps a request from being sent early.
-use Rattle.std.specs.Prelude.{◌≡◌, ◌⊎◌, ◌≢◌, ℕ, List, [], Result, Ok, Err}
+use Rattle.std.specs.Prelude.{◌⊎◌, ◌≢◌, ℕ, List, [], Result, Ok, Err}
 use Rattle.survey_link.specs.declared.source.Source as source
 use Rattle.survey_link.specs.declared.sink.Sink as sink
 use Rattle.mirror_frame.specs.Requests.{asks}

@@ -1,5 +1,6 @@
--- What the steps of a copy say, where the proof can see the bytes of the peer.
-use Rattle.std.specs.Prelude.{◌≡◌, ◌≢◌, ◌⊎◌, ◌↔◌, ℕ, zero, suc, ◌<◌, ◌^◌, ◌+◌, nat_lt, if◌then◌else◌, ℤ, List, [], ◌∷◌, ◌++◌, Ok, Option, Some, IfSome, ⊤}
+-- What the steps of a copy say.
+use Rattle.std.specs.Prelude.{◌≡◌, ◌≢◌, ◌⊎◌, ◌↔◌, ℕ, zero, suc, ◌<◌, ◌^◌, ◌+◌, nat_lt, if◌then◌else◌, ℤ, List, [], ◌∷◌, ◌++◌, Ok, Option, Some, ⊤}
+use Rattle.std.specs.Io.KnownBytes.{Consumes}
 use Rattle.survey_link.specs.Link.{Rises}
 use Rattle.survey_link.specs.declared.source.Source as source
 use Rattle.survey_link.specs.declared.sink.Sink as sink
@@ -14,7 +15,7 @@ use Rattle.tile_path.specs.declared.path.Path.TheVariants as path
 use Rattle.mirror_frame.specs.Requests.{asks}
 use Rattle.mirror_frame.specs.declared.ask.Ask.TheVariants.{File}
 use Rattle.mirror_frame.specs.Exchange.{Converses, StopsIn}
-use Rattle.mirror_frame.specs.Peer.{talk, unread_at, Goes, Told}
+use Rattle.mirror_frame.specs.Peer.{talk, Goes}
 use Rattle.mirror_frame.specs.declared.peer.Peer.{Peer}
 use Rattle.mirror_frame.specs.declared.ask.Ask.{Ask}
 use Rattle.mirror_frame.specs.declared.due.Due.TheVariants.{Survey}
@@ -22,7 +23,7 @@ use Rattle.mirror_frame.specs.declared.reading.Stop.{Stop}
 use Rattle.mirror_frame.specs.declared.reading.Stop.TheVariants as stop
 use Rattle.hips_mirror.specs.declared.refusal.MirrorRefusal.{MirrorRefusal}
 use Rattle.hips_mirror.specs.declared.refusal.MirrorRefusal.TheVariants as refusal
-use Rattle.hips_mirror.specs.Mirror.{Described, Covered, HasLeaves, IsProperties, IsCoverOf, Refuses}
+use Rattle.hips_mirror.specs.Mirror.{Described, Covered, HasLeaves, IsProperties, IsCoverOf, Refuses, TrueOf}
 
 -- the number of leaves with which the description's properties are this body; none where there is no such number
 abbrev pub Counts : Description → List ℕ → Option ℕ → Type 0
@@ -119,10 +120,12 @@ abbrev pub unpin_request : ℕ → ℕ
 unpin_request count = 3 + count + (if nat_lt 0 count then 1 else 0)
 
 module _ {S K : Type 0} (told_source : source.Ghosts S) (told_sink : sink.Ghosts K) where
-  -- these requests have their replies, and this is so of the unread bytes before and after, where the proof can see them
+  -- these requests have their replies: these bytes came, and this is so of the unread bytes before and after, however they go on
   pub record Reaches (k : ℕ) (asks : List Ask) (Leads : List ℕ → List ℕ → Type 0) (old new : Peer S K) : Type 0 where
     pub conversed : Converses told_source told_sink k asks (talk old) (talk new)
-    pub told : Told (unread_at told_source old) (unread_at told_source new) Leads
+    pub came : List ℕ
+    pub taken : Consumes (told_source.left old.src.now) (told_source.left new.src.now) came
+    pub leads : (more : List ℕ) → Leads ((talk old).held ++ (came ++ more)) ((talk new).held ++ more)
     pub goes : Goes told_source told_sink old new
 
   -- a fault of an end comes only where its count of faults rose, and none of the shelf
@@ -139,11 +142,14 @@ module _ {S K : Type 0} (told_source : source.Ghosts S) (told_sink : sink.Ghosts
   FaultRose old new (refusal.Leaf cell fault) = ⊤
   FaultRose old new (refusal.Differs path) = ⊤
 
-  -- a prefix of these requests has its replies, the next one is begun at most, and this is why: so of the unread bytes, where
-  -- the proof can see them
+  -- this is true of the unread bytes: those held, and those left
+  abbrev pub TrueOfUnread : Peer S K → (List ℕ → Type 0) → Type 0
+  TrueOfUnread peer P = TrueOf (told_source.left peer.src.now) (λ bytes. P ((talk peer).held ++ bytes))
+
+  -- a prefix of these requests has its replies, the next one is begun at most, and the unread bytes are refused so
   pub record IsRefusedIn (k : ℕ) (asks : List Ask) (Refused : List ℕ → Type 0) (old new : Peer S K) (why : MirrorRefusal) : Type 0 where
     pub stops : StopsIn told_source told_sink k (Tells why) (IsOfBody why) asks (talk old) (talk new)
-    pub refused : IfSome (unread_at told_source old) Refused
+    pub refused : TrueOfUnread old Refused
     pub faults : FaultRose old new why
     pub goes : Goes told_source told_sink old new
 

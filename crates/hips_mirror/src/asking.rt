@@ -1,13 +1,13 @@
 //! One request and its reply.
-ghost use Rattle.std.specs.Prelude.{◌≡◌, IfOk, IfErr, OnOk, IfSome, IsSome, MatchResult};
+ghost use Rattle.std.specs.Prelude.{◌≡◌, IfOk, IfErr, IfSome, IsSome, MatchResult};
 ghost use Rattle.mirror_frame.specs.Requests.{HasOrder};
-ghost use Rattle.mirror_frame.specs.Reply.{IsReply, pinned_line};
+ghost use Rattle.mirror_frame.specs.Reply.{pinned_line};
 ghost use Rattle.mirror_frame.specs.Exchange.{IsExchanged, BreaksOff};
-ghost use Rattle.mirror_frame.specs.Peer.{talk, body_of, unread_at, Goes, Told};
+ghost use Rattle.mirror_frame.specs.Peer.{talk, body_of, Goes};
 ghost use Rattle.mirror_frame.specs.declared.due.Due.TheVariants.{Pinned};
 ghost use Rattle.mirror_frame.specs.declared.reading.Stop.{Stop as Stopped};
 ghost use Rattle.hips_mirror.specs.Mirror.{RefusesReply};
-ghost use Rattle.hips_mirror.specs.Stages.{FaultRose, of_stop};
+ghost use Rattle.hips_mirror.specs.Stages.{FaultRose, TrueOfUnread, of_stop};
 
 use crate::refusal::MirrorRefusal;
 use crate::saying::{Request, say_stop};
@@ -32,9 +32,8 @@ pub(crate) fn ask<R: Log, S: Source, K: Sink>(
     ensures asked { MatchResult result
         (λ _. IsExchanged S.Source K.Sink request.now.ask due (body_of peer.new) (talk peer.old) (talk peer.new))
         (λ refusal. (stop : Stopped) × (refusal ≡ of_stop stop request.now.number) × BreaksOff S.Source K.Sink request.now.ask due (talk peer.old) (talk peer.new) stop) }
-    ensures read { OnOk result (Told (unread_at S.Source peer.old) (unread_at S.Source peer.new) (λ bytes rest. IsReply due bytes (body_of peer.new) rest)) }
     ensures pinned { due ≡ Pinned → IfOk result (λ prefix. IsSome prefix × IfSome prefix (λ k. body_of peer.new ≡ pinned_line k)) }
-    ensures refused { IfErr result (λ refusal. IfSome (unread_at S.Source peer.old) (λ bytes. RefusesReply due request.now.number bytes refusal)) }
+    ensures refused { IfErr result (λ refusal. TrueOfUnread S.Source K.Sink peer.old (λ bytes. RefusesReply due request.now.number bytes refusal)) }
     ensures faults { IfErr result (FaultRose S.Source K.Sink peer.old peer.new) }
     ensures goes { Goes S.Source K.Sink peer.old peer.new }
 {

@@ -1,5 +1,5 @@
 //! From a peer to a shelf.
-ghost use Rattle.std.specs.Prelude.{◌≡◌, ◌≢◌, ◌⊎◌, ◌≤◌, ◌+◌, ℕ, List, [], length, Err, IfOk, IfErr, OnOk, OnErr, IfSome, IsErrOf, false};
+ghost use Rattle.std.specs.Prelude.{◌≡◌, ◌≢◌, ◌⊎◌, ◌≤◌, ◌+◌, ℕ, List, [], length, Err, IfOk, IfErr, OnOk, OnErr, IsErrOf};
 ghost use Rattle.std.specs.FinMap.{len};
 ghost use Rattle.std.specs.Map.{keys_of};
 ghost use Rattle.std.specs.Io.KnownBytes.{Appends};
@@ -9,7 +9,7 @@ ghost use Rattle.mirror_frame.specs.Peer.{unread_at, Goes};
 ghost use Rattle.generation.specs.Files.{leaf_map, files_in};
 ghost use Rattle.generation.specs.Steps.{tiles_above};
 ghost use Rattle.shelf_io.specs.Survey.{Replaces, OthersStay};
-ghost use Rattle.hips_mirror.specs.Mirror.{IsCopy, Refuses, is_too_large, Talks, Copies, StepsFit};
+ghost use Rattle.hips_mirror.specs.Mirror.{IsCopy, Refuses, TrueOf, Talks, Copies, StepsFit};
 ghost use Rattle.hips_mirror.specs.Stages.{Reaches, IsRefused};
 ghost use Rattle.hips_mirror.specs.Order.{InOrder};
 
@@ -56,7 +56,7 @@ pub fn mirror<R: Threads + Sync + Clock + Log, S: Source, K: Sink, H: Shelf, G: 
     ensures flushed { OnOk result (K.flushed sink.new ≡ K.held sink.new) }
     // Each request was sent once the reply to the one before was read; nothing else was written, and nothing more was read.
     ensures order { (held : List ℕ) × InOrder S.Source K.Sink (record { src = src.old; sink = sink.old; held = [] }) (record { src = src.new; sink = sink.new; held = held }) result }
-    ensures refused { IfErr result (λ refusal. IfSome (S.left src.old) (λ bytes. Refuses bytes refusal)) }
+    ensures refused { IfErr result (λ refusal. TrueOf (S.left src.old) (λ bytes. Refuses bytes refusal)) }
     ensures untouched { IfErr result (λ refusal. refusal ≢ MirrorRefusal.ShelfFault → refusal ≢ MirrorRefusal.OutOfMemory
         → H.files shelf.new ≡ H.files shelf.old) }
     ensures last { OnErr result ((H.files shelf.new ≡ H.files shelf.old)
@@ -106,12 +106,11 @@ fn copy<R: Threads + Sync + Clock + Log, S: Source, K: Sink, G: Gate + Sync>(
     gate: &G,
     steps: &mut Steps,
 ) -> Result<Generation, MirrorRefusal>
-    ensures copied { IfOk result (λ made. IfSome (S.left src.old) (λ bytes. IsCopy bytes made.conf (leaf_map made.leaves))) }
-    ensures fits { IfOk result (λ made. is_too_large made.conf.shape (length made.leaves) ≡ false) }
+    ensures copied { IfOk result (λ made. TrueOf (S.left src.old) (λ bytes. IsCopy bytes made.conf (leaf_map made.leaves))) }
     ensures sent { IfOk result (λ made. Appends (K.held sink.old) (K.held sink.new) (mirror_requests made.conf.shape.top (keys_of made.leaves))) }
     ensures flushed { OnOk result (K.flushed sink.new ≡ K.held sink.new) }
     ensures order { (held : List ℕ) × InOrder S.Source K.Sink (record { src = src.old; sink = sink.old; held = [] }) (record { src = src.new; sink = sink.new; held = held }) result }
-    ensures refused { IfErr result (λ refusal. IfSome (S.left src.old) (λ bytes. Refuses bytes refusal)) }
+    ensures refused { IfErr result (λ refusal. TrueOf (S.left src.old) (λ bytes. Refuses bytes refusal)) }
     ensures no_shelf { result ≢ Err MirrorRefusal.ShelfFault }
     ensures read_failed { IsErrOf result MirrorRefusal.ReadFault → Rises (S.faults src.old) (S.faults src.new) }
     ensures write_failed { IsErrOf result MirrorRefusal.WriteFault → Rises (K.faults sink.old) (K.faults sink.new) }
@@ -140,7 +139,6 @@ fn copy_from<R: Threads + Sync + Clock + Log, S: Source, K: Sink, G: Gate + Sync
 ) -> Result<Generation, MirrorRefusal>
     ensures copied { IfOk result (λ made. (k : ℕ) × Reaches S.Source K.Sink k (asks made.conf.shape.top (keys_of made.leaves))
         (λ bytes rest. IsCopy bytes made.conf (leaf_map made.leaves)) peer.old peer.new) }
-    ensures fits { IfOk result (λ made. is_too_large made.conf.shape (length made.leaves) ≡ false) }
     ensures refused { IfErr result (IsRefused S.Source K.Sink peer.old peer.new) }
     ensures goes { Goes S.Source K.Sink peer.old peer.new }
     ensures few { IfOk result (λ made. steps.new ≤ steps.old + (length made.leaves + tiles_above made.conf.shape (leaf_map made.leaves))) }

@@ -1,10 +1,10 @@
 -- What `mirror` does: it copies one published state of a peer's survey onto the shelf. The source has what the peer sends, and
 -- the sink gets the requests.
-use Rattle.std.specs.Prelude.{◌≡◌, ◌≢◌, ◌⊎◌, ℕ, Option, Result, Ok, Err, IfSome}
+use Rattle.std.specs.Prelude.{◌≡◌, ◌≢◌, ◌⊎◌, ℕ, Option, Result, Ok, Err}
 use Rattle.survey_link.specs.Door.{Connection}
 use Rattle.survey_link.specs.Shelf.{ShelfFiles}
 use Rattle.shelf_io.specs.Survey.{OthersStay}
-use Rattle.hips_mirror.specs.Mirror.{Copies, Refuses, Talks, StepsFit}
+use Rattle.hips_mirror.specs.Mirror.{Copies, Refuses, TrueOf, Talks, StepsFit}
 use Rattle.hips_mirror.specs.declared.refusal.MirrorRefusal.{MirrorRefusal}
 use Rattle.hips_mirror.specs.declared.refusal.MirrorRefusal.TheVariants.{Reply, Properties, Cover, TooLarge, Leaf, Differs, Cut, ReadFault, WriteFault, ShelfFault, OutOfMemory}
 
@@ -42,7 +42,7 @@ pub record IsCopied (run : Copying) (count : ℕ) : Type 0 where
 -- it came no further for this refusal, the first that what the peer sends gives. The files stay, unless the shelf failed or
 -- there was no memory once all replies were read; all files stay that no survey can have
 pub record IsRefused (run : Copying) (refusal : MirrorRefusal) : Type 0 where
-  pub refused : IfSome run.old.unread (λ bytes. Refuses bytes refusal)
+  pub refused : TrueOf run.old.unread (λ bytes. Refuses bytes refusal)
   pub untouched : refusal ≢ ShelfFault → refusal ≢ OutOfMemory → run.files_then ≡ run.files
   pub last : (run.files_then ≡ run.files) ⊎ (Talks run.old.unread run.old.written run.new.written × OthersStay run.files run.files_then)
   pub steps : (run.steps_then ≡ run.steps) ⊎ StepsFit run.old.unread run.steps run.steps_then

@@ -1,6 +1,5 @@
 use Rattle.std.proofs.Common.{refl, arith, ◌<◌, ◌+◌}
 use Rattle.tile_path.specs.declared.path.Path.TheVariants.{Allsky}
-use Rattle.mirror_frame.specs.Peer.{body_of}
 use Rattle.mirror_frame.specs.declared.ask.Ask.TheVariants.{File}
 use Rattle.mirror_frame.specs.declared.due.Due.TheVariants.{Survey}
 use Rattle.hips_mirror.proofs.StageLemmas.{one_refused}
@@ -10,7 +9,7 @@ use Rattle.hips_mirror.proofs.comparing.read_mosaic.Goals as goal
 pub returns-in-Ok-clause-reached : goal.returns-in-Ok-clause-reached
 returns-in-Ok-clause-reached g c =
     let some : 0 < c.args.leaves = omega (arith, c.if-leaves-eq0.false) in
-    mosaic_reached g.S.Source g.K.Sink c.args.pinned c.mosaic.result.ask c.args.leaves c.args.peer.now c.ask.new.peer some c.mosaic.ensures.ask c.in-Ok.ensures.asked c.in-Ok.ensures.read c.ask.ensures.goes
+    mosaic_reached g.S.Source g.K.Sink c.args.pinned c.mosaic.result.ask c.args.leaves c.args.peer.now c.ask.new.peer some c.mosaic.ensures.ask c.in-Ok.ensures.asked c.ask.ensures.goes
 
 pub returns-in-Err-clause-refused : goal.returns-in-Err-clause-refused
 returns-in-Err-clause-refused g c = (

@@ -1,7 +1,11 @@
-use Rattle.std.proofs.Common.{rules, [], ◌≡◌, ap, ◌∙◌, Err}
+use Rattle.std.proofs.Common.{rules, [], ◌≡◌, ap, ◌∙◌, Err, refl}
 use Rattle.std.proofs.lemmas.Result.{err_from_is_err_and}
 use Rattle.survey_link.specs.Inbox.{held}
-use Rattle.hips_mirror.proofs.OrderLemmas.{nothing_sent, order_of, sent_of, flushed_of, steps_from}
+use Rattle.shelf_io.proofs.LoadLemmas.{if_err_from}
+use Rattle.hips_mirror.specs.declared.refusal.MirrorRefusal.TheVariants.{OutOfMemory}
+use Rattle.hips_mirror.specs.Mirror.{Refuses, at_pin, TrueOf}
+use Rattle.hips_mirror.proofs.ToldLemmas.{true_of_all}
+use Rattle.hips_mirror.proofs.OrderLemmas.{nothing_sent, order_of, sent_of, flushed_of, copied_of, refused_of, steps_from}
 use Rattle.hips_mirror.proofs.copying.copy.Goals as goal
 
 pub returns-in_err-received-clause-order : goal.returns-in_err-received-clause-order
@@ -31,3 +35,18 @@ returns-clause-flushed g c =
 
 pub returns-clause-steps : goal.returns-clause-steps
 returns-clause-steps g c = steps_from c.copy_from.result _ (g.S.Source.left c.args.src.now) _ _ c.in_ok-received.ensures c.copy_from.ensures.steps
+
+pub returns-clause-copied : goal.returns-clause-copied
+returns-clause-copied g c =
+    let begins = ap (λ h. record { src = c.args.src.now; sink = c.args.sink.now; held = h }) c.in_ok-received.ensures in
+    copied_of g.S.Source g.K.Sink _ _ _ begins c.copy_from.result c.copy_from.ensures.copied refl
+
+pub returns-clause-refused : goal.returns-clause-refused
+returns-clause-refused g c =
+    let begins = ap (λ h. record { src = c.args.src.now; sink = c.args.sink.now; held = h }) c.in_ok-received.ensures in
+    refused_of g.S.Source g.K.Sink _ _ _ begins c.copy_from.result c.copy_from.ensures.refused refl
+
+pub returns-in_err-received-clause-refused : goal.returns-in_err-received-clause-refused
+returns-in_err-received-clause-refused g c =
+    if_err_from (λ why. TrueOf (g.S.Source.left c.args.src.now) (λ bytes. Refuses bytes why)) c.from_residual.result OutOfMemory (err_from_is_err_and c.from_residual.result c.from_residual.ensures.1)
+    (true_of_all (g.S.Source.left c.args.src.now) (λ bytes. Refuses bytes OutOfMemory) (λ bytes. at_pin tt))

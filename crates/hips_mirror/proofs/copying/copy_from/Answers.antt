@@ -1,22 +1,19 @@
-use Rattle.std.proofs.Common.{◌≡◌, ◌+◌, ◌<◌, ◌≤◌, ◌^◌, ◌∙◌, ◌++◌, [], ◌∷◌, ℕ, List, inr, refl, sym, ap, subst, arith, length, map}
-use Rattle.std.specs.Prelude.{All}
+use Rattle.std.proofs.Common.{◌≡◌, ◌+◌, ◌<◌, ◌≤◌, ◌^◌, ◌∙◌, [], inr, refl, sym, ap, subst, arith, length}
 use Rattle.std.specs.Map.{keys_of}
 use Rattle.std.proofs.lemmas.Map.Entries.{length-keys_of}
 use Rattle.std.proofs.lemmas.Result.{err_from_is_err_and}
 use Rattle.shelf_io.proofs.LoadLemmas.{if_err_from}
 use Rattle.generation.specs.Files.{leaf_map}
 use Rattle.generation.specs.Generation.{GenerationContent}
-use Rattle.generation.specs.Steps.{tiles_above}
-use Rattle.mirror_frame.specs.Requests.{asks, leaf_ask}
+use Rattle.mirror_frame.specs.Requests.{asks}
 use Rattle.mirror_frame.specs.Reply.{IsReply}
-use Rattle.mirror_frame.specs.Reply.{IsReply}
-use Rattle.mirror_frame.specs.Peer.{unread_at, body_of}
+use Rattle.mirror_frame.specs.Peer.{body_of}
 use Rattle.mirror_frame.specs.declared.ask.Ask.TheVariants.{Unpin}
 use Rattle.mirror_frame.specs.declared.due.Due.TheVariants.{Any}
-use Rattle.hips_mirror.specs.Mirror.{bare, IsCopy, StepsFit}
-use Rattle.hips_mirror.specs.Stages.{IsRefused, Reaches, unpin_request, asks_of_mosaic, TellsMosaic}
+use Rattle.hips_mirror.specs.Mirror.{IsCopy}
+use Rattle.hips_mirror.specs.Stages.{IsRefused, Reaches, unpin_request}
 use Rattle.hips_mirror.proofs.ToldLemmas.{err_given, of_err, of_ok, given_ok}
-use Rattle.hips_mirror.proofs.StepsLemmas.{above_tiles, leaves_few}
+use Rattle.hips_mirror.proofs.StepsLemmas.{leaves_few}
 use Rattle.hips_mirror.proofs.StageLemmas.{one_refused, one_reached, goes_then}
 use Rattle.hips_mirror.proofs.CopyLemmas.{fits_most, stops_at_description, stops_at_cover, reaches_cover, told_numbers, stops_at_leaves, reaches_leaves, stops_at_mosaic, reaches_files, stops_at_files, stops_at_unpin, copied_whole, built_wrong, built_of_body, mosaic_wrong, mosaic_of_body, mosaic_is, some_ask}
 use Rattle.hips_mirror.proofs.copying.copy_from.Goals as goal
@@ -271,7 +268,7 @@ returns-clause-copied g c =
     let reply = body_of c.ask.new.peer in
     let whole = copied_whole g.S.Source g.K.Sink s.pinned s.conf s.counted x ns ts keys body few told same c.read_mosaic.new.peer c.ask.new.peer came reply
     (one_reached g.S.Source g.K.Sink s.pinned Unpin c.unpin.result.ask Any c.read_mosaic.new.peer c.ask.new.peer c.unpin.ensures.ask refl (λ bytes rest. IsReply Any bytes reply rest)
-    c.in_ok-ask.ensures.asked c.in_ok-ask.ensures.read c.ask.ensures.goes) in (
+    (λ p q r. r) c.in_ok-ask.ensures.asked c.ask.ensures.goes) in (
       s.pinned,
       subst (λ (made : GenerationContent). Reaches g.S.Source g.K.Sink s.pinned (asks made.conf.shape.top (keys_of made.leaves)) (λ bytes rest. IsCopy bytes made.conf (leaf_map made.leaves)) x c.ask.new.peer) (sym made)
           (subst (λ ks. Reaches g.S.Source g.K.Sink s.pinned (asks s.conf.shape.top ks) (λ bytes rest. IsCopy bytes s.conf (leaf_map ts)) x c.ask.new.peer) (sym keys) whole),

@@ -4,7 +4,7 @@ use Rattle.hips_mirror.proofs.copying.mirror.Goals as goal
 
 pub returns-in-Ok-clause-copied : goal.returns-in-Ok-clause-copied
 returns-in-Ok-clause-copied g c =
-    mirror_copied c.in-Ok.generation (g.S.Source.left c.args.src.now) (g.K.Sink.held c.args.sink.now) (g.K.Sink.held c.copy.new.sink) c.in-Ok.ensures.copied c.in-Ok.ensures.fits c.in-Ok.ensures.sent
+    mirror_copied c.in-Ok.generation (g.S.Source.left c.args.src.now) (g.K.Sink.held c.args.sink.now) (g.K.Sink.held c.copy.new.sink) c.in-Ok.ensures.copied c.in-Ok.ensures.sent
     c.put_files.result _ _ _ _ c.put_files.ensures.count c.put_files.ensures.replaced c.in-Ok.ensures.few
 
 pub returns-in-Ok-clause-refused : goal.returns-in-Ok-clause-refused
@@ -15,12 +15,12 @@ returns-in-Ok-clause-untouched g c = shelf_touched _ _ c.put_files.result c.put_
 
 pub returns-in-Ok-clause-last : goal.returns-in-Ok-clause-last
 returns-in-Ok-clause-last g c =
-    mirror_last c.in-Ok.generation (g.S.Source.left c.args.src.now) (g.K.Sink.held c.args.sink.now) (g.K.Sink.held c.copy.new.sink) c.in-Ok.ensures.copied c.in-Ok.ensures.fits c.in-Ok.ensures.sent
+    mirror_last c.in-Ok.generation (g.S.Source.left c.args.src.now) (g.K.Sink.held c.args.sink.now) (g.K.Sink.held c.copy.new.sink) c.in-Ok.ensures.copied c.in-Ok.ensures.sent
     c.put_files.result _ _ c.put_files.ensures.others
 
 pub returns-in-Ok-clause-steps : goal.returns-in-Ok-clause-steps
 returns-in-Ok-clause-steps g c =
-    mirror_steps c.in-Ok.generation (g.S.Source.left c.args.src.now) (g.K.Sink.held c.args.sink.now) (g.K.Sink.held c.copy.new.sink) c.in-Ok.ensures.copied c.in-Ok.ensures.fits c.in-Ok.ensures.sent
+    mirror_steps c.in-Ok.generation (g.S.Source.left c.args.src.now) (g.K.Sink.held c.args.sink.now) (g.K.Sink.held c.copy.new.sink) c.in-Ok.ensures.copied c.in-Ok.ensures.sent
     c.put_files.result _ _ c.in-Ok.ensures.few
 
 pub returns-in-Ok-clause-order : goal.returns-in-Ok-clause-order

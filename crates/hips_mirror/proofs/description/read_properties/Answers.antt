@@ -1,6 +1,5 @@
 use Rattle.std.proofs.Common.{refl, inl}
 use Rattle.tile_path.specs.declared.path.Path.TheVariants.{Properties}
-use Rattle.mirror_frame.specs.Peer.{unread_at, body_of}
 use Rattle.mirror_frame.specs.declared.ask.Ask.TheVariants.{File}
 use Rattle.mirror_frame.specs.declared.due.Due.TheVariants.{Survey}
 use Rattle.hips_mirror.specs.Mirror.{WrongProperties, RefusesReply, RefusesAt}
@@ -10,13 +9,13 @@ use Rattle.hips_mirror.proofs.description.read_properties.Goals as goal
 
 pub returns-in-Ok-clause-reached : goal.returns-in-Ok-clause-reached
 returns-in-Ok-clause-reached g c =
-    properties_reached g.S.Source g.K.Sink c.args.pinned c.properties.result.ask c.args.peer.now c.ask.new.peer c.properties.ensures.ask c.in-Ok.ensures.asked c.in-Ok.ensures.read c.ask.ensures.goes
+    properties_reached g.S.Source g.K.Sink c.args.pinned c.properties.result.ask c.args.peer.now c.ask.new.peer c.properties.ensures.ask c.in-Ok.ensures.asked c.ask.ensures.goes
     c.describe.result (rw c.body.ensures at c.describe.ensures.described) (rw c.body.ensures at c.describe.ensures.counts)
 
 pub returns-in-Ok-clause-refused : goal.returns-in-Ok-clause-refused
 returns-in-Ok-clause-refused g c =
     body_refused_in g.S.Source g.K.Sink c.args.pinned (File Properties) c.properties.result.ask (Survey c.args.pinned) c.args.peer.now c.ask.new.peer c.properties.ensures.ask refl 1 WrongProperties c.describe.result
-    c.in-Ok.ensures.asked c.in-Ok.ensures.read c.ask.ensures.goes (rw c.body.ensures at c.describe.ensures.refused) c.describe.ensures.of_body
+    c.in-Ok.ensures.asked c.ask.ensures.goes (rw c.body.ensures at c.describe.ensures.refused) c.describe.ensures.of_body
 
 pub returns-in-Err-clause-refused : goal.returns-in-Err-clause-refused
 returns-in-Err-clause-refused g c =
