@@ -46,6 +46,7 @@ UNSAID = {
     # It keeps the generation of the opening leaves.
     "state {k} was made from the opening leaves: {tiles} tiles built in {millis} ms",
     "out of memory: {refusal}",
+    "place {place} ended after {served} connections: memory ran out",
 }
 
 
