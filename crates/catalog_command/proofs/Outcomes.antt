@@ -1,6 +1,7 @@
 -- How the work ends.
 use Rattle.std.proofs.Common.{◌≡◌, ℕ, List, Option, Result, Ok, Err, refl, sym, subst, inl, inr}
-use Rattle.std.specs.Prelude.{IsOkAnd}
+use Rattle.std.specs.Prelude.{IsOkAnd, OnOk, IsErrOf}
+use Rattle.survey_link.specs.Link.{Rises}
 use Rattle.survey_link.specs.Shelf.{ShelfFiles}
 use Rattle.survey_link.specs.declared.faults.LinkFault.{LinkFault}
 use Rattle.survey_link.specs.declared.faults.LinkFault.TheVariants.{Failed, OutOfMemory as NoMemory}
@@ -9,7 +10,7 @@ use Rattle.catalog_command.specs.declared.stop.Stop.{Stop}
 use Rattle.catalog_command.specs.declared.stop.Stop.TheVariants.{Cut, Line, ReadFault, ShelfFault, OutOfMemory}
 use Rattle.catalog_command.specs.declared.counts.Counts.{Counts}
 use Rattle.catalog_command.specs.Files.{OnFiles, IsReplaced, IsUnfinished}
-use Rattle.catalog_command.specs.Stops.{of_link, TellsStop}
+use Rattle.catalog_command.specs.Stops.{of_link, TellsStop, IsReading, CountsFault, CountsShelf}
 use Rattle.catalog_command.specs.Input.{OfInput}
 use Rattle.catalog_command.specs.Lines.{catalogue_of}
 use Rattle.catalog_command.specs.Run.{IsOutcome, SaysOutcome, RunsCatalog, counts_of}
@@ -54,3 +55,37 @@ module _ (top per_tile : ℕ) (left left' : Option (List ℕ)) (old new : Option
   pub runs : (outcome : Result Counts Stop) (status : ℕ) (held held' flushed flushed' : Option (List ℕ)) → Outcome new outcome → SaysOutcome outcome status held held' flushed flushed'
       → OfInput (λ input. RunsCatalog top per_tile input old new status held held' flushed flushed') left left'
   runs outcome status held held' flushed flushed' is said = of_each _ _ left left' (λ input given. (outcome, (given, said))) is
+
+-- ---- counts of the shelf's faults
+
+pub of_shelf : {A : Type 0} (result : Result A LinkFault) (old new : ℕ) → OnOk result (new ≡ old) → (IsErrOf result Failed → Rises old new) → (IsErrOf result NoMemory → new ≡ old) → CountsFault result old new
+of_shelf (Ok done) old new sound failed none = sound
+of_shelf (Err Failed) old new sound failed none = failed refl
+of_shelf (Err NoMemory) old new sound failed none = none refl
+
+-- a call that comes behind others in which nothing failed
+pub counts_later : (A : Type 0) (fault : LinkFault) (old mid new : ℕ) → mid ≡ old → CountsFault {A = A} (Err fault) mid new → CountsFault {A = A} (Err fault) old new
+counts_later A fault old mid new same counts = subst (λ count. CountsFault {A = A} (Err fault) count new) same counts
+
+-- reading touches no shelf
+pub reading_counts : (A : Type 0) (stop : Stop) (count : ℕ) → IsReading stop → CountsShelf {A = A} (Err stop) count count
+reading_counts A Cut count reading = refl
+reading_counts A (Line bad) count reading = refl
+reading_counts A ReadFault count reading = refl
+reading_counts A ShelfFault count reading = absurd reading
+reading_counts A OutOfMemory count reading = refl
+
+pub link_counts : (A B : Type 0) (fault : LinkFault) (old new : ℕ) → CountsFault {A = A} (Err fault) old new → CountsShelf {A = B} (Err (of_link fault)) old new
+link_counts A B Failed old new counts = counts
+link_counts A B NoMemory old new counts = counts
+
+-- the work didn't stop at the shelf
+pub counts_none : (A : Type 0) (stop : Stop) (old new : ℕ) → CountsShelf {A = A} (Err stop) old new → (stop ≡ ShelfFault → ⊥) → new ≡ old
+counts_none A Cut old new counts other = counts
+counts_none A (Line bad) old new counts other = counts
+counts_none A ReadFault old new counts other = counts
+counts_none A ShelfFault old new counts other = absurd (other refl)
+counts_none A OutOfMemory old new counts other = counts
+
+pub counts_rise : (A : Type 0) (stop : Stop) (old new : ℕ) → CountsShelf {A = A} (Err stop) old new → stop ≡ ShelfFault → Rises old new
+counts_rise A stop old new counts is = subst (λ why. CountsShelf {A = A} (Err why) old new) is counts

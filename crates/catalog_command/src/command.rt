@@ -4,6 +4,7 @@ ghost use Rattle.std.specs.Io.KnownBytes.{IsAtEnd};
 ghost use Rattle.survey_link.specs.Link.{Rises};
 ghost use Rattle.catalog_command.specs.Input.{OfInput};
 ghost use Rattle.catalog_command.specs.Lines.{catalogue_of};
+ghost use Rattle.catalog_command.specs.Stops.{CountsShelf};
 ghost use Rattle.catalog_command.specs.Run.{RunsCatalog, IsOutcome, SaysOutcome};
 
 use crate::counts::Counts;
@@ -19,7 +20,8 @@ use survey_link::{Shelf, Sink, Source};
 
 /// Reads lines to the end of the input, each a row or a removal, makes the catalogue tiles on the shelf those of their
 /// catalogue, writes `rows R tiles T` and LF, and answers the status. The catalogue's deepest order is `top`, and a tile above
-/// it holds at most `per_tile` rows.
+/// it holds at most `per_tile` rows. Over a source whose bytes the proof can't see, it is so of the bytes that were read, as though
+/// the input ended behind them.
 ///
 /// | Status | Where |
 /// |---|---|
@@ -53,6 +55,8 @@ where
     ensures read_fault { result ≡ 5 → Rises (S.faults source.old) (S.faults source.new) }
     ensures write_fault { result ≡ 6 → Rises (K.faults sink.old) (K.faults sink.new) }
     ensures shelf_fault { result ≡ 7 → Rises (H.faults shelf.old) (H.faults shelf.new) }
+    ensures shelf_sound { result ≢ 7 → H.faults shelf.new ≡ H.faults shelf.old }
+    ensures write_memory { result ≡ 11 → K.faults sink.new ≡ K.faults sink.old }
 {
     match put_catalog(rt, top, per_tile, source, shelf) {
         Ok(counts) => say(rt.alloc(), sink, 0, &counts),
@@ -82,7 +86,7 @@ where
         (S.left source.old) (S.left source.new) }
     ensures end { OnOk result (IsAtEnd (S.left source.new)) }
     ensures read_fault { IsErrOf result Stop.ReadFault → Rises (S.faults source.old) (S.faults source.new) }
-    ensures shelf_fault { IsErrOf result Stop.ShelfFault → Rises (H.faults shelf.old) (H.faults shelf.new) }
+    ensures shelf_counted { CountsShelf result (H.faults shelf.old) (H.faults shelf.new) }
 {
     let catalog = read_catalog(rt, top, per_tile, source)?;
     let tiles = put_tiles(rt, shelf, &catalog)?;
@@ -101,6 +105,8 @@ fn end_by<K: Sink>(alloc: Global, sink: &mut K, stop: Stop) -> u8
     ensures read_fault { result ≡ 5 → stop ≡ Stop.ReadFault }
     ensures write_fault { result ≡ 6 → Rises (K.faults sink.old) (K.faults sink.new) }
     ensures shelf_fault { result ≡ 7 → stop ≡ Stop.ShelfFault }
+    ensures shelf_status { stop ≡ Stop.ShelfFault → result ≡ 7 }
+    ensures write_memory { result ≡ 11 → K.faults sink.new ≡ K.faults sink.old }
 {
     match stop {
         Stop::Cut => 4,

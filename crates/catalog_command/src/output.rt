@@ -15,6 +15,7 @@ pub(crate) fn say<T: Display, K: Sink>(alloc: Global, sink: &mut K, own: u8, sho
         (K.held sink.old) (K.held sink.new) (K.flushed sink.old) (K.flushed sink.new) }
     ensures status { (result ≡ own) ⊎ ((result ≡ 6) ⊎ (result ≡ 11)) }
     ensures write_fault { own ≢ 6 → result ≡ 6 → Rises (K.faults sink.old) (K.faults sink.new) }
+    ensures write_memory { own ≢ 11 → result ≡ 11 → K.faults sink.new ≡ K.faults sink.old }
 {
     match format!(in alloc; "{shown}\n") {
         Ok(line) => match write_out(sink, line.as_bytes()) {

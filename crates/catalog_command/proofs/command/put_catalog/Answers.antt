@@ -1,15 +1,13 @@
-use Rattle.std.proofs.Common.{◌≡◌, subst}
 use Rattle.std.proofs.lemmas.Result.{err_from_is_err_and}
-use Rattle.catalog_command.specs.declared.stop.Stop.TheVariants.{ShelfFault}
-use Rattle.catalog_command.specs.Stops.{IsReading}
-use Rattle.catalog_command.proofs.Outcomes.{nothing_read}
+use Rattle.catalog_command.specs.declared.counts.Counts.{Counts}
+use Rattle.catalog_command.proofs.Outcomes.{nothing_read, reading_counts}
 use Rattle.catalog_command.proofs.command.put_catalog.Goals as goal
 
-pub returns-in_err-catalog-clause-shelf_fault : goal.returns-in_err-catalog-clause-shelf_fault
-returns-in_err-catalog-clause-shelf_fault g c = λ e.
+pub returns-in_err-catalog-clause-shelf_counted : goal.returns-in_err-catalog-clause-shelf_counted
+returns-in_err-catalog-clause-shelf_counted g c =
     let p = err_from_is_err_and c.from_residual.result c.from_residual.ensures.1 in
-    let same : c.in_err-catalog.field-0.0 ≡ ShelfFault = cc (p.1, p.2, e) in
-    absurd (subst IsReading same c.in_err-catalog.ensures.kinds)
+    let same = reading_counts Counts c.in_err-catalog.field-0.0 (g.H.Shelf.faults c.args.shelf.now) c.in_err-catalog.ensures.kinds in
+    rw (p.1, p.2) same
 
 pub returns-in_err-catalog-clause-outcome : goal.returns-in_err-catalog-clause-outcome
 returns-in_err-catalog-clause-outcome g c =

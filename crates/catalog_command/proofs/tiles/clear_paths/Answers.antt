@@ -1,8 +1,9 @@
-use Rattle.std.proofs.Common.{◌+◌, map, take, string_bytes, subst, arith}
+use Rattle.std.proofs.Common.{◌+◌, map, take, string_bytes, subst, ◌∙◌}
 use Rattle.std.proofs.lemmas.Result.{err_from_is_err_and}
 use Rattle.catalog_command.specs.Files.{OnFiles}
 use Rattle.catalog_command.specs.Steps.{ClearsPath}
 use Rattle.catalog_command.proofs.Shelves.{clearing_goes_on, clearing_fails, map_more}
+use Rattle.catalog_command.proofs.Outcomes.{counts_later}
 use Rattle.catalog_command.proofs.tiles.clear_paths.Goals as goal
 
 pub loop-path-preserved : goal.loop-path-preserved
@@ -14,8 +15,13 @@ loop-path-preserved g c =
     record {
       clears = clearing_goes_on c.args.catalog.now (map string_bytes (take c.loop-path.path-index c.args.paths.now)) (map string_bytes (take (c.loop-path.path-index + 1) c.args.paths.now)) (string_bytes c.path-item.result) old now new
           (map_more string_bytes c.args.paths.now c.loop-path.path-index c.path-item.result c.loop-path-test.true c.path-item.is) c.loop-path.invariant.clears step;
-      faults = omega (arith, c.clear_path.ensures.never_falls, c.loop-path.invariant.faults);
+      faults = c.in_ok-clear_path.ensures.counted ∙ c.loop-path.invariant.faults;
     }
+
+pub returns-in_err-clear_path-clause-counted : goal.returns-in_err-clear_path-clause-counted
+returns-in_err-clear_path-clause-counted g c =
+    let p = err_from_is_err_and c.from_residual.result c.from_residual.ensures.1 in
+    rw (p.1, p.2) (counts_later (Unit {0}) c.in_err-clear_path.field-0.0 (g.H.Shelf.faults c.args.shelf.now) (g.H.Shelf.faults c.loop-path.shelf) (g.H.Shelf.faults c.clear_path.new.shelf) c.loop-path.invariant.faults c.in_err-clear_path.ensures.counted)
 
 pub returns-in_err-clear_path-clause-refused : goal.returns-in_err-clear_path-clause-refused
 returns-in_err-clear_path-clause-refused g c =

@@ -1,4 +1,4 @@
-use Rattle.std.proofs.Common.{◌-◌, ◌≤◌, length}
+use Rattle.std.proofs.Common.{◌≡◌, ◌-◌, ◌≤◌, length}
 use Rattle.hips_catalog.specs.Catalogue.{existing_tiles}
 use Rattle.catalog_command.specs.Files.{OnFiles}
 use Rattle.catalog_command.proofs.Shelves.{Fills}
@@ -8,7 +8,7 @@ abbrev pub invariant-tiles : goal.invariant-tiles
 invariant-tiles g l = record {
   fills : OnFiles (Fills l.catalog l.count) (g.H.Shelf.files l.fn.shelf) (g.H.Shelf.files l.shelf);
   within : l.count ≤ length (existing_tiles l.catalog);
-  faults : g.H.Shelf.faults l.fn.shelf ≤ g.H.Shelf.faults l.shelf;
+  faults : g.H.Shelf.faults l.shelf ≡ g.H.Shelf.faults l.fn.shelf;
 }
 
 -- how many tiles are to be put
