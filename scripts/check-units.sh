@@ -215,6 +215,11 @@ systemctl start hipsd-backup || wrong "hipsd-backup.service at a port"
 rolls
 is 'inactive active ' systemctl is-active hipsd@8080 hipsd@8081
 says hipsd@8080 'drain.sh: 127.0.0.1:8080 ends, and with it the 1 edits since its start, 0 of them never published'
+# Where it can't listen it isn't started again.
+ln -sn /srv/survey /var/lib/hipsd/80
+systemctl start hipsd@80
+sleep 3
+is 'ExecMainStatus=8 NRestarts=0 ' sh -c 'systemctl show -p NRestarts -p ExecMainStatus hipsd@80 | sort'
 # SocketBindAllow, where this systemd can do it.
 if systemctl --version | grep -qF +BPF_FRAMEWORK; then
     ln -sn /srv/survey /var/lib/hipsd/8090
