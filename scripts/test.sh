@@ -17,7 +17,7 @@ trap 'rm -rf "$work"' EXIT
 
 # tests CRATE: its tests.
 tests() {
-    (cd "crates/$1" && rt try --test --seconds 300)
+    (cd "crates/$1" && rt try --test --seconds 900)
 }
 # program CRATE: the program, with the arguments and the input beside its sources, and what it has to print.
 program() {
