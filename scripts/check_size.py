@@ -16,6 +16,7 @@ import tempfile
 import time
 import unittest
 from collections import defaultdict
+from itertools import groupby
 from pathlib import Path
 
 TOP = Path(__file__).resolve().parent.parent
@@ -47,6 +48,11 @@ def codes(reader, count):
             name, _, value = line.partition(b":")
             length = int(value) if name.lower() == b"content-length" else length
         yield code, reader.read(length)
+
+
+def in_a_row(replies):
+    """The replies, each with how many times it comes one after another."""
+    return [(reply, len(list(same))) for reply, same in groupby(replies)]
 
 
 class Case(unittest.TestCase):
@@ -116,10 +122,9 @@ class Case(unittest.TestCase):
         tile = image(2, 2, [1, 2, 3, 5])
         request = [put_head(tile_path(4, leaf), len(tile)) + tile for leaf in range(3072)]
         first = self.puts(port, (request[i % 3072] for i in range(40_000)))
-        self.assertEqual([code for code, _ in first], [201] * 3072 + [204] * (40_000 - 3072))
+        self.assertEqual(in_a_row(first), [((201, b""), 3072), ((204, b""), 40_000 - 3072)])
         second = self.puts(port, (request[i % 3072] for i in range(30_000)))
-        self.assertEqual([code for code, _ in second[: MOST_EDITS - 40_000]], [204] * (MOST_EDITS - 40_000))
-        self.assertEqual(set(second[MOST_EDITS - 40_000 :]), {(507, b"limit 3\n")})
+        self.assertEqual(in_a_row(second), [((204, b""), MOST_EDITS - 40_000), ((507, b"limit 3\n"), 70_000 - MOST_EDITS)])
         publish = [b"POST /publish HTTP/1.1\r\nHost: size\r\n\r\n", b"GET /Norder4/Dir0/Npix3071.fits HTTP/1.1\r\nHost: size\r\n\r\n"]
         published, (code, body) = self.puts(port, publish)
         self.assertEqual(published, (200, b"published %d\n" % MOST_EDITS))
@@ -135,7 +140,7 @@ class Case(unittest.TestCase):
         connection = http.client.HTTPConnection("127.0.0.1", port, timeout=120)
         self.addCleanup(connection.close)
         found = [self.asks(connection, "PUT", tile_path(4, leaf), tile) for leaf in [*range(room), 0]]
-        self.assertEqual(found, [(201, b"")] * room + [(507, b"limit 4\n")])
+        self.assertEqual(in_a_row(found), [((201, b""), room), ((507, b"limit 4\n"), 1)])
 
     def test_connections_up_to_their_number(self):
         """A place takes 1, 50,000 or 65,536 connections, answers each, and then the server ends."""
@@ -172,8 +177,9 @@ class Case(unittest.TestCase):
         self.copy(WIDE, {7: [s % 300 for s in range(512 * 512)]})
 
     def test_past_states_all_along(self):
-        """64,512 edits in batches of 128 and 1,024; files as of earlier edits all along, the mosaic of 400 kB now and then."""
-        survey, most = Survey("along", "Survey along", top=5, low=3, width=16), 1024
+        """64,512 edits in batches of 128 and 1,024; files as of earlier edits all along, the mosaic of 400 kB now and then; reads
+        up to 65,536 records, and no more."""
+        survey, most, records = Survey("along", "Survey along", top=5, low=3, width=16), 1024, 0
         past = subprocess.Popen(
             [PROGRAM, "past", "8"], cwd=self.survey(survey.description()), stdin=subprocess.PIPE, stdout=subprocess.PIPE, stderr=subprocess.DEVNULL
         )
@@ -183,6 +189,8 @@ class Case(unittest.TestCase):
         states, leaves = [(0, {})], {}
 
         def answers(record, wanted):
+            nonlocal records
+            records += 1
             past.stdin.write(record)
             past.stdin.flush()
             self.assertTrue(past.stdout.read(len(wanted)) == wanted, record[:60])
@@ -211,33 +219,46 @@ class Case(unittest.TestCase):
             for path in ["properties", "Moc.fits", tile_path(5, leaf), tile_path(3, leaf // 16)] + ["Norder3/Allsky.fits"] * (turn % 8 == 7):
                 file = survey.file(there, path)
                 answers(b"read %d %s\n" % (edits, path.encode()), b"file %d\n" % len(file) + file)
+        read, file = b"read 0 properties\n", survey.file({}, "properties")
+        while records < 65_536:
+            answers(read, b"file %d\n" % len(file) + file)
+        past.stdin.write(read)
         past.stdin.close()
-        self.assertEqual((past.stdout.read(), past.wait()), (b"", 0))
+        self.assertEqual((past.stdout.read(), past.wait()), (b"", 12))
 
-    def test_a_catalogue_of_a_million_rows(self):
-        """1,000,000 rows, each better than those before it, with fields of all widths, in tiles of 200 down to order 7."""
-        deepest, most, count = 7, 200, 1_000_000
-        rows = []
-        for number in range(count):
-            npix = (number * 2_654_435_761 >> 4) % (12 * 4**deepest)
-            name = f"{number:x}".rjust(1 + number % 64, "n")[-64:]
-            name = name if len(name) >= 5 else f"{number:05x}"
-            rows.append((2**64 - 1 - number * 9_000_000_000_000, npix, name, "r" * (number % 257)))
+    def catalogue(self, deepest, most, rows):
+        """The tiles of these rows, whose ranks differ."""
         text = "".join("%d\t%d\t%s\t%s\n" % row for row in rows).encode()
         run = subprocess.run([PROGRAM, "catalog", str(deepest), str(most)], cwd=self.folder, input=text, stdout=subprocess.PIPE, stderr=subprocess.DEVNULL)
         tiles, taken = defaultdict(list), defaultdict(int)
-        for rank, npix, name, rest in reversed(rows):
+        for rank, npix, name, rest in sorted(rows):
             order = 0
             while order < deepest and taken[order, npix >> 2 * (deepest - order)] == most:
                 order += 1
             cell = order, npix >> 2 * (deepest - order)
             taken[cell] += 1
             tiles[cell].append(f"{rank}\t{npix}\t{name}\t{rest}\n")
-        self.assertEqual((run.returncode, run.stdout), (0, b"rows %d tiles %d\n" % (count, len(tiles))))
+        self.assertEqual((run.returncode, run.stdout), (0, b"rows %d tiles %d\n" % (len(rows), len(tiles))))
         self.assertEqual(sum(1 for path in self.folder.rglob("*") if path.is_file()), len(tiles))
         for (order, npix), lines in tiles.items():
             path = self.folder / f"Norder{order}/Dir{npix // 10000 * 10000}/Npix{npix}.tsv"
             self.assertTrue(path.read_text("ascii") == "rank\tnpix\tid\trest\n" + "".join(lines), path)
+
+    def test_a_catalogue_of_a_million_rows(self):
+        """1,000,000 rows, each better than those before it, with fields of all widths, in tiles of 200 down to order 7."""
+        rows = []
+        for number in range(1_000_000):
+            npix = (number * 2_654_435_761 >> 4) % (12 * 4**7)
+            name = f"{number:x}".rjust(1 + number % 64, "n")[-64:]
+            name = name if len(name) >= 5 else f"{number:05x}"
+            rows.append((2**64 - 1 - number * 9_000_000_000_000, npix, name, "r" * (number % 257)))
+        self.catalogue(7, 200, rows)
+
+    def test_a_catalogue_of_one_cell(self):
+        """250,000 rows of one cell of order 11, each better than those before it, and one amid them, in tiles of 4,096."""
+        cell, count = 12 * 4**11 - 1, 250_000
+        rows = [(2 * (count - number), cell, str(number), "") for number in range(count)]
+        self.catalogue(11, 4096, [*rows, (count + 1, cell, "amid", "")])
 
 
 if __name__ == "__main__":

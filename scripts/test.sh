@@ -1,7 +1,7 @@
 #!/bin/bash
 # The quick check: every test, and the programs with their stored input and output, compiled by `rt try` without a proof; and the
-# checks that need no built program. Prints a line for each and a total. The status is 1 if one failed. size_run and one test are left
-# out: unproved code isn't optimized, and they would take many minutes.
+# checks that need no built program. Prints a line for each and a total. The status is 1 if one failed. size_run is left out: unproved
+# code isn't optimized, and it would take many minutes.
 #
 #     scripts/test.sh [JOBS]
 #
@@ -15,13 +15,9 @@ jobs=${1:-$(nproc)}
 work=$(mktemp -d) || exit 1
 trap 'rm -rf "$work"' EXIT
 
-# tests CRATE: its tests. One of connection_tests makes thousands of connections, and isn't waited for.
+# tests CRATE: its tests.
 tests() {
-    seconds=300 slow=' '
-    [ "$1" != connection_tests ] || seconds=60 slow='broken::a_cut_input_is_answered_up_to_its_last_whole_request'
-    (cd "crates/$1" && rt try --test --seconds $seconds) && return
-    failed=$(sed -n 's/^test \(.*\) \.\.\. FAILED$/\1/p' "$log")
-    [ "$failed" = "$slow" ] && grep -A1 "$slow" "$log" | grep -q 'checked: no-answer' && note=", left out: $slow"
+    (cd "crates/$1" && rt try --test --seconds 900)
 }
 # program CRATE: the program, with the arguments and the input beside its sources, and what it has to print.
 program() {
@@ -36,10 +32,10 @@ check() {
 }
 # one KIND NAME WORD ..: does one of these, and says in a line how it went; if it failed, what it said stands below.
 one() {
-    log=$work/$1.$2 begun=$SECONDS note=
+    log=$work/$1.$2 begun=$SECONDS
     if "$@" >"$log" 2>&1 </dev/null; then verdict=ok; else verdict=FAILED; fi
     passed=$(sed -n 's/^test result: .*\. \([0-9]* passed\);.*/, \1/p' "$log")
-    echo "$verdict $1 $2$passed$note, $((SECONDS - begun)) s" | tee -a "$work/verdicts"
+    echo "$verdict $1 $2$passed, $((SECONDS - begun)) s" | tee -a "$work/verdicts"
     [ $verdict = ok ] || grep -vE '\.\.\. ok$|^ *\[' "$log" | tail -n 20
 }
 export work
@@ -53,5 +49,5 @@ export -f tests program check one
 } | xargs -P "$jobs" -I{} bash -c 'one {}' || echo "FAILED xargs: a check was stopped" | tee -a "$work/verdicts"
 
 failed=$(grep -c '^FAILED' "$work/verdicts")
-echo "test: $(grep -c '^ok' "$work/verdicts") passed, $failed failed, $SECONDS s. Nothing is proved by this: see rt ci"
+echo "test: $(grep -c '^ok' "$work/verdicts") passed, $failed failed, size_run left out, $SECONDS s. Nothing is proved by this: see rt ci"
 [ "$failed" = 0 ]

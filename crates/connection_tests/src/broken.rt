@@ -70,7 +70,15 @@ fn is_failed<R: Threads + Sync + Clock + Log>(
     ends(rt, alloc, &mut source, SessionEnd::ReadFault, output)
 }
 
-// Each cut within the last request, which begins there.
+// Whether a cut there is tried, of a request that begins there: at its first and its last byte, behind CR and LF, and at one place
+// in 97.
+fn is_tried(input: &[u8], begun: usize, at: usize) -> bool {
+    let before = input.get(..at).unwrap_or(input);
+    let is_edge = at.saturating_sub(begun) < 2 || input.len().saturating_sub(at) < 2;
+    is_edge || at % 97 == 0 || before.ends_with(b"\r") || before.ends_with(b"\n")
+}
+
+// The cuts within the last request, which begins there.
 fn all_are_cut<R: Threads + Sync + Clock + Log + Abort>(
     rt: &R,
     alloc: Global,
@@ -80,9 +88,11 @@ fn all_are_cut<R: Threads + Sync + Clock + Log + Abort>(
     output: &[u8],
 ) -> Result<(), Fail> {
     for at in begun..input.len() {
-        let ends = is_cut(rt, alloc, input, at, begun, output)?
-            && is_failed(rt, alloc, input, at, output)?;
-        assert!(rt; ends, "{asked}, cut at {at}");
+        if is_tried(input, begun, at) {
+            let ends = is_cut(rt, alloc, input, at, begun, output)?
+                && is_failed(rt, alloc, input, at, output)?;
+            assert!(rt; ends, "{asked}, cut at {at}");
+        }
     }
     Ok(())
 }
