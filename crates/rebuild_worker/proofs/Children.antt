@@ -1,5 +1,5 @@
 -- The four children of a cell, as a store lends them.
-use Rattle.std.proofs.Common.{◌≡◌, ℕ, ◌+◌, ◌*◌, ◌^◌, ◌<◌, ◌≤◌, List, Option, Some, None, option_map, refl, sym, ◌∙◌, ap, arith, Bor, ◌||◌, ℤ}
+use Rattle.std.proofs.Common.{◌≡◌, ℕ, ◌+◌, ◌*◌, ◌^◌, ◌<◌, ◌≤◌, List, Option, Some, None, option_map, refl, sym, ◌∙◌, ap, arith, Bor, ◌||◌}
 use Rattle.std.specs.Prelude.{is_some, IfSome}
 use Rattle.std.specs.Option.{ForSome}
 use Rattle.std.specs.BTreeMap.{is_at}
@@ -8,11 +8,9 @@ use Rattle.std.proofs.lemmas.Map.Views.{IfSome-lookup_from_All}
 use Rattle.healpix_nested.specs.Cells.{cell_count}
 use Rattle.healpix_nested.specs.CellLaws.{four_pow_mono}
 use Rattle.leaf_store.specs.Store.{value_at}
-use Rattle.pyramid_model.specs.Shape.{PyramidShape, LeafMap}
-use Rattle.pyramid_model.specs.Tile.{exists}
-use Rattle.pyramid_model.specs.TileLaws.{exists_step}
+use Rattle.pyramid_model.specs.Shape.{PyramidShape}
 use Rattle.tile_pixels.specs.Tile.{PixelTile}
-use Rattle.tile_pixels.specs.Merge.{FourTiles, Shows, ShowsChildren}
+use Rattle.tile_pixels.specs.Merge.{FourTiles}
 use Rattle.rebuild_worker.specs.Level.{numbers_of, children_of, any_of, HaveShape}
 
 -- the numbers of the children of a cell above order 11 are small
@@ -35,7 +33,7 @@ pub child_shape : (shape : PyramidShape) (tiles : List (ℕ × PixelTile)) (key 
 child_shape shape tiles key r all is = lent_shape shape (value_at key tiles) r (IfSome-lookup_from_All (λ t. (t.depth ≡ shape.depth) × (t.n ≡ shape.n)) (is_at (nat_cmp key)) tiles all) is
 
 -- its numbers
-child_numbers : (v : Option PixelTile) (r : Option (Bor PixelTile)) → option_map (λ t. t.now) r ≡ v → option_map (λ t. t.now.numbers) r ≡ numbers_of v
+pub child_numbers : (v : Option PixelTile) (r : Option (Bor PixelTile)) → option_map (λ t. t.now) r ≡ v → option_map (λ t. t.now.numbers) r ≡ numbers_of v
 child_numbers v None is = ap numbers_of is
 child_numbers v (Some lent) is = ap numbers_of is
 
@@ -72,17 +70,3 @@ lent_children tiles npix r0 r1 r2 r3 are =
 -- one of the four is there where one is lent
 pub any_lent : (r0 r1 r2 r3 : Option (Bor PixelTile)) → any_of (lent r0 r1 r2 r3) ≡ (is_some r0 || is_some r1 || is_some r2 || is_some r3)
 any_lent r0 r1 r2 r3 = rw (child_some r0, child_some r1, child_some r2, child_some r3) refl
-
--- what shows a cell is there exactly where the cell's tile exists
-shown_exists : (shape : PyramidShape) (leaves : LeafMap) (k p : ℕ) (t : Option (List ℤ)) → Shows shape leaves k p t → exists shape leaves k p ≡ is_some t
-shown_exists shape leaves k p None h = h
-shown_exists shape leaves k p (Some numbers) h = h.0
-
--- so where four show the children of a cell, its tile exists exactly where one of them is there
-pub exists_above : (shape : PyramidShape) (leaves : LeafMap) (k p : ℕ) (four : FourTiles) → k < shape.top → ShowsChildren shape leaves k p four → exists shape leaves k p ≡ any_of four
-exists_above shape leaves k p four h shows =
-    let e0 = shown_exists shape leaves (k + 1) (4 * p) four.first shows.first in
-    let e1 = shown_exists shape leaves (k + 1) (4 * p + 1) four.second shows.second in
-    let e2 = shown_exists shape leaves (k + 1) (4 * p + 2) four.third shows.third in
-    let e3 = shown_exists shape leaves (k + 1) (4 * p + 3) four.fourth shows.fourth in
-    exists_step shape leaves k p h ∙ rw (e0, e1, e2, e3) refl

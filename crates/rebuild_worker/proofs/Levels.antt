@@ -1,29 +1,30 @@
 -- A level that grows by one merge, and two levels one behind the other.
-use Rattle.std.proofs.Common.{◌≡◌, ℕ, ◌++◌, List, [], ◌∷◌, Option, sym, ◌∙◌, ap, subst, take, drop, append_assoc}
+use Rattle.std.proofs.Common.{◌≡◌, ℕ, ◌≤◌, ◌++◌, List, [], ◌∷◌, sym, ◌∙◌, ap, subst, take, drop, append_assoc}
 use Rattle.std.specs.Prelude.{All}
 use Rattle.std.proofs.lemmas.List.{map-append, take-append-drop}
-use Rattle.std.proofs.lemmas.List.Elements.{All-append, All-cons, All-nil, All-drop}
+use Rattle.std.proofs.lemmas.List.Elements.{All-cons, All-nil, All-head, All-tail, All-drop}
 use Rattle.parent_rule.specs.Permit.{PermittedCell}
-use Rattle.pyramid_model.specs.Shape.{PyramidShape, LeafMap}
+use Rattle.pyramid_model.specs.Shape.{PyramidShape}
 use Rattle.tile_pixels.specs.Tile.{PixelTile}
-use Rattle.tile_pixels.specs.Merge.{Shows, ShowsChildren}
 use Rattle.rebuild_worker.specs.declared.named.Named.{Named}
-use Rattle.rebuild_worker.specs.Level.{numbers_of, children_of, merge_of, merges_of, IsAboveLeaves, ShowsItsCell}
+use Rattle.rebuild_worker.specs.Level.{NamedTile, children_of, merge_of, merges_of, IsAboveLeaves, ShowsItsCell}
 use Rattle.rebuild_worker.specs.Shown.{shown, all_shown}
+use Rattle.rebuild_worker.specs.LevelLaws.{shows_above}
 
--- a tile that shows a cell shows it under the numbers that were read
-pub shows_as_read : (shape : PyramidShape) (tiles : List (ℕ × PixelTile)) (order npix read_order read_npix : ℕ) (tile : Option PixelTile) → read_order ≡ order → read_npix ≡ npix
-    → ((leaves : LeafMap) → ShowsChildren shape leaves order npix (children_of tiles npix) → Shows shape leaves order npix (numbers_of tile))
-    → ShowsItsCell shape tiles (record { order = read_order; npix = read_npix; tile = tile })
-shows_as_read shape tiles order npix read_order read_npix tile same_order same_npix h = rw (same_order, same_npix) h
+-- each merge shows its cell
+pub each_shows : (shape : PyramidShape) (tiles : List (ℕ × PixelTile)) (todo : List PermittedCell) → shape.n ≤ 9 → All (IsAboveLeaves shape) todo → All (ShowsItsCell shape tiles) (merges_of shape tiles todo)
+each_shows shape tiles [] small above = All-nil (ShowsItsCell shape tiles)
+each_shows shape tiles (cell ∷ todo) small above =
+    let here : IsAboveLeaves shape cell = All-head (IsAboveLeaves shape) cell todo above in
+    All-cons (ShowsItsCell shape tiles) (merge_of shape tiles cell) (merges_of shape tiles todo)
+    (λ leaves shows. shows_above shape leaves cell.order cell.npix (children_of tiles cell.npix) small here.order shows)
+    (each_shows shape tiles todo small (All-tail (IsAboveLeaves shape) cell todo above))
 
--- what holds of each of a level and of one more
-pub all_and_one : (shape : PyramidShape) (tiles : List (ℕ × PixelTile)) (old new : List Named) (named : Named) → new ≡ old ++ named ∷ [] → All (ShowsItsCell shape tiles) (all_shown old)
-    → ShowsItsCell shape tiles (shown named) → All (ShowsItsCell shape tiles) (all_shown new)
-all_and_one shape tiles old new named is all one =
-    let P : List Named → Type 0 = λ level. All (ShowsItsCell shape tiles) (all_shown level) in
-    subst P (sym is) (rw (map-append shown old (named ∷ [])) (All-append (ShowsItsCell shape tiles) (all_shown old) (shown named ∷ []) all
-    (All-cons (ShowsItsCell shape tiles) (shown named) [] one (All-nil (ShowsItsCell shape tiles)))))
+pub level_shows : (shape : PyramidShape) (tiles : List (ℕ × PixelTile)) (todo : List PermittedCell) (level : List Named) → shape.n ≤ 9 → All (IsAboveLeaves shape) todo → all_shown level ≡ merges_of shape tiles todo
+    → All (ShowsItsCell shape tiles) (all_shown level)
+level_shows shape tiles todo level small above is =
+    let P : List NamedTile → Type 0 = λ named. All (ShowsItsCell shape tiles) named in
+    subst P (sym is) (each_shows shape tiles todo small above)
 
 -- one merge goes from what is owed to what was made
 pub owed_to_made : (shape : PyramidShape) (tiles : List (ℕ × PixelTile)) (old new : List Named) (cell : PermittedCell) (todo left all : List PermittedCell)
@@ -39,13 +40,6 @@ pub two_runs : (shape : PyramidShape) (tiles : List (ℕ × PixelTile)) (front b
 two_runs shape tiles front back all todo at is made_front made_back =
     ap all_shown is ∙ map-append shown front back ∙ ap (λ level. level ++ all_shown back) made_front ∙ ap (λ level. merges_of shape tiles (take at todo) ++ level) made_back
     ∙ sym (map-append (merge_of shape tiles) (take at todo) (drop at todo)) ∙ ap (merges_of shape tiles) (take-append-drop at todo)
-
--- and all of it shows what each shows
-pub all_of_two : (shape : PyramidShape) (tiles : List (ℕ × PixelTile)) (front back all : List Named) → all ≡ front ++ back → All (ShowsItsCell shape tiles) (all_shown front)
-    → All (ShowsItsCell shape tiles) (all_shown back) → All (ShowsItsCell shape tiles) (all_shown all)
-all_of_two shape tiles front back all is in_front in_back =
-    let P : List Named → Type 0 = λ level. All (ShowsItsCell shape tiles) (all_shown level) in
-    subst P (sym is) (rw (map-append shown front back) (All-append (ShowsItsCell shape tiles) (all_shown front) (all_shown back) in_front in_back))
 
 -- the permits behind the first are above the leaves where all are
 pub above_rest : (shape : PyramidShape) (cell : PermittedCell) (todo left : List PermittedCell) → todo ≡ cell ∷ left → All (IsAboveLeaves shape) todo → All (IsAboveLeaves shape) left

@@ -1,3 +1,5 @@
 pub mod Children
 pub mod Levels
 pub mod Shares
+pub mod Stood
+pub mod Touched

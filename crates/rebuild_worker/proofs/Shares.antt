@@ -1,10 +1,10 @@
 -- The merges of one order are shared out alike, so the merges of each half repay its workers where all of them repay all.
-use Rattle.std.proofs.Common.{◌≡◌, ◌⊎◌, inl, inr, ℕ, ◌+◌, ◌-◌, ◌*◌, ◌/◌, ◌%◌, ◌^◌, ◌<◌, ◌≤◌, min, max, List, length, take, drop, sym, ap, subst, subst₂, ◌∙◌, arith, length-drop}
+use Rattle.std.proofs.Common.{◌≡◌, inl, inr, ℕ, ◌+◌, ◌-◌, ◌*◌, ◌/◌, ◌%◌, ◌<◌, ◌≤◌, min, List, length, take, drop, sym, ap, subst, subst₂, ◌∙◌, arith, length-drop}
 use Rattle.std.proofs.Math.Nat.{div-add-mod', div-le_self, le-div_iff_mul-le, mul-add, mul_comm, mul-le-mul_right}
 use Rattle.std.proofs.lemmas.Bool.{cases_lt}
 use Rattle.std.proofs.lemmas.List.{length-take-le}
 use Rattle.parent_rule.specs.Permit.{PermittedCell}
-use Rattle.rebuild_worker.specs.Workers.{AreRepaid, merges_of_a_worker, workers_on}
+use Rattle.rebuild_worker.specs.Workers.{AreRepaid, merges_of_a_worker}
 
 -- what the two halves have
 pub halves : (permits near far : ℕ) → 0 < near + far → (permits / (near + far) * near + min (permits % (near + far)) near ≤ permits)

@@ -1,20 +1,20 @@
 //! The merge that one permit allows.
-ghost use Rattle.std.specs.Prelude.{◌≡◌, ◌+◌, ◌*◌, ◌<◌, ◌≤◌, ◌||◌, is_some, IfOk, option_map};
+ghost use Rattle.std.specs.Prelude.{◌≡◌, ◌||◌, is_some, IfOk, option_map};
 ghost use Rattle.std.specs.Arc.{arc_value};
 ghost use Rattle.leaf_store.specs.Store.{value_at};
-ghost use Rattle.pyramid_model.specs.Shape.{LeafMap};
-ghost use Rattle.tile_pixels.specs.Merge.{Shows, ShowsChildren};
-ghost use Rattle.rebuild_worker.specs.Level.{merge_of, tile_above, children_of, numbers_of, IsAboveLeaves, HaveShape, ShowsItsCell};
+ghost use Rattle.rebuild_worker.specs.Changed.{AreSources};
+ghost use Rattle.rebuild_worker.specs.Level.{merge_of, tile_above, children_of, IsAboveLeaves};
 ghost use Rattle.rebuild_worker.specs.Shown.{shown};
 
 use crate::named::Named;
+use crate::sources::Sources;
 use leaf_store::Store;
 use parent_rule::Permit;
 use pyramid_model::Shape;
 use std::alloc::{AllocError, Global};
 use std::sync::Arc;
 use survey_link::Gate;
-use tile_pixels::Tile;
+use tile_pixels::{Quadrants, Tile};
 
 /// Passes the gate with the permit's cell, and then merges the cell's children.
 ///
@@ -25,18 +25,17 @@ pub fn merge_cell<G: Gate>(
     alloc: Global,
     gate: &G,
     shape: Shape,
-    children: &Store<Tile>,
+    sources: Sources<'_>,
     permit: Permit,
 ) -> Result<Named, AllocError>
     requires cell { IsAboveLeaves shape permit }
-    requires children { HaveShape shape children.now }
-    ensures merge { IfOk result (λ named. shown named ≡ merge_of shape children.now permit) }
-    ensures pixels { IfOk result (λ named. ShowsItsCell shape children.now (shown named)) }
+    requires sources { AreSources shape sources }
+    ensures { IfOk result (λ named. shown named ≡ merge_of shape sources.entry.children.now permit) }
 {
     let order = permit.order();
     let npix = permit.npix();
     gate.pass(order, npix);
-    let tile = merge_children(alloc, shape, children, permit)?;
+    let tile = merge_children(alloc, shape, sources, permit)?;
     Ok(Named { order, npix, tile })
 }
 
@@ -44,26 +43,35 @@ pub fn merge_cell<G: Gate>(
 fn merge_children(
     alloc: Global,
     shape: Shape,
-    children: &Store<Tile>,
+    sources: Sources<'_>,
     permit: Permit,
 ) -> Result<Option<Arc<Tile>>, AllocError>
     requires cell { IsAboveLeaves shape permit }
-    requires children { HaveShape shape children.now }
-    ensures tile { IfOk result (λ tile. option_map arc_value tile ≡ tile_above shape (children_of children.now permit.npix)) }
-    ensures pixels { IfOk result (λ tile. (leaves : LeafMap) → ShowsChildren shape leaves permit.order permit.npix (children_of children.now permit.npix)
-        → Shows shape leaves permit.order permit.npix (numbers_of (option_map arc_value tile))) }
+    requires sources { AreSources shape sources }
+    ensures { IfOk result (λ tile. option_map arc_value tile ≡ tile_above shape (children_of sources.entry.children.now permit.npix)) }
 {
     let Shape { n, depth, .. } = shape;
-    let first = 4 * permit.npix();
-    let c0 = child(children, first);
-    let c1 = child(children, first + 1);
-    let c2 = child(children, first + 2);
-    let c3 = child(children, first + 3);
+    let npix = permit.npix();
+    let first = 4 * npix;
+    let second = first + 1;
+    let third = first + 2;
+    let fourth = first + 3;
+    let c0 = lent(sources.children, first);
+    let c1 = lent(sources.children, second);
+    let c2 = lent(sources.children, third);
+    let c3 = lent(sources.children, fourth);
     if !any_is_there(c0, c1, c2, c3) {
         permit.spend();
         return Ok(None);
     }
-    let tile = Tile::merge(alloc, permit, depth, n, c0, c1, c2, c3)?;
+    let before = lent(sources.before, npix);
+    let quadrants = Quadrants {
+        first: sources.quadrant(before, c0, first, 0),
+        second: sources.quadrant(before, c1, second, 1),
+        third: sources.quadrant(before, c2, third, 2),
+        fourth: sources.quadrant(before, c3, fourth, 3),
+    };
+    let tile = Tile::merge_quadrants(alloc, permit, depth, n, quadrants)?;
     Ok(Some(Arc::new(alloc, tile)?))
 }
 
@@ -75,10 +83,10 @@ fn any_is_there(c0: Option<&Tile>, c1: Option<&Tile>, c2: Option<&Tile>, c3: Opt
 }
 
 // The tile of that number, if it exists.
-fn child(children: &Store<Tile>, npix: u64) -> Option<&Tile>
-    ensures { option_map (λ tile. tile.now) result ≡ value_at npix children.now }
+fn lent(tiles: &Store<Tile>, npix: u64) -> Option<&Tile>
+    ensures { option_map (λ tile. tile.now) result ≡ value_at npix tiles.now }
 {
-    match children.get(npix) {
+    match tiles.get(npix) {
         None => None,
         Some(tile) => Some(&**tile),
     }

@@ -1,6 +1,7 @@
 //! The merges of one order, by as many workers as there are processors.
 ghost use Rattle.std.specs.Prelude.{◌≡◌, ◌+◌, ◌-◌, ◌*◌, ◌/◌, ◌<◌, ◌≤◌, ◌^◌, ◌++◌, length, IfOk, All};
 ghost use Rattle.std.specs.Thread.{IsSync};
+ghost use Rattle.rebuild_worker.specs.Changed.{AreSources};
 ghost use Rattle.rebuild_worker.specs.Level.{merges_of, IsAboveLeaves, HaveShape, ShowsItsCell};
 ghost use Rattle.rebuild_worker.specs.Shown.{all_shown};
 ghost use Rattle.rebuild_worker.specs.Workers.{AreRepaid, workers_on};
@@ -8,6 +9,7 @@ ghost use Rattle.rebuild_worker.specs.Workers.{AreRepaid, workers_on};
 use crate::named::Named;
 use crate::permits::Permits;
 use crate::serial::merge_all;
+use crate::sources::Sources;
 use leaf_store::Store;
 use parent_rule::Permit;
 use pyramid_model::Shape;
@@ -19,9 +21,8 @@ use tile_pixels::Tile;
 // A worker beyond the second has at least this many pixels to make: it takes about as long as four starts of a thread.
 const PIXELS_OF_A_WORKER: usize = 65536;
 
-/// The same list as `level_serial`, made by as many workers as the machine has processors. Each has a run of the permits
-/// to itself, and a worker that can't be started has its work done by the caller. A single merge is made by the caller;
-/// two have a worker each, since a gate may hold one of them for long, and more workers come only where they repay.
+/// The same list as `level_serial`, made by as many workers as the machine has processors, as `level_changed` makes it where
+/// nothing stood before.
 ///
 /// # Errors
 ///
@@ -39,16 +40,36 @@ pub fn level_parallel<R: Threads + Sync, G: Gate + Sync>(
     ensures merges { IfOk result (λ level. all_shown level.items ≡ merges_of shape children.now todo.items) }
     ensures pixels { IfOk result (λ level. All (ShowsItsCell shape children.now) (all_shown level.items)) }
 {
+    let none = Store::new(alloc);
+    let sources = Sources::anew(children, &none);
+    level_changed(rt, alloc, gate, shape, sources, todo)
+}
+
+/// The same list as `level_serial` of the children as they are now, where the order stood over them before some leaves were
+/// touched: of a tile that was there it merges only the quadrants of children over touched leaves.
+///
+/// It is made by as many workers as the machine has processors. Each has a run of the permits to itself, and a worker that
+/// can't be started has its work done by the caller. A single merge is made by the caller; two have a worker each, since a
+/// gate may hold one of them for long, and more workers come only where they repay.
+///
+/// # Errors
+///
+/// `AllocError` where there is no memory for the tiles and their lists.
+pub fn level_changed<R: Threads + Sync, G: Gate + Sync>(
+    rt: &R,
+    alloc: Global,
+    gate: &G,
+    shape: Shape,
+    sources: Sources<'_>,
+    todo: Vec<Permit>,
+) -> Result<Vec<Named>, AllocError>
+    requires cells { All (IsAboveLeaves shape) todo.items }
+    requires sources { AreSources shape sources }
+    ensures merges { IfOk result (λ level. all_shown level.items ≡ merges_of shape sources.entry.children.now todo.items) }
+    ensures pixels { IfOk result (λ level. All (ShowsItsCell shape sources.entry.children.now) (all_shown level.items)) }
+{
     let workers = workers_for(rt, todo.len(), shape.n);
-    merge_by(
-        rt,
-        alloc,
-        gate,
-        shape,
-        children,
-        Permits::new(todo),
-        workers,
-    )
+    merge_by(rt, alloc, gate, shape, sources, Permits::new(todo), workers)
 }
 
 // How many workers make so many merges of tiles of 4^n pixels.
@@ -85,33 +106,55 @@ fn merge_by<R: Threads + Sync, G: Gate + Sync>(
     alloc: Global,
     gate: &G,
     shape: Shape,
-    children: &Store<Tile>,
+    sources: Sources<'_>,
     mut todo: Permits,
     workers: usize,
 ) -> Result<Vec<Named>, AllocError>
     requires repaid { AreRepaid workers (length todo) shape.n }
     requires cells { All (IsAboveLeaves shape) todo }
-    requires children { HaveShape shape children.now }
-    ensures merges { IfOk result (λ level. all_shown level.items ≡ merges_of shape children.now todo) }
-    ensures pixels { IfOk result (λ level. All (ShowsItsCell shape children.now) (all_shown level.items)) }
+    requires sources { AreSources shape sources }
+    ensures { IfOk result (λ level. all_shown level.items ≡ merges_of shape sources.entry.children.now todo) }
 {
     if workers < 2 {
-        return merge_all(alloc, gate, shape, children, todo);
+        return merge_all(alloc, gate, shape, sources, todo);
     }
     let near = workers / 2;
     let far = workers - near;
     let at = front_of(todo.len(), near, far);
     let rest = todo.split_off(at)?;
+    // A closure's clauses reach `join` only where it captures no struct that holds references.
+    let Sources {
+        children,
+        before,
+        touched,
+        height,
+    } = sources;
     let front = move || -> Result<Vec<Named>, AllocError>
-        requires { IsSync R.row × IsSync G.row × AreRepaid near (length todo) shape.n × All (IsAboveLeaves shape) todo × HaveShape shape children.now }
-        ensures { IfOk result (λ level. (all_shown level.items ≡ merges_of shape children.entry.now todo)
-            × All (ShowsItsCell shape children.entry.now) (all_shown level.items)) }
-    { merge_by(rt, alloc, gate, shape, children, todo, near) };
+        requires { IsSync R.row × IsSync G.row × AreRepaid near (length todo) shape.n × All (IsAboveLeaves shape) todo
+            × AreSources shape (record { children = children; before = before; touched = touched; height = height }) }
+        ensures { IfOk result (λ level. all_shown level.items ≡ merges_of shape children.entry.now todo) }
+    {
+        let sources = Sources {
+            children,
+            before,
+            touched,
+            height,
+        };
+        merge_by(rt, alloc, gate, shape, sources, todo, near)
+    };
     let back = move || -> Result<Vec<Named>, AllocError>
-        requires { IsSync R.row × IsSync G.row × AreRepaid far (length rest) shape.n × All (IsAboveLeaves shape) rest × HaveShape shape children.now }
-        ensures { IfOk result (λ level. (all_shown level.items ≡ merges_of shape children.entry.now rest)
-            × All (ShowsItsCell shape children.entry.now) (all_shown level.items)) }
-    { merge_by(rt, alloc, gate, shape, children, rest, far) };
+        requires { IsSync R.row × IsSync G.row × AreRepaid far (length rest) shape.n × All (IsAboveLeaves shape) rest
+            × AreSources shape (record { children = children; before = before; touched = touched; height = height }) }
+        ensures { IfOk result (λ level. all_shown level.items ≡ merges_of shape children.entry.now rest) }
+    {
+        let sources = Sources {
+            children,
+            before,
+            touched,
+            height,
+        };
+        merge_by(rt, alloc, gate, shape, sources, rest, far)
+    };
     let (last, first) = join(rt, back, front);
     joined(first?, last?)
 }

@@ -1,11 +1,13 @@
 //! The merges of one order, one after the other.
 ghost use Rattle.std.specs.Prelude.{◌≡◌, ◌++◌, [], ◌∷◌, IfOk, All};
+ghost use Rattle.rebuild_worker.specs.Changed.{AreSources};
 ghost use Rattle.rebuild_worker.specs.Level.{merge_of, merges_of, IsAboveLeaves, HaveShape, ShowsItsCell};
 ghost use Rattle.rebuild_worker.specs.Shown.{shown, all_shown};
 
 use crate::merge::merge_cell;
 use crate::named::Named;
 use crate::permits::Permits;
+use crate::sources::Sources;
 use leaf_store::Store;
 use parent_rule::Permit;
 use pyramid_model::Shape;
@@ -32,7 +34,11 @@ pub fn level_serial<G: Gate>(
     ensures merges { IfOk result (λ level. all_shown level.items ≡ merges_of shape children.now todo.items) }
     ensures pixels { IfOk result (λ level. All (ShowsItsCell shape children.now) (all_shown level.items)) }
 {
-    merge_all(alloc, gate, shape, children, Permits::new(todo))
+    // For the prover: n is at most 9.
+    let _n = shape.n;
+    let none = Store::new(alloc);
+    let sources = Sources::anew(children, &none);
+    merge_all(alloc, gate, shape, sources, Permits::new(todo))
 }
 
 /// Makes the merges that these permits allow, as `level_serial` does.
@@ -44,17 +50,16 @@ pub fn merge_all<G: Gate>(
     alloc: Global,
     gate: &G,
     shape: Shape,
-    children: &Store<Tile>,
+    sources: Sources<'_>,
     mut todo: Permits,
 ) -> Result<Vec<Named>, AllocError>
     requires cells { All (IsAboveLeaves shape) todo }
-    requires children { HaveShape shape children.now }
-    ensures merges { IfOk result (λ level. all_shown level.items ≡ merges_of shape children.now todo) }
-    ensures pixels { IfOk result (λ level. All (ShowsItsCell shape children.now) (all_shown level.items)) }
+    requires sources { AreSources shape sources }
+    ensures { IfOk result (λ level. all_shown level.items ≡ merges_of shape sources.entry.children.now todo) }
 {
     let mut level = Vec::with_capacity(alloc, todo.len())?;
     while let Some(permit) = todo.take_first() {
-        push_merge(alloc, gate, shape, children, permit, &mut level)?;
+        push_merge(alloc, gate, shape, sources, permit, &mut level)?;
     }
     Ok(level)
 }
@@ -64,17 +69,15 @@ fn push_merge<G: Gate>(
     alloc: Global,
     gate: &G,
     shape: Shape,
-    children: &Store<Tile>,
+    sources: Sources<'_>,
     permit: Permit,
     level: &mut Vec<Named>,
 ) -> Result<(), AllocError>
     requires cell { IsAboveLeaves shape permit }
-    requires children { HaveShape shape children.now }
-    ensures merge { IfOk result (λ _. all_shown level.new.items ≡ all_shown level.old.items ++ merge_of shape children.now permit ∷ []) }
-    ensures pixels { IfOk result (λ _. All (ShowsItsCell shape children.now) (all_shown level.old.items)
-        → All (ShowsItsCell shape children.now) (all_shown level.new.items)) }
+    requires sources { AreSources shape sources }
+    ensures { IfOk result (λ _. all_shown level.new.items ≡ all_shown level.old.items ++ merge_of shape sources.entry.children.now permit ∷ []) }
 {
-    let named = merge_cell(alloc, gate, shape, children, permit)?;
+    let named = merge_cell(alloc, gate, shape, sources, permit)?;
     level.push(named)?;
     Ok(())
 }

@@ -1,33 +1,22 @@
-use Rattle.std.proofs.Common.{◌≡◌, ◌-◌, ◌/◌, ◌∙◌, ap, length, take, drop, subst, sym, rules, Vec, Global}
+use Rattle.std.proofs.Common.{◌≡◌, ◌-◌, ◌/◌, ◌∙◌, ap, length, subst, sym, rules, Vec, Global}
 use Rattle.rebuild_worker.specs.declared.named.Named.{Named}
 use Rattle.std.specs.Prelude.{All}
 use Rattle.std.proofs.lemmas.List.Elements.{All-drop, All-take}
 use Rattle.std.proofs.lemmas.Result.{IfOk-at_ok, IfOk-weaker}
-use Rattle.rebuild_worker.specs.Level.{merges_of, IsAboveLeaves, ShowsItsCell}
+use Rattle.rebuild_worker.specs.Level.{merges_of, IsAboveLeaves}
 use Rattle.rebuild_worker.specs.Shown.{all_shown}
-use Rattle.rebuild_worker.proofs.Levels.{two_runs, all_of_two}
+use Rattle.rebuild_worker.proofs.Levels.{two_runs}
 use Rattle.rebuild_worker.specs.Workers.{AreRepaid}
 use Rattle.rebuild_worker.proofs.Shares.{front_repays, back_repays}
 use Rattle.rebuild_worker.proofs.parallel.+runs.Goals as goal
 
-pub returns-clause-merges : goal.returns-clause-merges
-returns-clause-merges g t c =
-    let front = IfOk-at_ok (λ level. (all_shown level.items ≡ merges_of c.args.shape c.args.children.now c.split_off.new.self)
-    × All (ShowsItsCell c.args.shape c.args.children.now) (all_shown level.items)) c.in_ok-first.was c.join-last.ensures.second in
-    let back = IfOk-at_ok (λ level. (all_shown level.items ≡ merges_of c.args.shape c.args.children.now c.in_ok-rest.rest)
-    × All (ShowsItsCell c.args.shape c.args.children.now) (all_shown level.items)) c.in_ok-last.was c.join-last.ensures.first in
-    let front_is : c.split_off.new.self ≡ take c.front_of-at.result c.args.todo = c.in_ok-rest.ensures.front in
-    let back_is : c.in_ok-rest.rest ≡ drop c.front_of-at.result c.args.todo = c.in_ok-rest.ensures.back in
-    IfOk-weaker _ _ _ (λ (all : Vec Named Global) is. two_runs c.args.shape c.args.children.now c.in_ok-first.field-0.items c.in_ok-last.field-0.items all.items c.args.todo c.front_of-at.result is
-    (front.0 ∙ ap (merges_of c.args.shape c.args.children.now) c.in_ok-rest.ensures.front) (back.0 ∙ ap (merges_of c.args.shape c.args.children.now) back_is)) c.joined.ensures
-
-pub returns-clause-pixels : goal.returns-clause-pixels
-returns-clause-pixels g t c =
-    let front = IfOk-at_ok (λ level. (all_shown level.items ≡ merges_of c.args.shape c.args.children.now c.split_off.new.self)
-    × All (ShowsItsCell c.args.shape c.args.children.now) (all_shown level.items)) c.in_ok-first.was c.join-last.ensures.second in
-    let back = IfOk-at_ok (λ level. (all_shown level.items ≡ merges_of c.args.shape c.args.children.now c.in_ok-rest.rest)
-    × All (ShowsItsCell c.args.shape c.args.children.now) (all_shown level.items)) c.in_ok-last.was c.join-last.ensures.first in
-    IfOk-weaker _ _ _ (λ (all : Vec Named Global) is. all_of_two c.args.shape c.args.children.now c.in_ok-first.field-0.items c.in_ok-last.field-0.items all.items is front.1 back.1) c.joined.ensures
+pub returns : goal.returns
+returns g t c =
+    let children = c.args.sources.children.now in
+    let front = IfOk-at_ok (λ level. all_shown level.items ≡ merges_of c.args.shape children c.split_off.new.self) c.in_ok-first.was c.join-last.ensures.second in
+    let back = IfOk-at_ok (λ level. all_shown level.items ≡ merges_of c.args.shape children c.in_ok-rest.rest) c.in_ok-last.was c.join-last.ensures.first in
+    IfOk-weaker _ _ _ (λ (all : Vec Named Global) is. two_runs c.args.shape children c.in_ok-first.field-0.items c.in_ok-last.field-0.items all.items c.args.todo c.front_of-at.result is
+    (front ∙ ap (merges_of c.args.shape children) c.in_ok-rest.ensures.front) (back ∙ ap (merges_of c.args.shape children) c.in_ok-rest.ensures.back)) c.joined.ensures
 
 pub join-last-requires-after_bounds : goal.join-last-requires-after_bounds
 join-last-requires-after_bounds g t c κs within =

@@ -1,4 +1,4 @@
-use Rattle.std.proofs.Common.{◌≡◌, ◌%◌, ◌+◌, ℕ, min, arith}
+use Rattle.std.proofs.Common.{◌≡◌, ◌%◌, ◌+◌, min, arith}
 use Rattle.rebuild_worker.proofs.Shares.{halves}
 use Rattle.rebuild_worker.proofs.parallel.front_of.Goals as goal
 
