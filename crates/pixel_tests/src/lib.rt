@@ -1,5 +1,5 @@
 //! Tests of what makes pixels: `healpix_nested` (`cells`), `parent_rule` (`rule`), `pyramid_model` (`pyramids`), `tile_pixels`
-//! (`tiles`, `merges`, `kernels`), `rebuild_worker` (`levels`), `allsky_mosaic` (`mosaics`) and `leaf_probe` (`probes`,
+//! (`tiles`, `merges`, `quadrants`, `kernels`), `rebuild_worker` (`levels`), `allsky_mosaic` (`mosaics`) and `leaf_probe` (`probes`,
 //! `merged_leaves`).
 //!
 //! They test the finished crates from a crate of their own: in each it would be proved a second time.
@@ -21,6 +21,8 @@ mod mosaics;
 mod probes;
 #[cfg(test)]
 mod pyramids;
+#[cfg(test)]
+mod quadrants;
 #[cfg(test)]
 mod rule;
 #[cfg(test)]

@@ -1,5 +1,5 @@
 //! Tiles merged, as a table. The numbers are in the order in which they are stored: the bottom line first.
-ghost use Rattle.std.specs.Prelude.{◌≤◌, IfSome};
+ghost use Rattle.std.specs.Prelude.{◌≤◌, IfOk, IfSome};
 ghost use Rattle.tile_pixels.specs.Tile.{HasShape};
 
 use crate::squares::{B, tile};
@@ -61,8 +61,8 @@ fn children(alloc: Global, depth: Depth, n: u8, row: &str) -> Result<Vec<Option<
     Ok(tiles)
 }
 
-// The child of that number, where it is there.
-fn at(tiles: &[Option<Tile>], i: usize, depth: Depth, n: u8) -> Option<&Tile>
+/// The child of that number, where it is there.
+pub(crate) fn at(tiles: &[Option<Tile>], i: usize, depth: Depth, n: u8) -> Option<&Tile>
     ensures { IfSome result (λ tile. HasShape tile.now depth n) }
 {
     match tiles.get(i) {
@@ -76,10 +76,16 @@ fn at(tiles: &[Option<Tile>], i: usize, depth: Depth, n: u8) -> Option<&Tile>
     }
 }
 
-// The tile above the children.
-fn merged(alloc: Global, depth: Depth, n: u8, tiles: &[Option<Tile>]) -> Result<Tile, AllocError>
+/// The tile above the children.
+pub(crate) fn merged(
+    alloc: Global,
+    depth: Depth,
+    n: u8,
+    tiles: &[Option<Tile>],
+) -> Result<Tile, AllocError>
     requires least_n { 1 ≤ n }
     requires greatest_n { n ≤ 9 }
+    ensures { IfOk result (λ tile. HasShape tile depth n) }
 {
     Tile::merge(
         alloc,
