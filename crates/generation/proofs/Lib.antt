@@ -3,6 +3,7 @@ pub mod Locality
 pub mod Orders
 pub mod Placing
 pub mod Chain
+pub mod Stood
 pub mod Results
 pub mod Edits
 pub mod Pyramids

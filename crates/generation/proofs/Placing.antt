@@ -107,7 +107,7 @@ module _ (shape : PyramidShape) (children : List (ℕ × PixelTile)) (order : �
         | false ↦ λ e k. one_of P cells p (All-tail P (merge_of shape children (record { order = order; npix = c })) (merges_of shape children (permits_of order cells)) all) k
       ] refl there
 
-  merged_shape : (four : FourTiles) → IfSome (tile_above shape four) (λ t. HasShape t shape.depth shape.n)
+  pub merged_shape : (four : FourTiles) → IfSome (tile_above shape four) (λ t. HasShape t shape.depth shape.n)
   merged_shape four = elim (any_of four) as (λ b. IfSome (cond b (Some (record { depth = shape.depth; n = shape.n; numbers = merged shape.depth shape.n four })) None) (λ t. HasShape t shape.depth shape.n)) [
     | true ↦ (refl, refl)
     | false ↦ tt

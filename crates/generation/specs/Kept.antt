@@ -1,7 +1,7 @@
 -- What a generation keeps: the tiles of each order, as the definition of the pyramid makes them of the leaves.
 use Rattle.std.specs.Prelude.{◌≡◌, ◌≢◌, ℕ, ◌-◌, ◌*◌, ◌/◌, ◌<◌, ◌≤◌, false, true, List, [], map, take, drop, length, slice_index_or, Option, Some, None, Contains}
 use Rattle.pyramid_model.specs.Shape.{PyramidShape, LeafMap, FitsShape, IsShape}
-use Rattle.pyramid_model.specs.Tile.{exists, pixels}
+use Rattle.pyramid_model.specs.Tile.{exists}
 use Rattle.tile_pixels.specs.Tile.{tile_of, PixelTile}
 use Rattle.leaf_store.specs.Store.{value_at}
 use Rattle.std.specs.Map.{keys_of}
@@ -14,6 +14,7 @@ use Rattle.allsky_mosaic.specs.Mosaic.{mosaic, mosaic_count, width_of, height_of
 use Rattle.allsky_mosaic.specs.Tiles.{IsMosaic, order_3}
 use Rattle.dirty_plan.specs.Dirty.{is_dirty, orders_down}
 use Rattle.edit_journal.specs.Leaves.{LeafTiles, FitsLeaves}
+use Rattle.rebuild_worker.specs.Changed.{StoodOver}
 use Rattle.generation.specs.Files.{leaf_map, existing}
 use Rattle.generation.specs.Changes.{AreTiles}
 
@@ -55,6 +56,11 @@ AreKept shape leaves touched order before =
 abbrev pub AllKept : PyramidShape → LeafMap → List ℕ → List (List (ℕ × PixelTile)) → Type 0
 AllKept shape leaves touched levels =
     (i : ℕ) → i < shape.top - shape.low → AreKept shape leaves touched (shape.top - 1 - i) (slice_index_or levels i [])
+
+-- each of the levels stood over the tiles of the next order, which differ from those of now over touched leaves alone
+abbrev pub AllStood : PyramidShape → LeafMap → List ℕ → List (List (ℕ × PixelTile)) → Type 0
+AllStood shape leaves touched levels =
+    (i : ℕ) → i < shape.top - shape.low → StoodOver shape (tiles_of shape leaves (shape.top - i)) touched i (slice_index_or levels i [])
 
 -- a cell of order 3 that isn't among the touched ones has the same tile in both pyramids
 abbrev pub SameOrder3 : PyramidShape → List ℕ → LeafMap → LeafMap → Type 0

@@ -1,5 +1,5 @@
 //! The tiles above the leaves, order by order from the deepest.
-ghost use Rattle.std.specs.Prelude.{◌≡◌, ℕ, ◌≤◌, ◌<◌, List, All, IfOk, IfSome, OnOk, OnErr, option_map};
+ghost use Rattle.std.specs.Prelude.{◌≡◌, ℕ, ◌≤◌, ◌<◌, [], List, All, IfOk, IfSome, OnOk, OnErr, option_map};
 ghost use Rattle.std.specs.List.Sorted.{IsStrictlyIncreasing};
 ghost use Rattle.std.specs.Arc.{arc_value};
 ghost use Rattle.healpix_nested.specs.Cells.{cell_count};
@@ -7,85 +7,100 @@ ghost use Rattle.pyramid_model.specs.Shape.{LeafMap, FitsShape, IsShape};
 ghost use Rattle.tile_pixels.specs.Tile.{PixelTile};
 ghost use Rattle.leaf_store.specs.Store.{IsAscending, value_at, with_value, without_key};
 ghost use Rattle.dirty_plan.specs.Dirty.{work, steps_after};
-ghost use Rattle.rebuild_worker.specs.Level.{IsAboveLeaves, HaveShape};
+ghost use Rattle.rebuild_worker.specs.Changed.{AreSources};
+ghost use Rattle.rebuild_worker.specs.Level.{IsAboveLeaves};
 ghost use Rattle.rebuild_worker.specs.Shown.{shown, all_shown};
 ghost use Rattle.edit_journal.specs.Leaves.{FitsLeaves};
 ghost use Rattle.generation.specs.Files.{leaf_map};
-ghost use Rattle.generation.specs.Kept.{tiles_of, levels_of, AllKept};
+ghost use Rattle.generation.specs.Kept.{tiles_of, levels_of, AllKept, AllStood};
 ghost use Rattle.generation.specs.Placed.{tile_at, tile_after, tiles_in, IsStep};
 
 use dirty_plan::plan;
 use leaf_store::Store;
 use parent_rule::{Permit, Steps};
 use pyramid_model::Shape;
-use rebuild_worker::{Named, level_parallel};
+use rebuild_worker::{Named, Sources, level_changed};
 use std::alloc::{AllocError, Global};
 use std::thread::Threads;
 use survey_link::Gate;
 use tile_pixels::Tile;
 
-/// The tiles above the leaves, a store for each order from the one above the leaves down to the lowest. Those of cells under
-/// which no touched leaf lies are taken from the levels that there were before.
+/// Leaves after some edits, the levels that there were before these, and the leaves that they touched, ascending.
+#[derive(Clone, Copy)]
+pub(crate) struct Edited<'a> {
+    pub(crate) leaves: &'a Store<Tile>,
+    pub(crate) before: &'a [Store<Tile>],
+    pub(crate) touched: &'a [u64],
+}
+
+/// The tiles above the leaves, a store for each order from the one above the leaves down to the lowest. Of the levels that
+/// there were before are taken the tiles of cells under which no touched leaf lies, and the quadrants of such children.
 pub(crate) fn levels_above<R: Threads + Sync, G: Gate + Sync>(
     rt: &R,
     alloc: Global,
     gate: &G,
     shape: Shape,
-    leaves: &Store<Tile>,
-    before: &[Store<Tile>],
-    touched: &[u64],
+    edited: Edited<'_>,
     steps: &mut Steps,
 ) -> Result<Vec<Store<Tile>>, AllocError>
-    requires fits { FitsLeaves shape leaves.now }
-    requires numbers { FitsShape shape (leaf_map leaves.now) }
-    requires ascending { IsStrictlyIncreasing touched.now }
-    requires cells { All (λ leaf. leaf < cell_count shape.top) touched.now }
-    requires before { AllKept shape (leaf_map leaves.now) touched.now before.now }
-    ensures levels { IfOk result (λ levels. levels.items ≡ levels_of shape (leaf_map leaves.now)) }
+    requires fits { FitsLeaves shape edited.leaves.now }
+    requires numbers { FitsShape shape (leaf_map edited.leaves.now) }
+    requires ascending { IsStrictlyIncreasing edited.touched.now }
+    requires cells { All (λ leaf. leaf < cell_count shape.top) edited.touched.now }
+    requires before { AllKept shape (leaf_map edited.leaves.now) edited.touched.now edited.before.now }
+    requires stood { AllStood shape (leaf_map edited.leaves.now) edited.touched.now edited.before.now }
+    ensures levels { IfOk result (λ levels. levels.items ≡ levels_of shape (leaf_map edited.entry.leaves.now)) }
     ensures known { IsShape shape.top shape.low shape.n }
-    ensures counted { OnOk result (steps.new ≡ steps_after steps.old (work shape.top shape.low touched.now)) }
-    ensures steps { steps.new ≤ steps_after steps.old (work shape.top shape.low touched.now) }
+    ensures counted { OnOk result (steps.new ≡ steps_after steps.old (work shape.top shape.low edited.entry.touched.now)) }
+    ensures steps { steps.new ≤ steps_after steps.old (work shape.top shape.low edited.entry.touched.now) }
     ensures never_falls { steps.old ≤ steps.new }
 {
-    let mut left = plan(alloc, shape.top, shape.low, touched, steps)?;
+    let Shape { top, low, .. } = shape;
+    let mut left = plan(alloc, top, low, edited.touched, steps)?;
     let mut levels = Vec::new(alloc);
-    while let Some((_, todo)) = left.take() {
-        let children = levels.last().unwrap_or(leaves);
-        let old = before.get(levels.len());
-        let level = level_above(rt, alloc, gate, shape, children, old, todo)?;
+    let none = Store::new(alloc);
+    while let Some((order, todo)) = left.take() {
+        let children = levels.last().unwrap_or(edited.leaves);
+        let was = edited.before.get(levels.len());
+        let sources = Sources {
+            children,
+            before: or_empty(was, &none),
+            touched: edited.touched,
+            height: top - 1 - order,
+        };
+        let level = level_above(rt, alloc, gate, shape, sources, todo)?;
         levels.push(level)?;
     }
     Ok(levels)
 }
 
-// The tiles of one order: the permitted ones are merged from their children, all others are the old ones.
+// The tiles of one order: the permitted ones are made of their sources, all others are those of before.
 fn level_above<R: Threads + Sync, G: Gate + Sync>(
     rt: &R,
     alloc: Global,
     gate: &G,
     shape: Shape,
-    children: &Store<Tile>,
-    old: Option<&Store<Tile>>,
+    sources: Sources<'_>,
     todo: Vec<Permit>,
 ) -> Result<Store<Tile>, AllocError>
     requires cells { All (IsAboveLeaves shape) todo.items }
-    requires children { HaveShape shape children.now }
+    requires sources { AreSources shape sources }
     ensures { IfOk result (λ tiles. (leaves : LeafMap) (order : ℕ) (touched : List ℕ)
-        → IsStep shape leaves order touched children.now (tiles_in old.entry) todo.items → tiles ≡ tiles_of shape leaves order) }
+        → IsStep shape leaves order touched sources.entry.children.now sources.entry.before.now todo.items → tiles ≡ tiles_of shape leaves order) }
 {
-    let merged = level_parallel(rt, alloc, gate, shape, children, todo)?;
-    let old = share_or_empty(alloc, old)?;
+    let merged = level_changed(rt, alloc, gate, shape, sources, todo)?;
+    let old = sources.before.share()?;
     with_tiles(old, &merged)
 }
 
-// The same tiles once more; none where there is no store.
-fn share_or_empty(alloc: Global, store: Option<&Store<Tile>>) -> Result<Store<Tile>, AllocError>
-    ensures tiles { IfOk result (λ tiles. tiles ≡ tiles_in store.entry) }
-    ensures ascending { IfOk result (λ tiles. IsAscending tiles) }
+// The store that was found, or else the empty one.
+fn or_empty<'a>(found: Option<&'a Store<Tile>>, none: &'a Store<Tile>) -> &'a Store<Tile>
+    requires { none.now ≡ [] }
+    ensures { result.now ≡ tiles_in found.entry }
 {
-    match store {
-        Some(tiles) => tiles.share(),
-        None => Ok(Store::new(alloc)),
+    match found {
+        Some(tiles) => tiles,
+        None => none,
     }
 }
 

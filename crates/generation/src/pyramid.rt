@@ -17,7 +17,7 @@ ghost use Rattle.generation.specs.Steps.{tiles_above};
 ghost use Rattle.tile_pixels.specs.Tile.{tile_of};
 
 use crate::changes::Changes;
-use crate::levels::levels_above;
+use crate::levels::{Edited, levels_above};
 use healpix_nested::Cell;
 use leaf_store::Store;
 use parent_rule::Steps;
@@ -68,7 +68,12 @@ impl Pyramid {
         // For the prover: a count fits 64 bits.
         let _count = steps.count();
         let numbers = leaf_numbers(alloc, &leaves)?;
-        let levels = levels_above(rt, alloc, gate, shape, &leaves, &[], &numbers, steps)?;
+        let edited = Edited {
+            leaves: &leaves,
+            before: &[],
+            touched: &numbers,
+        };
+        let levels = levels_above(rt, alloc, gate, shape, edited, steps)?;
         Ok(Pyramid {
             shape,
             leaves,
@@ -96,16 +101,12 @@ impl Pyramid {
         ensures never_falls { steps.old ≤ steps.new }
     {
         let Changes { leaves, touched } = changes;
-        let levels = levels_above(
-            rt,
-            alloc,
-            gate,
-            self.shape,
-            &leaves,
-            &self.levels,
-            &touched,
-            steps,
-        )?;
+        let edited = Edited {
+            leaves: &leaves,
+            before: &self.levels,
+            touched: &touched,
+        };
+        let levels = levels_above(rt, alloc, gate, self.shape, edited, steps)?;
         Ok(Pyramid {
             shape: self.shape,
             leaves,

@@ -3,6 +3,8 @@ use Rattle.std.specs.Prelude.{All}
 use Rattle.healpix_nested.specs.Cells.{cell_count}
 use Rattle.dirty_plan.specs.Dirty.{steps_after}
 use Rattle.generation.proofs.Pyramids.{fits_shape, kept_none, work_of_all}
+use Rattle.generation.specs.Files.{leaf_map}
+use Rattle.generation.proofs.Stood.{none_stood}
 use Rattle.generation.proofs.pyramid.Pyramid.of.Goals as goal
 
 pub levels_above-requires-clause-numbers : goal.levels_above-requires-clause-numbers
@@ -36,3 +38,6 @@ invariant_of-result g c = record {
   tiles = c.in_ok-numbers.ensures.tiles;
   levels_are = c.in_ok-levels.ensures.levels;
 }
+
+pub levels_above-requires-clause-stood : goal.levels_above-requires-clause-stood
+levels_above-requires-clause-stood g c κs within = none_stood c.args.shape (leaf_map c.args.leaves) c.deref.result.now
