@@ -1,9 +1,9 @@
 #!/usr/bin/env python3
 """Fills docs/HEADLINE.md with the definitions and clauses that it names, word for word from their files.
 
-Before each block of code stands a line with its file in code, a colon and the names, with commas between them. The page ends with a
-table of the definitions of this repository that a quoted one uses and that aren't quoted: a file in bold, then a row
-`- NAME: SENTENCE` for each of its names.
+Before each block of code stands a line with its file in code, a colon and the names, with commas between them. Of a definition by
+cases `NAME (CASE; CASE)` quotes these alone. The page ends with a table of the definitions of this repository that a quoted one uses
+and that aren't quoted: a file in bold, then a row `- NAME: SENTENCE` for each of its names.
 
 With --check nothing is written, and these are faults: a block that differs from its file or names none, a definition that is used
 and neither quoted nor in the table, a row of the table that nothing uses, and a count in docs/PROVED.md that is a tenth or more off.
@@ -67,9 +67,24 @@ def declared(text, name):
     return found[0] if found else None
 
 
+def bare(name):
+    """Returns the name of a definition of which only some cases are quoted."""
+    return name.partition(" (")[0]
+
+
+def cases(part, name):
+    """Returns a definition with only the cases of NAME (CASE; CASE)."""
+    heading, *equations = re.split(rf"^(?={re.escape(bare(name))} )(?!\S+ :)", part, flags=re.M)
+    wanted = name.partition(" (")[2].rstrip(")").split("; ")
+    kept = [each.rstrip("\n") for each in equations if set(WORD.findall(each.partition("=")[0])) & set(wanted)]
+    return heading + "\n".join(kept) if len(kept) == len(wanted) else None
+
+
 def quoted(file, name):
     text = text_of(file)
-    part = definition(text, name) if file.endswith(".antt") else clause(text, name) or declared(text, name)
+    part = definition(text, bare(name)) if file.endswith(".antt") else clause(text, name) or declared(text, name)
+    if part is not None and bare(name) != name:
+        part = cases(part, name)
     if part is None:
         raise SystemExit(f"docs/HEADLINE.md: {file} has no {name}")
     return part
@@ -147,9 +162,10 @@ def faults_of(text):
         for target in used(quoted(file, name), meanings(file)):
             cited.setdefault(target, name)
     rows = table(text)
-    for file, name in sorted(set(cited) - set(here) - set(rows)):
+    here = {(file, bare(name)) for file, name in here}
+    for file, name in sorted(set(cited) - here - set(rows)):
         yield f"{cited[file, name]} uses {name} of {file}, which is neither quoted nor in the table"
-    for file, name in sorted((set(rows) - set(cited)) | (set(rows) & set(here))):
+    for file, name in sorted((set(rows) - set(cited)) | (set(rows) & here)):
         yield f"the row of {name} of {file} has to go: nothing quoted uses it, or it is quoted"
     for file, name in sorted({row for row in rows if rows.count(row) > 1}):
         yield f"{name} of {file} has two rows"
@@ -157,11 +173,13 @@ def faults_of(text):
 
 def all_parts(text):
     """Returns what is quoted, and all that it rests on: each part by its file and its name."""
-    parts, open_ = {}, quotations(text) + TRAITS
+    parts, open_ = {}, [(file, bare(name)) for file, name in quotations(text)] + TRAITS
+    # Of a definition of which only some cases are quoted the others don't count.
+    partly = {(file, bare(name)): name for file, name in quotations(text)}
     while open_:
         file, name = open_.pop()
         if (file, name) not in parts:
-            parts[file, name] = quoted(file, name)
+            parts[file, name] = quoted(file, partly.get((file, name), name))
             # A type of the code has no definitions behind it.
             if file.endswith(".antt") or "ensures" in parts[file, name]:
                 open_.extend(used(parts[file, name], meanings(file)))

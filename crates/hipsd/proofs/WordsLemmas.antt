@@ -1,6 +1,7 @@
--- No command needs more doors than there are.
-use Rattle.std.proofs.Common.{ℕ, ◌≤◌, List, arith}
+-- What `run` says of words by their status, where no command needs more doors than there are.
+use Rattle.std.proofs.Common.{◌≡◌, ℕ, ◌≤◌, List, length, arith}
 use Rattle.hipsd_run.specs.Command.{Asks, IsCommand, IsCommandFor, doors_of}
+use Rattle.hipsd_run.specs.Runs.{Ends, RunsWords}
 use Rattle.survey_commands.specs.Serve.{IsServe}
 use Rattle.hipsd_run.specs.declared.command.Command.{Command}
 use Rattle.hipsd_run.specs.declared.command.Command.TheVariants.{Probe as ProbeCommand, Session, Export, Verify, Make, Serve, Past, Catalog, Mirror}
@@ -20,5 +21,10 @@ few_doors words (Catalog k n) asks = omega arith
 few_doors words Mirror asks = omega arith
 few_doors words (Serve n m) asks = let range : IsServe n m = asks.in_range in omega arith
 
-pub none_at_all : (words : List (List ℕ)) (doors : ℕ) → 64 ≤ doors → ¬ IsCommandFor doors words → ¬ IsCommand words
-none_at_all words doors many none (command, asks) = let few = few_doors words command asks in none (command, asks, omega arith)
+-- the status 1 is that of words that ask for nothing
+pub usage_only : {S H D : Type 0} (words : List (List ℕ)) (old new : Ends S H D) (status : ℕ)
+    → 64 ≤ length old.doors.items → RunsWords words old new status → status ≡ 1 → ¬ IsCommand words
+usage_only words old new status many ran one (command, asks) =
+    let few = few_doors words command asks in
+    let fits : doors_of command ≤ length old.doors.items = omega arith in
+    (ran.run command asks fits).not_usage one

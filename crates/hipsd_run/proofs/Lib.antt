@@ -1,3 +1,4 @@
 pub mod CommandLemmas
 pub mod DoorsLemmas
+pub mod ProbeLemmas
 pub mod RunsLemmas

@@ -1,27 +1,50 @@
--- From what was run to the command that the words ask for.
-use Rattle.std.proofs.Common.{◌≡◌, ◌≢◌, ◌⊎◌, ℕ, ◌≤◌, List, true, false, sym, subst, arith}
+-- From what was run to what the words ask for.
+use Rattle.std.proofs.Common.{◌≡◌, ◌≢◌, ◌⊎◌, ℕ, ◌≤◌, List, true, false, Option, Some, None, IfSome, inl, inr, length, refl, sym, subst, arith}
 use Rattle.std.proofs.lemmas.Bool.{false≢true}
 use Rattle.hipsd_run.specs.Command.{Asks, IsCommandFor, doors_of}
-use Rattle.hipsd_run.specs.Runs.{Telling, Ends, Runs}
+use Rattle.hipsd_run.specs.Runs.{Ends, Runs, RunsUsage, ReportsFaults, RunsWords}
 use Rattle.hipsd_run.specs.declared.command.Command.{Command}
 use Rattle.hipsd_run.proofs.CommandLemmas.{same_command}
 
 -- words ask for one command only, so what was run is the one that they ask for
-pub runs_asked : {S K H D : Type 0} (tells : Telling S K H D) (old new : Ends S K H D) (status : ℕ) (words : List (List ℕ)) (command other : Command)
-    → Asks words command → Runs command tells old new status → Asks words other → Runs other tells old new status
-runs_asked tells old new status words command other asks runs asks_other =
-    subst (λ any. Runs any tells old new status) (same_command words command other asks asks_other) runs
+pub runs_command : {S H D : Type 0} (words : List (List ℕ)) (old new : Ends S H D) (status doors : ℕ) (command it : Command)
+    → command ≡ it → Asks words command → doors_of command ≤ doors → doors ≡ length old.doors.items
+    → Runs it old new status → ReportsFaults old new status → RunsWords words old new status
+runs_command words old new status doors command it is asks fits len runs faults =
+    let asks_it : Asks words it = subst (λ any. Asks words any) is asks in
+    let fits_it : doors_of it ≤ length old.doors.items = subst (λ (n : ℕ). doors_of it ≤ n) len (subst (λ any. doors_of any ≤ doors) is fits) in
+    record {
+      run = λ other asks_other _. subst (λ any. Runs any old new status) (same_command words it other asks_it asks_other) runs;
+      usage = λ none. absurd (none (it, asks_it, fits_it));
+      faults = faults;
+    }
 
--- words that are no command's ask for none that needs no door
-pub not_asked : {P : Type 0} (doors : ℕ) (words : List (List ℕ)) (command : Command) → ¬ IsCommandFor doors words → doors_of command ≡ 0 → Asks words command → P
-not_asked doors words command none few asks =
-    let fits : doors_of command ≤ doors = omega arith in
-    absurd (none (command, asks, fits))
+-- words that ask for none have only the usage printed
+pub runs_none : {S H D : Type 0} (words : List (List ℕ)) (old new : Ends S H D) (status doors : ℕ)
+    → ¬ IsCommandFor doors words → doors ≡ length old.doors.items
+    → RunsUsage old new status → ReportsFaults old new status → RunsWords words old new status
+runs_none words old new status doors none len usage faults =
+    let none_here : ¬ IsCommandFor (length old.doors.items) words = subst (λ (n : ℕ). ¬ IsCommandFor n words) len none in
+    record {
+      run = λ command asks fits. absurd (none_here (command, asks, fits));
+      usage = λ _. usage;
+      faults = faults;
+    }
 
--- the status of the usage line tells of no fault but the sink's
-pub not_blamed : (status : ℕ) → (status ≡ 1) ⊎ (status ≡ 6) → (status ≢ 5) × (status ≢ 7) × (status ≢ 8)
-not_blamed status ends = (λ e. absurd (omega arith), λ e. absurd (omega arith), λ e. absurd (omega arith))
+-- the status of the usage reports no fault but the sink's
+pub not_blamed : (status : ℕ) → (status ≡ 1) ⊎ (status ≡ 6) → (status ≢ 5) × (status ≢ 7) × (status ≢ 8) × ¬ ((status ≡ 2) ⊎ (status ≡ 3))
+not_blamed status ends = (λ e. absurd (omega arith), λ e. absurd (omega arith), λ e. absurd (omega arith), λ e. absurd (omega arith))
+
+-- a status that isn't that of a shelf that wasn't opened
+pub never_opened : {P : Type 0} {status : ℕ} → (status ≢ 2) × (status ≢ 3) → (status ≡ 2) ⊎ (status ≡ 3) → P
+never_opened others (inl e) = absurd (others.0 e)
+never_opened others (inr e) = absurd (others.1 e)
 
 -- what is used isn't unused
 pub is_used : {P : Type 0} → true ≡ false → P
 is_used same = absurd (false≢true (sym same))
+
+-- what is so of the bytes that an option shows
+pub if_shown : (shown : Option (List ℕ)) (P : List ℕ → Type 0) → ((input : List ℕ) → shown ≡ Some input → P input) → IfSome shown P
+if_shown None P so = tt
+if_shown (Some input) P so = so input refl

@@ -1,3 +1,3 @@
 pub mod Command
-pub mod Run
+pub mod Probe
 pub mod Runs

@@ -1,6 +1,6 @@
 -- What `make` does: the script of a made survey is served as one connection, by a board that nobody else has, and the state
 -- that it leads to is summed up.
-use Rattle.std.specs.Prelude.{◌≡◌, ◌⊎◌, ℕ, ◌^◌, ◌<◌, ◌≤◌, List, [], ◌++◌, length, sum, sum_by, Option, unwrap_or, codes, decimal}
+use Rattle.std.specs.Prelude.{◌≡◌, ◌⊎◌, ℕ, ◌^◌, ◌<◌, ◌≤◌, List, [], ◌++◌, length, sum, sum_by, unwrap_or, codes, decimal}
 use Rattle.std.specs.FinMap.{len, get}
 use Rattle.survey_conf.specs.Description.{Description}
 use Rattle.tile_path.specs.Spelling.{spelling}
@@ -14,9 +14,10 @@ use Rattle.survey_make.specs.Script.{made_script}
 use Rattle.reader_pin.specs.Board.{last_of}
 use Rattle.hips_http.specs.declared.served.SessionEnd.TheVariants.{Closed}
 use Rattle.hips_http.specs.SessionRun.{Exchange, input_of}
+use Rattle.past_session.specs.Run.{SinkBytes}
 use Rattle.shelf_io.specs.Opening.{OpenedSurvey}
 use Rattle.survey_commands.specs.declared.summary.Summary.{Summary}
-use Rattle.survey_commands.specs.Survey.{IsSilent, Says, line_of}
+use Rattle.survey_commands.specs.Survey.{Says, line_of}
 use Rattle.survey_commands.specs.Session.{RunsAlone}
 
 -- ---- what is asked
@@ -78,7 +79,7 @@ pub record IsMade (number edits : ℕ) (summary : Summary) : Type 0 where
   pub is : summary ≡ summary_of made [] edits (last_of states)
 
 -- `make`: the summary is written; or there was no memory, and nothing is
-abbrev pub RunsMake : ℕ → ℕ → ℕ → Option (List ℕ) → Option (List ℕ) → Option (List ℕ) → Option (List ℕ) → Type 0
-RunsMake number edits status held held' handed handed' =
-    ((summary : Summary) × IsMade number edits summary × Says 0 (line_of (summary_text summary)) status held held' handed handed')
-    ⊎ ((status ≡ 11) × IsSilent held held' handed handed')
+abbrev pub RunsMake : ℕ → ℕ → ℕ → SinkBytes → SinkBytes → Type 0
+RunsMake number edits status sink sink' =
+    ((summary : Summary) × IsMade number edits summary × Says 0 (line_of (summary_text summary)) status sink sink')
+    ⊎ ((status ≡ 11) × (sink' ≡ sink))

@@ -1,5 +1,5 @@
 -- What `past` does: it opens the shelf, and answers records about past states of its survey, over the source and the sink.
-use Rattle.std.specs.Prelude.{◌≡◌, ℕ, ◌+◌, ◌≤◌, List, [], length, Option, Some, Result, Ok, Err, IfSome}
+use Rattle.std.specs.Prelude.{◌≡◌, ◌≢◌, ℕ, ◌+◌, ◌≤◌, List, [], length, Option, Some, Result, Ok, Err, IfSome}
 use Rattle.std.specs.Io.KnownBytes.{Consumes}
 use Rattle.survey_link.specs.Door.{Connection}
 use Rattle.survey_link.specs.Shelf.{ShelfFiles}
@@ -7,10 +7,10 @@ use Rattle.generation.specs.Files.{leaf_map}
 use Rattle.generation.specs.Steps.{tiles_above}
 use Rattle.shelf_io.specs.Opening.{OpenedSurvey, opening_steps}
 use Rattle.shelf_io.specs.declared.refusal.LoadRefusal.{LoadRefusal}
-use Rattle.past_session.specs.Run.{SinkBytes, FlushesAll, PastRun}
+use Rattle.past_session.specs.Run.{FlushesAll, PastRun}
 use Rattle.past_session.specs.declared.ending.PastEnd.{PastEnd}
 use Rattle.past_session.specs.declared.ending.PastEnd.TheVariants.{Done, Cut, BadLine, Spent, ReadFault, WriteFault, OutOfMemory}
-use Rattle.survey_commands.specs.Survey.{SaysWhy}
+use Rattle.survey_commands.specs.Survey.{SaysWhy, sink_of}
 use Rattle.survey_commands.specs.Session.{OpensAs, OpensNot}
 
 -- ---- what is asked
@@ -33,12 +33,9 @@ past_status (BadLine at) = 17
 
 -- ---- the run
 
-abbrev pub sink_of : Connection → SinkBytes
-sink_of connection = record { held = connection.written; flushed = connection.flushed }
-
 -- unless a writing failed, all that the sink holds was flushed, or nothing was written
 abbrev pub FlushesPast : ℕ → Connection → Connection → Type 0
-FlushesPast status old new = (status ≡ 6 → ⊥) → FlushesAll (sink_of old) (sink_of new)
+FlushesPast status old new = status ≢ 6 → FlushesAll (sink_of old) (sink_of new)
 
 -- the records of the survey were answered, whose source had this input; the count of steps before and after
 pub record AnswersPast (survey : OpenedSurvey) (input : List ℕ) (old new : Connection) (steps steps' status : ℕ) : Type 0 where
@@ -61,7 +58,7 @@ pub record OpensAndAnswers (found : Option ShelfFiles) (survey : OpenedSurvey) (
 pub record OpensAndSays (found : Option ShelfFiles) (refusal : LoadRefusal) (old new : Connection) (steps steps' status : ℕ) : Type 0 where
   pub opens_not : OpensNot found refusal
   pub unread : new.unread ≡ old.unread
-  pub says : SaysWhy refusal status old.written new.written old.flushed new.flushed
+  pub says : SaysWhy refusal status (sink_of old) (sink_of new)
   pub cost : IfSome found (λ files. steps' ≤ steps + opening_steps files)
 
 -- `past`, over the files and an input, by what the files open as
@@ -73,11 +70,11 @@ abbrev pub RunsPast : Option ShelfFiles → List ℕ → Connection → Connecti
 RunsPast found input old new steps steps' status = (opened : Result OpenedSurvey LoadRefusal) × PastOf found input old new steps steps' status opened
 
 -- the same connection, where the proof sees these bytes in the source
-abbrev pub telling : List ℕ → Connection → Connection
-telling bytes connection = record connection { unread = Some bytes }
+abbrev pub with_input : List ℕ → Connection → Connection
+with_input bytes connection = record connection { unread = Some bytes }
 
 -- whatever the proof sees of the source, it is so of the bytes that were read, as though the input ended behind them
 pub record RunsPastOver (found : Option ShelfFiles) (old new : Connection) (steps steps' status : ℕ) : Type 0 where
   pub came : List ℕ
   pub consumed : Consumes old.unread new.unread came
-  pub run : RunsPast found came (telling came old) (telling [] new) steps steps' status
+  pub run : RunsPast found came (with_input came old) (with_input [] new) steps steps' status

@@ -1,6 +1,7 @@
 -- What `serve` does: it opens the shelf, and serves the connections of many doors at once, over boards of that survey.
 use Rattle.std.specs.Prelude.{◌≡◌, ℕ, ◌≤◌, List, [], Option, Result, Ok, Err}
 use Rattle.survey_link.specs.Shelf.{ShelfFiles}
+use Rattle.past_session.specs.Run.{SinkBytes}
 use Rattle.shelf_io.specs.Opening.{OpenedSurvey}
 use Rattle.shelf_io.specs.declared.refusal.LoadRefusal.{LoadRefusal}
 use Rattle.survey_core.specs.State.{StateContent}
@@ -8,7 +9,7 @@ use Rattle.hips_place.specs.declared.place.PlaceEnd.{PlaceEnd}
 use Rattle.hips_place.specs.declared.place.PlaceEnd.TheVariants.{Done, Failed, OutOfMemory}
 use Rattle.hips_place.specs.declared.doors.ServeRefusal.{ServeRefusal}
 use Rattle.hips_place.specs.Place.{DoorContent, ServesAs}
-use Rattle.survey_commands.specs.Survey.{SaysWhy, IsSilent}
+use Rattle.survey_commands.specs.Survey.{SaysWhy}
 use Rattle.survey_commands.specs.Session.{OpensAs, OpensNot}
 
 -- ---- what is asked
@@ -46,13 +47,13 @@ Serves survey most doors doors' status = (served : Result PlaceEnd ServeRefusal)
 
 -- `serve`, over the files and these doors: the survey that the files open as is served, and nothing is written; or they open
 -- as none, which is written, and the doors stay
-abbrev pub ServeOf : Option ShelfFiles → ℕ → List DoorContent → List DoorContent → ℕ → Option (List ℕ) → Option (List ℕ) → Option (List ℕ) → Option (List ℕ)
+abbrev pub ServeOf : Option ShelfFiles → ℕ → List DoorContent → List DoorContent → ℕ → SinkBytes → SinkBytes
     → Result OpenedSurvey LoadRefusal → Type 0
-ServeOf found most doors doors' status held held' handed handed' (Ok survey) =
-    OpensAs found survey × Serves survey most doors doors' status × IsSilent held held' handed handed'
-ServeOf found most doors doors' status held held' handed handed' (Err refusal) =
-    OpensNot found refusal × (doors' ≡ doors) × SaysWhy refusal status held held' handed handed'
+ServeOf found most doors doors' status sink sink' (Ok survey) =
+    OpensAs found survey × Serves survey most doors doors' status × (sink' ≡ sink)
+ServeOf found most doors doors' status sink sink' (Err refusal) =
+    OpensNot found refusal × (doors' ≡ doors) × SaysWhy refusal status sink sink'
 
-abbrev pub RunsServe : Option ShelfFiles → ℕ → List DoorContent → List DoorContent → ℕ → Option (List ℕ) → Option (List ℕ) → Option (List ℕ) → Option (List ℕ) → Type 0
-RunsServe found most doors doors' status held held' handed handed' =
-    (opened : Result OpenedSurvey LoadRefusal) × ServeOf found most doors doors' status held held' handed handed' opened
+abbrev pub RunsServe : Option ShelfFiles → ℕ → List DoorContent → List DoorContent → ℕ → SinkBytes → SinkBytes → Type 0
+RunsServe found most doors doors' status sink sink' =
+    (opened : Result OpenedSurvey LoadRefusal) × ServeOf found most doors doors' status sink sink' opened

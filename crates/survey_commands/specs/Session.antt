@@ -15,7 +15,7 @@ use Rattle.reader_pin.specs.Solo.{only_seat}
 use Rattle.hips_http.specs.declared.served.SessionEnd.{SessionEnd}
 use Rattle.hips_http.specs.declared.served.SessionEnd.TheVariants.{Closed, Asked, Refused, Cut, Spent, ReadFault, WriteFault, OutOfMemory}
 use Rattle.hips_http.specs.SessionRun.{Exchange, SessionRun, Flushes, input_of}
-use Rattle.survey_commands.specs.Survey.{SaysWhy}
+use Rattle.survey_commands.specs.Survey.{SaysWhy, sink_of}
 
 -- ---- the connection
 
@@ -45,7 +45,7 @@ end_status (Refused code) = 14
 
 -- a connection as the proof sees it, whose source had this input; flushing what was written comes after it, at which the sink
 -- may fail too
-pub record IsTold (input : List ℕ) (old new : Connection) (exchange : Exchange) : Type 0 where
+pub record IsExchange (input : List ℕ) (old new : Connection) (exchange : Exchange) : Type 0 where
   pub input_is : input ≡ input_of exchange
   pub left : new.unread ≡ Some exchange.left
   pub written : Appends old.written new.written exchange.written
@@ -63,7 +63,7 @@ EndsWith end status exchange old new = ((status ≡ end_status end) × (new.flus
 -- one connection of the survey was served, whose source had this input
 pub record Serves (survey : OpenedSurvey) (input : List ℕ) (old new : Connection) (status : ℕ) : Type 0 where
   pub exchange : Exchange
-  pub told : IsTold input old new exchange
+  pub exchanged : IsExchange input old new exchange
   pub states : List SurveyState
   pub end : SessionEnd
   pub memory_faults : ℕ
@@ -81,7 +81,7 @@ OpensNot found refusal = IfSome found (λ files. IsRefusedBy (result_err (openin
 abbrev pub SessionOf : Option ShelfFiles → List ℕ → Connection → Connection → ℕ → Result OpenedSurvey LoadRefusal → Type 0
 SessionOf found input old new status (Ok survey) = OpensAs found survey × Serves survey input old new status
 SessionOf found input old new status (Err refusal) = OpensNot found refusal × (new.unread ≡ old.unread)
-    × SaysWhy refusal status old.written new.written old.flushed new.flushed
+    × SaysWhy refusal status (sink_of old) (sink_of new)
 
 abbrev pub RunsSession : Option ShelfFiles → List ℕ → Connection → Connection → ℕ → Type 0
 RunsSession found input old new status = (opened : Result OpenedSurvey LoadRefusal) × SessionOf found input old new status opened

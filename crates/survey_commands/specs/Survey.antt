@@ -4,7 +4,9 @@ use Rattle.std.specs.Result.{result_err}
 use Rattle.std.specs.FinMap.{len}
 use Rattle.std.specs.Io.KnownBytes.{Appends}
 use Rattle.survey_link.specs.Link.{AppendsPrefix}
+use Rattle.survey_link.specs.Door.{Connection}
 use Rattle.survey_link.specs.Shelf.{ShelfFiles}
+use Rattle.past_session.specs.Run.{SinkBytes}
 use Rattle.generation.specs.Files.{files, leaf_map}
 use Rattle.shelf_io.specs.Opening.{OpenedSurvey, opening, IsRefusedBy}
 use Rattle.shelf_io.specs.Survey.{Replaces, OthersStay, IsVerdict, CountsFiles}
@@ -44,38 +46,37 @@ IsComparison (Some found) (Err refusal) = IsRefusedBy (result_err (opening found
 
 -- ---- what is written of it
 
+-- the sink of a connection
+abbrev pub sink_of : Connection → SinkBytes
+sink_of connection = record { held = connection.written; flushed = connection.flushed }
+
 -- a text as a line
 abbrev pub line_of : List ℕ → List ℕ
 line_of text = text ++ 10 ∷ []
 
 -- the bytes were written and all that the sink holds was flushed
-pub record IsWritten (bytes : List ℕ) (held held' handed' : Option (List ℕ)) : Type 0 where
-  pub appended : Appends held held' bytes
-  pub flushed : handed' ≡ held'
-
--- nothing was written
-pub record IsSilent (held held' handed handed' : Option (List ℕ)) : Type 0 where
-  pub kept : held' ≡ held
-  pub flushed : handed' ≡ handed
+pub record IsWritten (bytes : List ℕ) (sink sink' : SinkBytes) : Type 0 where
+  pub appended : Appends sink.held sink'.held bytes
+  pub flushed : sink'.flushed ≡ sink'.held
 
 -- the line was written, and the status is the command's own; or the sink failed at it, or there was no memory for it
-abbrev pub Says : ℕ → List ℕ → ℕ → Option (List ℕ) → Option (List ℕ) → Option (List ℕ) → Option (List ℕ) → Type 0
-Says own line status held held' handed handed' = ((status ≡ own) × IsWritten line held held' handed')
-    ⊎ (((status ≡ 6) × AppendsPrefix held held' line) ⊎ ((status ≡ 11) × IsSilent held held' handed handed'))
+abbrev pub Says : ℕ → List ℕ → ℕ → SinkBytes → SinkBytes → Type 0
+Says own line status sink sink' = ((status ≡ own) × IsWritten line sink sink')
+    ⊎ (((status ≡ 6) × AppendsPrefix sink.held sink'.held line) ⊎ ((status ≡ 11) × (sink' ≡ sink)))
 
 -- why the shelf wasn't opened: by 2 its description, by 3 its leaves
-abbrev pub SaysWhy : LoadRefusal → ℕ → Option (List ℕ) → Option (List ℕ) → Option (List ℕ) → Option (List ℕ) → Type 0
+abbrev pub SaysWhy : LoadRefusal → ℕ → SinkBytes → SinkBytes → Type 0
 SaysWhy NoConf = Says 2 (line_of (load_text NoConf))
 SaysWhy (Conf fault) = Says 2 (line_of (load_text (Conf fault)))
 SaysWhy (Tile cell fault) = Says 3 (line_of (load_text (Tile cell fault)))
 SaysWhy (TooMany leaves) = Says 3 (line_of (load_text (TooMany leaves)))
-SaysWhy ShelfFault = λ status held held' handed handed'. (status ≡ 7) × IsSilent held held' handed handed'
-SaysWhy OutOfMemory = λ status held held' handed handed'. (status ≡ 11) × IsSilent held held' handed handed'
+SaysWhy ShelfFault = λ status sink sink'. (status ≡ 7) × (sink' ≡ sink)
+SaysWhy OutOfMemory = λ status sink sink'. (status ≡ 11) × (sink' ≡ sink)
 
 abbrev pub export_text : ℕ → List ℕ
 export_text count = codes "exported " ++ decimal count
 
-abbrev pub SaysExport : Result ℕ LoadRefusal → ℕ → Option (List ℕ) → Option (List ℕ) → Option (List ℕ) → Option (List ℕ) → Type 0
+abbrev pub SaysExport : Result ℕ LoadRefusal → ℕ → SinkBytes → SinkBytes → Type 0
 SaysExport (Ok count) = Says 0 (line_of (export_text count))
 SaysExport (Err refusal) = SaysWhy refusal
 
@@ -83,18 +84,18 @@ abbrev pub verdict_status : Verdict → ℕ
 verdict_status (Same count) = 0
 verdict_status (Differs path) = 9
 
-abbrev pub SaysVerdict : Result Verdict LoadRefusal → ℕ → Option (List ℕ) → Option (List ℕ) → Option (List ℕ) → Option (List ℕ) → Type 0
+abbrev pub SaysVerdict : Result Verdict LoadRefusal → ℕ → SinkBytes → SinkBytes → Type 0
 SaysVerdict (Ok verdict) = Says (verdict_status verdict) (line_of (verdict_text verdict))
 SaysVerdict (Err refusal) = SaysWhy refusal
 
 -- ---- whole runs
 
--- `export`, over the files before and after, with its status, what the sink holds before and after, and what was flushed
-abbrev pub RunsExport : Option ShelfFiles → Option ShelfFiles → ℕ → Option (List ℕ) → Option (List ℕ) → Option (List ℕ) → Option (List ℕ) → Type 0
-RunsExport old new status held held' handed handed' =
-    (outcome : Result ℕ LoadRefusal) × (IsExport old new outcome × SaysExport outcome status held held' handed handed')
+-- `export`, over the files and the sink before and after, with its status
+abbrev pub RunsExport : Option ShelfFiles → Option ShelfFiles → ℕ → SinkBytes → SinkBytes → Type 0
+RunsExport old new status sink sink' =
+    (outcome : Result ℕ LoadRefusal) × (IsExport old new outcome × SaysExport outcome status sink sink')
 
--- `verify`, over the files
-abbrev pub RunsVerify : Option ShelfFiles → ℕ → Option (List ℕ) → Option (List ℕ) → Option (List ℕ) → Option (List ℕ) → Type 0
-RunsVerify found status held held' handed handed' =
-    (outcome : Result Verdict LoadRefusal) × (IsComparison found outcome × SaysVerdict outcome status held held' handed handed')
+-- `verify`, over the files and the sink
+abbrev pub RunsVerify : Option ShelfFiles → ℕ → SinkBytes → SinkBytes → Type 0
+RunsVerify found status sink sink' =
+    (outcome : Result Verdict LoadRefusal) × (IsComparison found outcome × SaysVerdict outcome status sink sink')

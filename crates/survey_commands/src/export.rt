@@ -1,6 +1,7 @@
 //! The command `export`: the survey that the shelf describes is put on the shelf.
 ghost use Rattle.std.specs.Prelude.{◌≡◌, ◌≢◌, ◌≤◌, IsErrOf, Some};
 ghost use Rattle.survey_link.specs.Link.{Rises};
+ghost use Rattle.past_session.specs.Run.{sink_bytes};
 ghost use Rattle.survey_commands.specs.Survey.{IsExport, SaysExport, RunsExport, export_text};
 
 use crate::output::say;
@@ -46,7 +47,7 @@ where
     H: Shelf,
     G: Gate + Sync,
     ensures run { RunsExport (H.files shelf.old) (H.files shelf.new) result
-        (K.held sink.old) (K.held sink.new) (K.flushed sink.old) (K.flushed sink.new) }
+        (sink_bytes K.Sink sink.old) (sink_bytes K.Sink sink.new) }
     ensures not_usage { result ≢ 1 }
     ensures not_door { result ≢ 8 }
     ensures not_read { result ≢ 5 }

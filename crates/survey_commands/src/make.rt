@@ -1,6 +1,7 @@
 //! The command `make`: a survey is made by its script, and summed up.
 ghost use Rattle.std.specs.Prelude.{◌≡◌, ◌≢◌, ℕ, ◌≤◌, [], IfOk, OnOk};
 ghost use Rattle.survey_link.specs.Link.{Rises};
+ghost use Rattle.past_session.specs.Run.{sink_bytes};
 ghost use Rattle.shelf_io.specs.Opening.{OpenedSurvey};
 ghost use Rattle.survey_commands.specs.Session.{board_of};
 ghost use Rattle.survey_commands.specs.Make.{IsMake, made_survey, RunsScript, IsMade, RunsMake};
@@ -41,7 +42,7 @@ where
     K: Sink,
     G: Gate + Sync,
     requires { IsMake number edits }
-    ensures run { RunsMake number edits result (K.held sink.old) (K.held sink.new) (K.flushed sink.old) (K.flushed sink.new) }
+    ensures run { RunsMake number edits result (sink_bytes K.Sink sink.old) (sink_bytes K.Sink sink.new) }
     ensures not_usage { result ≢ 1 }
     ensures not_door { result ≢ 8 }
     ensures not_read { result ≢ 5 }

@@ -1,6 +1,7 @@
 //! A line that a command writes.
 ghost use Rattle.std.specs.Prelude.{◌≡◌, ◌≢◌, ◌⊎◌, ℕ, List, Some};
 ghost use Rattle.survey_link.specs.Link.{Rises};
+ghost use Rattle.past_session.specs.Run.{sink_bytes};
 ghost use Rattle.survey_commands.specs.Survey.{Says, line_of};
 
 use leaf_probe::write_out;
@@ -12,7 +13,7 @@ use survey_link::{Failed, Sink};
 /// there was no memory for the line, of which nothing is then written.
 pub fn say<T: Display, K: Sink>(alloc: Global, sink: &mut K, own: u8, shown: &T) -> u8
     ensures said { (text : List ℕ) → T.output shown.now ≡ Some text → Says own (line_of text) result
-        (K.held sink.old) (K.held sink.new) (K.flushed sink.old) (K.flushed sink.new) }
+        (sink_bytes K.Sink sink.old) (sink_bytes K.Sink sink.new) }
     ensures status { (result ≡ own) ⊎ ((result ≡ 6) ⊎ (result ≡ 11)) }
     ensures write_fault { own ≢ 6 → result ≡ 6 → Rises (K.faults sink.old) (K.faults sink.new) }
 {

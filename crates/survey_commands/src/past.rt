@@ -4,7 +4,7 @@ ghost use Rattle.std.specs.Arc.{arc_value};
 ghost use Rattle.survey_link.specs.Link.{Rises};
 ghost use Rattle.edit_journal.specs.Leaves.{charge_of};
 ghost use Rattle.edit_journal.specs.Faults.{most_charge};
-ghost use Rattle.past_session.specs.Run.{RunsOver};
+ghost use Rattle.past_session.specs.Run.{sink_bytes, RunsOver};
 ghost use Rattle.past_session.specs.declared.ending.PastEnd.{PastEnd as Ending};
 ghost use Rattle.shelf_io.specs.Opening.{OpenedSurvey, opening_steps};
 ghost use Rattle.hips_http.specs.Moment.{connection_of};
@@ -129,7 +129,7 @@ where
         (connection_of S.Source K.Sink source.old sink.old) (connection_of S.Source K.Sink source.new sink.new)
         steps.old steps.new result }
     ensures over { (end : Ending) × RunsOver (arc_value opening).conf (arc_value opening).leaves (S.left source.old) (S.left source.new)
-        (record { held = K.held sink.old; flushed = K.flushed sink.old }) (record { held = K.held sink.new; flushed = K.flushed sink.new }) steps.old steps.new end
+        (sink_bytes K.Sink sink.old) (sink_bytes K.Sink sink.new) steps.old steps.new end
         × (result ≡ past_status end) }
     ensures flushed { FlushesPast result
         (connection_of S.Source K.Sink source.old sink.old) (connection_of S.Source K.Sink source.new sink.new) }

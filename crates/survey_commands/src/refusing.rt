@@ -1,6 +1,7 @@
 //! What is written if the shelf isn't opened.
 ghost use Rattle.std.specs.Prelude.{◌≡◌, ◌≢◌};
 ghost use Rattle.survey_link.specs.Link.{Rises};
+ghost use Rattle.past_session.specs.Run.{sink_bytes};
 ghost use Rattle.shelf_io.specs.declared.refusal.LoadRefusal.TheVariants.{ShelfFault};
 ghost use Rattle.survey_commands.specs.Survey.{SaysWhy};
 
@@ -12,7 +13,7 @@ use survey_link::Sink;
 /// Writes why the shelf isn't opened, and answers the status: 2 for its description, 3 for its leaves; 7 where the shelf
 /// failed and 11 where there was no memory, of which nothing is written.
 pub fn say_why<K: Sink>(alloc: Global, sink: &mut K, refusal: &LoadRefusal) -> u8
-    ensures said { SaysWhy refusal.now result (K.held sink.old) (K.held sink.new) (K.flushed sink.old) (K.flushed sink.new) }
+    ensures said { SaysWhy refusal.now result (sink_bytes K.Sink sink.old) (sink_bytes K.Sink sink.new) }
     ensures not_usage { result ≢ 1 }
     ensures not_door { result ≢ 8 }
     ensures not_read { result ≢ 5 }

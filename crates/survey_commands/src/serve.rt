@@ -1,6 +1,7 @@
 //! The command `serve`: the connections of many doors at once, over one survey.
 ghost use Rattle.std.specs.Prelude.{◌≡◌, ◌≢◌, ◌⊎◌, ◌<◌, ◌≤◌, [], map, length, take, drop};
 ghost use Rattle.survey_link.specs.Link.{Rises};
+ghost use Rattle.past_session.specs.Run.{sink_bytes};
 ghost use Rattle.hips_place.specs.Place.{SomeRises, door_of};
 ghost use Rattle.shelf_io.specs.Opening.{OpenedSurvey};
 ghost use Rattle.survey_commands.specs.Serve.{IsServe, state_of, Serves, RunsServe, serve_status};
@@ -49,7 +50,7 @@ where
     requires asked { IsServe connections places }
     requires there { places ≤ length doors.old }
     ensures run { RunsServe (H.files shelf.old) connections (map (door_of D.Door) (take places doors.old)) (map (door_of D.Door) (take places doors.new)) result
-        (K.held sink.old) (K.held sink.new) (K.flushed sink.old) (K.flushed sink.new) }
+        (sink_bytes K.Sink sink.old) (sink_bytes K.Sink sink.new) }
     ensures beyond { drop places doors.new ≡ drop places doors.old }
     ensures closed { (result ≡ 2) ⊎ ((result ≡ 3) ⊎ (result ≡ 7)) → doors.new ≡ doors.old }
     ensures kept { H.files shelf.new ≡ H.files shelf.old }

@@ -1,6 +1,7 @@
 //! The command `verify`: the shelf is compared with the survey that it describes.
 ghost use Rattle.std.specs.Prelude.{◌≡◌, ◌≢◌, ◌≤◌, IsErrOf};
 ghost use Rattle.survey_link.specs.Link.{Rises};
+ghost use Rattle.past_session.specs.Run.{sink_bytes};
 ghost use Rattle.survey_commands.specs.Survey.{IsComparison, RunsVerify, verdict_status};
 
 use crate::output::say;
@@ -34,7 +35,7 @@ where
     H: Shelf,
     G: Gate + Sync,
     ensures run { RunsVerify (H.files shelf.old) result
-        (K.held sink.old) (K.held sink.new) (K.flushed sink.old) (K.flushed sink.new) }
+        (sink_bytes K.Sink sink.old) (sink_bytes K.Sink sink.new) }
     ensures kept { H.files shelf.new ≡ H.files shelf.old }
     ensures not_usage { result ≢ 1 }
     ensures not_door { result ≢ 8 }

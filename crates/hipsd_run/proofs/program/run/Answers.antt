@@ -1,113 +1,239 @@
-use Rattle.std.proofs.Common.{◌≡◌, ℕ, ◌≤◌, length, refl, ◌∙◌, subst}
+use Rattle.std.proofs.Common.{◌≡◌, length, map, take, drop, refl, ap, ◌∙◌}
 use Rattle.std.proofs.Math.Nat.{le_refl}
-use Rattle.hipsd_run.specs.Command.{texts, Asks, IsCommandFor, doors_of}
-use Rattle.hipsd_run.specs.declared.command.Command.{Command}
-use Rattle.hipsd_run.specs.declared.command.Command.TheVariants.{Probe as ProbeCommand, Session, Export, Verify, Make, Serve, Past, Catalog, Mirror}
-use Rattle.hipsd_run.proofs.RunsLemmas.{runs_asked, not_asked, not_blamed}
+use Rattle.hips_place.specs.Place.{SomeRises, door_of}
+use Rattle.survey_commands.specs.Serve.{RunsServe}
+use Rattle.hipsd_run.proofs.DoorsLemmas.{written_back, of_doors}
+use Rattle.hipsd_run.proofs.RunsLemmas.{runs_command, runs_none, not_blamed, never_opened, is_used, if_shown}
 use Rattle.hipsd_run.proofs.program.run.Goals as goal
 
--- the words ask for no command: what is said of one has nothing to be said of
+-- the words ask for no command
 pub returns-in-None : goal.returns-in-None
 returns-in-None g c =
     let said = c.usage.ensures in
-    let blames = not_blamed _ said.status in
+    let blames = not_blamed _ said.prints.ended in
     let len : c.len.result ≡ length c.args.doors.now.items = c.len.ensures ∙ c.args.doors.now.ok.0 in
-    let none = subst (λ (n : ℕ). ¬ IsCommandFor n (texts c.args.words.now)) len c.in-None.ensures.none in
     record {
-      usage_only = λ _. none;
-      usage = λ _. said.status;
-      usage_written = said.written;
-      usage_part = λ _. said.part;
-      usage_read = λ _. refl;
-      probe = λ asked input. not_asked _ _ (ProbeCommand asked) none refl;
-      probe_written = λ asked input. not_asked _ _ (ProbeCommand asked) none refl;
-      probe_part = λ asked input. not_asked _ _ (ProbeCommand asked) none refl;
-      probe_range = λ asked. not_asked _ _ (ProbeCommand asked) none refl;
-      probe_untouched = λ asked. not_asked _ _ (ProbeCommand asked) none refl;
-      probe_end = λ asked. not_asked _ _ (ProbeCommand asked) none refl;
-      probe_reads = λ asked. not_asked _ _ (ProbeCommand asked) none refl;
-      probe_flushed = λ asked. not_asked _ _ (ProbeCommand asked) none refl;
-      probe_kept = λ asked. not_asked _ _ (ProbeCommand asked) none refl;
-      usage_flushed = said.flushed;
-      probe_counted = λ asked input. not_asked _ _ (ProbeCommand asked) none refl;
-      export = not_asked _ _ Export none refl;
-      verify = not_asked _ _ Verify none refl;
-      session = λ input. not_asked _ _ Session none refl;
-      session_unread = not_asked _ _ Session none refl;
-      past = λ cache input. not_asked _ _ (Past cache) none refl;
-      past_over = λ cache. not_asked _ _ (Past cache) none refl;
-      past_flushed = λ cache. not_asked _ _ (Past cache) none refl;
-      past_unread = λ cache. not_asked _ _ (Past cache) none refl;
-      catalog = λ top per_tile. not_asked _ _ (Catalog top per_tile) none refl;
-      catalog_end = λ top per_tile. not_asked _ _ (Catalog top per_tile) none refl;
-      mirror = not_asked _ _ Mirror none refl;
-      make = λ number edits. not_asked _ _ (Make number edits) none refl;
-      serve = λ connections places asks there. absurd (none (Serve connections places, asks, there));
-      serve_beyond = λ connections places asks. refl;
-      serve_closed = λ _. refl;
-      source = λ other asks _. refl;
-      shelf = λ other asks _. refl;
-      files = λ other asks _. refl;
-      doors = λ other asks _. refl;
-      usage_doors = λ _. refl;
-      usage_shelf = λ _. refl;
-      read_fault = λ e. absurd (blames.0 e);
-      write_fault = said.fault;
-      shelf_fault = λ e. absurd (blames.1 e);
-      door_fault = λ e. absurd (blames.2 e);
-      steps_never_fall = le_refl c.args.steps.now;
+      runs = runs_none _ _ _ _ _ c.in-None.ensures.none len
+          (record { prints = said.prints; source = refl; shelf = refl; doors = refl })
+          (record {
+            read_fault = λ e. absurd (blames.0 e);
+            write_fault = said.fault;
+            shelf_fault = λ e. absurd (blames.1 e);
+            door_fault = λ e. absurd (blames.2 e);
+            unread = λ e. absurd (blames.3 e);
+            closed = λ _. refl;
+            steps_never_fall = le_refl c.args.steps.now;
+          });
     }
 
--- the words ask for the command that was run, and for no other
-pub returns-in-Some : goal.returns-in-Some
-returns-in-Some g c =
-    let ran = c.run_command.ensures in
-    let asks = c.in-Some.ensures.asked in
+pub returns-in-Probe : goal.returns-in-Probe
+returns-in-Probe g c =
+    let done = c.run_probe.ensures in
     let len : c.len.result ≡ length c.args.doors.now.items = c.len.ensures ∙ c.args.doors.now.ok.0 in
-    let fits = subst (λ (n : ℕ). doors_of c.in-Some.command ≤ n) len c.in-Some.ensures.fits in
-    let is_one : IsCommandFor (length c.args.doors.now.items) (texts c.args.words.now) = (c.in-Some.command, asks, fits) in
-    let run = λ (other : Command) (asked : Asks (texts c.args.words.now) other). runs_asked _ _ _ _ _ _ other asks ran asked in
     record {
-      usage_only = λ e. absurd (ran.faults.not_usage e);
-      usage = λ none. absurd (none is_one);
-      usage_written = λ e. absurd (ran.faults.not_usage e);
-      usage_part = λ none. absurd (none is_one);
-      usage_read = λ none. absurd (none is_one);
-      probe = λ asked input it. (run (ProbeCommand asked) it).does.ended input;
-      probe_written = λ asked input it. (run (ProbeCommand asked) it).does.written input;
-      probe_part = λ asked input it. (run (ProbeCommand asked) it).does.part input;
-      probe_range = λ asked it. (run (ProbeCommand asked) it).does.range;
-      probe_untouched = λ asked it. (run (ProbeCommand asked) it).does.untouched;
-      probe_end = λ asked it. (run (ProbeCommand asked) it).does.end;
-      probe_reads = λ asked it. (run (ProbeCommand asked) it).does.reads;
-      probe_flushed = λ asked it. (run (ProbeCommand asked) it).does.flushed;
-      probe_kept = λ asked it. (run (ProbeCommand asked) it).does.kept;
-      usage_flushed = λ e. absurd (ran.faults.not_usage e);
-      probe_counted = λ asked input it. (run (ProbeCommand asked) it).does.counted input;
-      export = λ it. (run Export it).does;
-      verify = λ it. (run Verify it).does;
-      session = λ input it. (run Session it).does.run input;
-      session_unread = λ it. (run Session it).does.unread;
-      past = λ cache input it. (run (Past cache) it).does.run input;
-      past_over = λ cache it. (run (Past cache) it).does.over;
-      past_flushed = λ cache it. (run (Past cache) it).does.flushed;
-      past_unread = λ cache it. (run (Past cache) it).does.unread;
-      catalog = λ top per_tile it. (run (Catalog top per_tile) it).does.run;
-      catalog_end = λ top per_tile it. (run (Catalog top per_tile) it).does.end;
-      mirror = λ it. (run Mirror it).does;
-      make = λ number edits it. (run (Make number edits) it).does;
-      serve = λ connections places it there. (run (Serve connections places) it).does.run;
-      serve_beyond = λ connections places it. (run (Serve connections places) it).does.beyond;
-      serve_closed = ran.faults.closed;
-      source = λ other it. (run other it).unused.source;
-      shelf = λ other it. (run other it).unused.shelf;
-      files = λ other it. (run other it).unused.files;
-      doors = λ other it. (run other it).unused.doors;
-      usage_doors = λ none. absurd (none is_one);
-      usage_shelf = λ none. absurd (none is_one);
-      read_fault = ran.faults.read_fault;
-      write_fault = ran.faults.write_fault;
-      shelf_fault = ran.faults.shelf_fault;
-      door_fault = ran.faults.door_fault;
-      steps_never_fall = ran.faults.steps_never_fall;
+      runs = runs_command _ _ _ _ _ _ _ c.in-Probe.is c.in-Some.ensures.asked c.in-Some.ensures.fits len
+          (record {
+            does = record { run = done.run; range = done.range; reads = done.reads };
+            unused = record { source = is_used; shelf = λ _. refl; files = λ _. refl; doors = λ _. refl; beyond = refl };
+            not_usage = done.not_usage;
+          })
+          (record {
+            read_fault = done.read_fault;
+            write_fault = done.write_fault;
+            shelf_fault = λ e. absurd (done.not_shelf e);
+            door_fault = λ e. absurd (done.not_door e);
+            unread = never_opened done.not_opened;
+            closed = λ _. refl;
+            steps_never_fall = done.steps_never_fall;
+          });
+    }
+
+pub returns-in-Session : goal.returns-in-Session
+returns-in-Session g c =
+    let done = c.run_session.ensures in
+    let len : c.len.result ≡ length c.args.doors.now.items = c.len.ensures ∙ c.args.doors.now.ok.0 in
+    record {
+      runs = runs_command _ _ _ _ _ _ _ c.in-Session.is c.in-Some.ensures.asked c.in-Some.ensures.fits len
+          (record {
+            does = if_shown _ _ done.run;
+            unused = record { source = is_used; shelf = is_used; files = λ _. done.kept; doors = λ _. refl; beyond = refl };
+            not_usage = done.not_usage;
+          })
+          (record {
+            read_fault = done.read_fault;
+            write_fault = done.write_fault;
+            shelf_fault = done.shelf_fault;
+            door_fault = λ e. absurd (done.not_door e);
+            unread = done.unread;
+            closed = λ _. refl;
+            steps_never_fall = done.steps_never_fall;
+          });
+    }
+
+pub returns-in-Export : goal.returns-in-Export
+returns-in-Export g c =
+    let done = c.run_export.ensures in
+    let len : c.len.result ≡ length c.args.doors.now.items = c.len.ensures ∙ c.args.doors.now.ok.0 in
+    record {
+      runs = runs_command _ _ _ _ _ _ _ c.in-Export.is c.in-Some.ensures.asked c.in-Some.ensures.fits len
+          (record {
+            does = done.run;
+            unused = record { source = λ _. refl; shelf = is_used; files = is_used; doors = λ _. refl; beyond = refl };
+            not_usage = done.not_usage;
+          })
+          (record {
+            read_fault = λ e. absurd (done.not_read e);
+            write_fault = done.write_fault;
+            shelf_fault = done.shelf_fault;
+            door_fault = λ e. absurd (done.not_door e);
+            unread = λ _. refl;
+            closed = λ _. refl;
+            steps_never_fall = done.steps_never_fall;
+          });
+    }
+
+pub returns-in-Verify : goal.returns-in-Verify
+returns-in-Verify g c =
+    let done = c.run_verify.ensures in
+    let len : c.len.result ≡ length c.args.doors.now.items = c.len.ensures ∙ c.args.doors.now.ok.0 in
+    record {
+      runs = runs_command _ _ _ _ _ _ _ c.in-Verify.is c.in-Some.ensures.asked c.in-Some.ensures.fits len
+          (record {
+            does = done.run;
+            unused = record { source = λ _. refl; shelf = is_used; files = λ _. done.kept; doors = λ _. refl; beyond = refl };
+            not_usage = done.not_usage;
+          })
+          (record {
+            read_fault = λ e. absurd (done.not_read e);
+            write_fault = done.write_fault;
+            shelf_fault = done.shelf_fault;
+            door_fault = λ e. absurd (done.not_door e);
+            unread = λ _. refl;
+            closed = λ _. refl;
+            steps_never_fall = done.steps_never_fall;
+          });
+    }
+
+pub returns-in-Make : goal.returns-in-Make
+returns-in-Make g c =
+    let done = c.run_make.ensures in
+    let len : c.len.result ≡ length c.args.doors.now.items = c.len.ensures ∙ c.args.doors.now.ok.0 in
+    record {
+      runs = runs_command _ _ _ _ _ _ _ c.in-Make.is c.in-Some.ensures.asked c.in-Some.ensures.fits len
+          (record {
+            does = done.run;
+            unused = record { source = λ _. refl; shelf = λ _. refl; files = λ _. refl; doors = λ _. refl; beyond = refl };
+            not_usage = done.not_usage;
+          })
+          (record {
+            read_fault = λ e. absurd (done.not_read e);
+            write_fault = done.write_fault;
+            shelf_fault = λ e. absurd (done.not_shelf e);
+            door_fault = λ e. absurd (done.not_door e);
+            unread = λ _. refl;
+            closed = λ _. refl;
+            steps_never_fall = done.steps_never_fall;
+          });
+    }
+
+-- the doors are handed on as a slice, and what becomes of it is written back
+pub returns-in-Serve : goal.returns-in-Serve
+returns-in-Serve g c =
+    let done = c.run_serve.ensures in
+    let old = c.deref_mut.ensures.value in
+    let new = written_back c.args.doors.now.len c.run_serve.new.doors c.args.doors.now.items (c.run_serve.auto.doors ∙ c.deref_mut.ensures.len) in
+    let len : c.len.result ≡ length c.args.doors.now.items = c.len.ensures ∙ c.args.doors.now.ok.0 in
+    record {
+      runs = runs_command _ _ _ _ _ _ _ c.in-Serve.is c.in-Some.ensures.asked c.in-Some.ensures.fits len
+          (record {
+            does = of_doors
+                (λ olds news. RunsServe (g.H.Shelf.files c.args.shelf.now) c.in-Serve.connections (map (door_of g.D.Door) (take c.in-Serve.places olds))
+                (map (door_of g.D.Door) (take c.in-Serve.places news)) c.run_serve.result
+                (record { held = g.K.Sink.held c.args.sink.now; flushed = g.K.Sink.flushed c.args.sink.now })
+                (record { held = g.K.Sink.held c.run_serve.new.sink; flushed = g.K.Sink.flushed c.run_serve.new.sink }))
+                _ _ _ _ old new done.run;
+            unused = record {
+              source = λ _. refl;
+              shelf = is_used;
+              files = λ _. done.kept;
+              doors = is_used;
+              beyond = ap (drop c.in-Serve.places) new ∙ done.beyond ∙ ap (drop c.in-Serve.places) old;
+            };
+            not_usage = done.not_usage;
+          })
+          (record {
+            read_fault = λ e. absurd (done.not_read e);
+            write_fault = done.write_fault;
+            shelf_fault = done.shelf_fault;
+            door_fault = λ e. of_doors (λ olds news. SomeRises (map g.D.Door.faults olds) (map g.D.Door.faults news)) _ _ _ _ old new (done.door_fault e);
+            unread = λ _. refl;
+            closed = λ stopped. new ∙ done.closed stopped ∙ old;
+            steps_never_fall = done.steps_never_fall;
+          });
+    }
+
+pub returns-in-Past : goal.returns-in-Past
+returns-in-Past g c =
+    let done = c.run_past.ensures in
+    let len : c.len.result ≡ length c.args.doors.now.items = c.len.ensures ∙ c.args.doors.now.ok.0 in
+    record {
+      runs = runs_command _ _ _ _ _ _ _ c.in-Past.is c.in-Some.ensures.asked c.in-Some.ensures.fits len
+          (record {
+            does = record { run = if_shown _ _ done.run; over = done.over; flushed = done.flushed };
+            unused = record { source = is_used; shelf = is_used; files = λ _. done.kept; doors = λ _. refl; beyond = refl };
+            not_usage = done.not_usage;
+          })
+          (record {
+            read_fault = done.read_fault;
+            write_fault = done.write_fault;
+            shelf_fault = done.shelf_fault;
+            door_fault = λ e. absurd (done.not_door e);
+            unread = done.unread;
+            closed = λ _. refl;
+            steps_never_fall = done.steps_never_fall;
+          });
+    }
+
+pub returns-in-Catalog : goal.returns-in-Catalog
+returns-in-Catalog g c =
+    let done = c.run_catalog.ensures in
+    let len : c.len.result ≡ length c.args.doors.now.items = c.len.ensures ∙ c.args.doors.now.ok.0 in
+    record {
+      runs = runs_command _ _ _ _ _ _ _ c.in-Catalog.is c.in-Some.ensures.asked c.in-Some.ensures.fits len
+          (record {
+            does = record { run = done.run; end = done.end };
+            unused = record { source = is_used; shelf = is_used; files = is_used; doors = λ _. refl; beyond = refl };
+            not_usage = done.not_usage;
+          })
+          (record {
+            read_fault = done.read_fault;
+            write_fault = done.write_fault;
+            shelf_fault = done.shelf_fault;
+            door_fault = λ e. absurd (done.not_door e);
+            unread = never_opened done.not_opened;
+            closed = λ _. refl;
+            steps_never_fall = le_refl c.args.steps.now;
+          });
+    }
+
+pub returns-in-Mirror : goal.returns-in-Mirror
+returns-in-Mirror g c =
+    let done = c.run_mirror.ensures in
+    let len : c.len.result ≡ length c.args.doors.now.items = c.len.ensures ∙ c.args.doors.now.ok.0 in
+    record {
+      runs = runs_command _ _ _ _ _ _ _ c.in-Mirror.is c.in-Some.ensures.asked c.in-Some.ensures.fits len
+          (record {
+            does = done.run;
+            unused = record { source = is_used; shelf = is_used; files = is_used; doors = λ _. refl; beyond = refl };
+            not_usage = done.not_usage;
+          })
+          (record {
+            read_fault = done.read_fault;
+            write_fault = done.write_fault;
+            shelf_fault = done.shelf_fault;
+            door_fault = λ e. absurd (done.not_door e);
+            unread = never_opened done.not_opened;
+            closed = λ _. refl;
+            steps_never_fall = done.steps_never_fall;
+          });
     }

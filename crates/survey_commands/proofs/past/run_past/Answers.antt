@@ -1,6 +1,6 @@
 use Rattle.std.proofs.Common.{refl, [], Ok, Err}
 use Rattle.std.specs.Arc.{arc_value}
-use Rattle.survey_commands.proofs.PastLemmas.{consumes_none, says_hands}
+use Rattle.survey_commands.proofs.PastLemmas.{consumes_none, says_flushed}
 use Rattle.survey_commands.proofs.past.run_past.Goals as goal
 
 pub returns-in-Ok-clause-run : goal.returns-in-Ok-clause-run
@@ -60,4 +60,4 @@ returns-in-Err-clause-over g c = record {
 }
 
 pub returns-in-Err-clause-flushed : goal.returns-in-Err-clause-flushed
-returns-in-Err-clause-flushed g c = λ other. says_hands c.say_why.result _ _ _ _ other c.in-Err.refusal c.say_why.ensures.said
+returns-in-Err-clause-flushed g c = λ other. says_flushed c.say_why.result _ _ other c.in-Err.refusal c.say_why.ensures.said

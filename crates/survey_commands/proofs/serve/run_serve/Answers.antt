@@ -21,7 +21,7 @@ returns-in-Ok-clause-run g c =
         subst (λ xs. Serves opened.0 c.args.connections (map (door_of g.D.Door) xs) (map (door_of g.D.Door) (take c.args.places (c.serve_state.new.doors ++ split.result.1.now))) c.serve_state.result)
             split.ensures.front
             (subst (λ xs. Serves opened.0 c.args.connections (map (door_of g.D.Door) split.result.0.now) (map (door_of g.D.Door) xs) c.serve_state.result) (sym new) served),
-        record { kept = refl; flushed = refl },
+        refl,
       ),
     )
 
