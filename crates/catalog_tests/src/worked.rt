@@ -94,7 +94,9 @@ fn refused_lines_change_nothing(rt: HostRuntime) -> Result<(), Fail> {
     let answers = use_lines(alloc, &mut catalog, 1, &lines_of(alloc, text)?)?;
     assert!(&rt; answers.iter().map(kind).eq([0, 1, 7, 9, 0, 0, 0]));
     assert!(&rt; has_text(&catalog, 0, 0, b"rank\tnpix\tid\trest\n7\t1\tb\t\n")?);
-    assert!(&rt; has_text(&catalog, 1, 0, b"rank\tnpix\tid\trest\n8\t0\tc\t\n")? && catalog.len() == 2);
+    assert!(&rt;
+        has_text(&catalog, 1, 0, b"rank\tnpix\tid\trest\n8\t0\tc\t\n")? && catalog.len() == 2
+    );
     Ok(())
 }
 
