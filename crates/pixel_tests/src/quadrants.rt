@@ -5,6 +5,7 @@ ghost use Rattle.tile_pixels.specs.Tile.{HasShape};
 ghost use Rattle.tile_pixels.specs.Quadrants.{Fits};
 
 use crate::merges::{at, merged};
+use crate::squares::of_bytes;
 use parent_rule::{Combine, Depth, Permit, Steps};
 use std::alloc::{AllocError, Global};
 use std::process::Abort;
@@ -43,10 +44,7 @@ fn tile_of(alloc: Global, depth: Depth, n: u8, seed: u32) -> Result<Option<Tile>
         return Ok(None);
     }
     let bytes = bytes_of(alloc, depth, n, seed)?;
-    if bytes.len() != 4usize.pow(u32::from(n)) * depth.bytes() {
-        return Err(Fail::from("not the bytes of a tile"));
-    }
-    let tile = Tile::from_bytes(alloc, &bytes, depth, n, &mut Steps::new())?;
+    let tile = of_bytes(alloc, depth, n, &bytes)?;
     Ok(Some(tile))
 }
 

@@ -1,7 +1,7 @@
 use Rattle.std.proofs.Common.{◌≡◌, ◌*◌, ◌^◌, ◌≤◌, ◌∙◌, ap, arith}
 use Rattle.std.proofs.lemmas.Nat.{mul-le}
 use Rattle.healpix_nested.specs.CellLaws.{four_pow_mono}
-use Rattle.pixel_tests.proofs.squares.tile.Goals as goal
+use Rattle.pixel_tests.proofs.squares.of_bytes.Goals as goal
 
 pub pow-requires : goal.pow-requires
 pow-requires c =
