@@ -615,7 +615,7 @@ def read_until(process, text):
 RESETS = struct.pack("ii", 1, 0)
 ROOM = "room: {} of 536870912 bytes of tiles ({} percent) and 0 of 65536 edits (0 percent) are used; {} more tiles of 1024 bytes fit"
 LOADED = info("survey_commands::serve", "loaded 0 leaves in # ms: 2 files are served") + info("hips_http::room", ROOM.format(0, 0, 524_288))
-GONE = "Edits since the last copy are lost"
+GONE = "The edits since the start are lost unless a journal or a copy has them"
 LIMIT = "that is its limit, or none is left"
 FEW_LEFT = (
     "place 1 has taken 6 of 7 connections: after 1 more it ends. "

@@ -808,7 +808,7 @@ addresses() {
     wait "$ending"
     got=$?
     [ "$got" = 0 ] || blame "serve localhost:$named: status $got: $(cat "$folder/said")"
-    grep -qF "Edits since the last copy are lost" "$folder/said" || blame "the end doesn't say what is gone: $(cat "$folder/said")"
+    grep -qF "The edits since the start are lost unless a journal or a copy has them" "$folder/said" || blame "the end doesn't say what is gone: $(cat "$folder/said")"
 }
 
 # name_of_two: a name with two addresses, where this may give one. `mirror` and `serve` take the one that they can have.

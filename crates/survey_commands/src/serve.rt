@@ -102,7 +102,7 @@ where
     let served = serve_doors(rt, rt.alloc(), state, connections, gate, doors);
     match &served {
         Ok(end) => {
-            info!(rt; "all places have ended: {end:?}. Edits since the last copy are lost");
+            info!(rt; "all places have ended: {end:?}. The edits since the start are lost unless a journal or a copy has them");
         }
         Err(refusal) => error!(rt; "out of memory: {refusal}"),
     }
