@@ -16,9 +16,10 @@
 # socket, HIPSD_SOCKET is its path, and HIPSD isn't needed.
 # With a folder in HIPSD_JOURNAL each edit, batch and publication is written there and is on the disk before it is sent, and is marked
 # once it is answered. So a server that ended can have its edits again, by `replay`, over the folder that it was started with. If the
-# server has started again since the journal's last edit, its number of edits shows it: then nothing is sent.
+# server has fewer edits than after the journal's last one, it has started again: then nothing is sent. Once others have sent as many,
+# that can't be told: so after each restart replay first.
 # If nobody listens, or the reply is 429 or 503, nothing was changed: the edit is sent again after 1, 2, 4, 8 and 16 seconds, six times in
-# all, or HIPSD_TRIES times. An edit that may have been accepted is never sent again.
+# all, or HIPSD_TRIES times. An edit that may have been accepted is sent again by `replay` only.
 # The status is 0 where the server did what was asked, and its reply is written as it came; 1 where not; 2 where the words are wrong,
 # and then nothing was sent.
 set -eu
