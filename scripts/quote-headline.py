@@ -1,12 +1,13 @@
 #!/usr/bin/env python3
-"""Fills docs/HEADLINE.md with the definitions and clauses that it names, word for word from their files.
+"""Fills docs/HEADLINE.md with the definitions and clauses that it names, word for word from their files, and docs/PROVED.md and
+README.md with how many lines are to be read (in README.md rounded to a hundred).
 
 Before each block of code stands a line with its file in code, a colon and the names, with commas between them. Of a definition by
 cases `NAME (CASE; CASE)` quotes these alone. The page ends with a table of the definitions of this repository that a quoted one uses
 and that aren't quoted: a file in bold, then a row `- NAME: SENTENCE` for each of its names.
 
 With --check nothing is written, and these are faults: a block that differs from its file or names none, a definition that is used
-and neither quoted nor in the table, a row of the table that nothing uses, and a count in docs/PROVED.md that is a tenth or more off.
+and neither quoted nor in the table, a row of the table that nothing uses, and a count that isn't the present one.
 
 With --count it prints how many lines a reader has to read who follows the definitions to their ends, and in which files; and how
 many lines the real ends have, of whose bytes no clause speaks. Comments and empty lines don't count.
@@ -19,6 +20,7 @@ from pathlib import Path
 ROOT = Path(__file__).resolve().parent.parent
 HEADLINE = ROOT / "docs" / "HEADLINE.md"
 PROVED = ROOT / "docs" / "PROVED.md"
+README = ROOT / "README.md"
 QUOTE = re.compile(r"^(`(\S+)`: (.+)\n)```\n(?:.*\n)*?```\n", re.M)
 TABLE = "\n## What they use\n"
 ROW = re.compile(r"^- `([^`]+)`: .+$|^\*\*`([^`]+)`\*\*$", re.M)
@@ -29,8 +31,9 @@ TRAITS = [(f"crates/{file}.rt", name) for file, name in [
 ]]
 # The real ends: main, sockets, streams and folders.
 ENDS = ["hipsd/src/*.rt", "tcp_link/src/*.rt", "survey_link/src/stream.rt", "survey_link/src/here.rt", "survey_link/src/folder_shelf.rt"]
-# What docs/PROVED.md says of the counts.
-COUNT = re.compile(r"([\d,]+) lines in ([\d,]+) definitions.*?([\d,]+) lines of code.*?([\d,]+) lines of this", re.S)
+# What these pages say of the counts.
+COUNTS = re.compile(r"([\d,]+) lines in ([\d,]+) definitions.*?([\d,]+) lines of code.*?([\d,]+) lines of this", re.S)
+ROUNDED = re.compile(r"real ends \(([\d,]+) lines\)")
 COUNTED = "{:,} lines in {:,} definitions and clauses; {:,} lines of code of the real ends; {:,} lines of this repository in all"
 DEFINED = re.compile(r"^ *(?:(?:abbrev|unfoldable) (?:pub )?|pub record |pub data )(\S+)", re.M)
 CONSTRUCTOR = re.compile(r"^  +(\w+) :", re.M)
@@ -192,11 +195,15 @@ def counts(parts):
     return lines, len(parts), code, lines + code
 
 
-def count_faults(parts):
-    found = COUNT.search(PROVED.read_text())
-    said = [int(number.replace(",", "")) for number in found.groups()] if found else [0, 0, 0, 0]
-    if any(abs(there - here) * 10 > here for there, here in zip(said, counts(parts))):
-        yield f"docs/PROVED.md: its counts are a tenth or more off: it is {COUNTED.format(*counts(parts))}"
+def with_numbers(page, pattern, *numbers):
+    """Returns the text of a page with these numbers in the groups of the pattern."""
+    text = page.read_text()
+    found = pattern.search(text)
+    if not found:
+        raise SystemExit(f"{page.relative_to(ROOT)} doesn't say how many lines are to be read")
+    for group in range(len(numbers), 0, -1):
+        text = f"{text[:found.start(group)]}{numbers[group - 1]:,}{text[found.end(group):]}"
+    return text
 
 
 def print_count(parts):
@@ -206,17 +213,19 @@ def print_count(parts):
 
 
 def main():
-    before = HEADLINE.read_text()
-    after = QUOTE.sub(filled, before)
+    headline = QUOTE.sub(filled, HEADLINE.read_text())
+    parts = all_parts(headline)
     if sys.argv[1:] == ["--count"]:
-        print_count(all_parts(after))
+        print_count(parts)
         return 0
-    faults = [f"docs/HEADLINE.md: {fault}" for fault in faults_of(after)]
-    faults.extend(count_faults(all_parts(after)))
-    if sys.argv[1:] != ["--check"]:
-        HEADLINE.write_text(after)
-    elif before != after:
-        faults.append("docs/HEADLINE.md: a quotation differs from its file: run scripts/quote-headline.py")
+    faults = [f"docs/HEADLINE.md: {fault}" for fault in faults_of(headline)]
+    numbers = counts(parts)
+    pages = {HEADLINE: headline, PROVED: with_numbers(PROVED, COUNTS, *numbers), README: with_numbers(README, ROUNDED, round(numbers[-1], -2))}
+    for page, text in pages.items():
+        if sys.argv[1:] != ["--check"]:
+            page.write_text(text)
+        elif page.read_text() != text:
+            faults.append(f"{page.relative_to(ROOT)}: a quotation or a count differs from the files: run scripts/quote-headline.py")
     print("\n".join(faults), end="\n" if faults else "")
     return 1 if faults else 0
 
