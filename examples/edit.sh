@@ -427,7 +427,7 @@ group() {
 }
 
 # read_files PATH ..: a pin holds one generation for one connection, which curl keeps over all its addresses. So these files fit
-# together, whatever is published meanwhile. All are there in the end, or none is changed.
+# together, whatever is published meanwhile. None is changed unless all came.
 read_files() {
     for path; do path "$path"; done
     {

@@ -130,7 +130,8 @@ full() {
     say "$old has taken $count edits since its start, of $room that it can take beside the $leaves leaves it had then"
     busiest=$(busiest)
     [ "$busiest" = 0 ] || say "a place of $old has taken $busiest percent of its connections since then"
-    [ $((count * 100)) -ge $((room * when)) ] || [ "$busiest" -ge "$when" ]
+    # Where the leaves alone fill the room a renewal makes none.
+    { [ "$room" -gt 0 ] && [ $((count * 100)) -ge $((room * when)) ]; } || [ "$busiest" -ge "$when" ]
 }
 # shellcheck disable=SC2317 # it is called by the trap
 undo() {
