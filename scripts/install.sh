@@ -92,12 +92,13 @@ install_all() {
         return
     fi
     case $prefix in
-        /usr | /usr/local) echo "next, as root: systemd-sysusers && systemctl daemon-reload && systemctl enable --now hipsd@survey0" ;;
+        /usr | /usr/local) ;;
         *)
-            echo "next, as root, since systemd doesn't look below $prefix: systemd-sysusers $prefix/lib/sysusers.d/hipsd.conf &&" \
-                "systemctl link $prefix/lib/systemd/system/hipsd* && systemctl enable --now hipsd@survey0"
+            echo "first, as root, since systemd doesn't look below $prefix: systemd-sysusers $prefix/lib/sysusers.d/hipsd.conf &&" \
+                "systemctl link $prefix/lib/systemd/system/hipsd*"
             ;;
     esac
+    echo "next: the steps in $doc/docs/OPERATING.md. The service doesn't start before its survey is in place"
 }
 
 # running: the processes that were started with the program that stood at $prefix/bin/hipsd.
