@@ -132,8 +132,8 @@ answer() {
         END { print code " " number text }'
 }
 
-# sends EDIT PATH BODY ADDRESS: the same, and again while nothing was changed. $reply is the answer, `unsent` if nobody listens, and empty
-# if none came.
+# sends EDIT PATH BODY ADDRESS: the same, and again while nothing was changed. $reply is the answer, `unsent` if nobody listens or curl
+# doesn't trust the server's certificate, and empty if none came.
 sends() {
     try=1 pause=1
     while :; do
@@ -142,6 +142,7 @@ sends() {
         case $ended in
             0) reply=$(answer) ;;
             6 | 7) reply=unsent ;;
+            60 | 77) reply=unsent && return ;;
             *) reply= ;;
         esac
         case $reply in unsent | '429 '* | '503 '*) ;; *) return 0 ;; esac
@@ -349,7 +350,10 @@ edit() {
     sends "$@" "$base"
     known "$reply" || fail "not answered, so it isn't known whether it was accepted${entry:+; it stands in $entry.edit}"
     [ -z "$entry" ] || mark "$entry.answer" "$reply"
-    [ "$reply" != unsent ] || fail "not sent, since nothing listens at $base"
+    case $reply$ended in
+        unsent60 | unsent77) fail "not sent, since curl doesn't trust the certificate of $base; CURL_CA_BUNDLE names a file of those to trust" ;;
+        unsent*) fail "not sent, since nothing listens at $base" ;;
+    esac
     cat "$work/reply"
     accepted "$reply" && return
     explain "$1" "$3" "$reply"

@@ -106,6 +106,12 @@ edits_by_tls() {
         blame "edit.sh through the proxy: $(cat "$folder/body")"
     grep -qx '201 [1-9][0-9]*' "$folder/far/00000001.answer" || blame "the journal through the proxy: $(cat "$folder/far/00000001.answer")"
     asks 204 -u editor:secret -X DELETE "$proxy/edit/$leaf"
+    # A certificate that isn't trusted: nothing is sent, and a replay won't send it.
+    sed -i /cacert/d "$folder/.curlrc"
+    CURL_HOME=$folder HOME=$folder HIPSD=https://hips.example.org:$secure/edit HIPSD_JOURNAL=$folder/distrusted "$examples/edit.sh" publish >"$folder/body" 2>&1 &&
+        blame "edit.sh sends to a server whose certificate isn't trusted"
+    grep -q "not sent, since curl doesn't trust" "$folder/body" || blame "edit.sh, with a certificate that isn't trusted: $(cat "$folder/body")"
+    grep -qx unsent "$folder/distrusted/00000001.answer" || blame "the journal doesn't say that an edit with a certificate that isn't trusted wasn't sent"
 }
 
 # across_origins: pages of other origins read, and don't change anything.
@@ -906,6 +912,8 @@ installs() {
         leaves_out mandoc
     fi
     if command -v systemd-analyze >/dev/null 2>&1; then
+        cp "$root/usr/lib/systemd/system/hipsd-tunnel@.service" "$folder/hipsd-tunnel@copy.service"
+        systemd-analyze verify --man=no "$folder/hipsd-tunnel@copy.service" >"$folder/body" 2>&1 || blame "the tunnel's unit: $(cat "$folder/body")"
         # It looks for the program where the service says.
         sed "s#=\(+*\)/usr/#=\1$root/usr/#" "$root/usr/lib/systemd/system/hipsd@.service" >"$folder/hipsd@survey1.service"
         service "$folder/hipsd@survey1.service"

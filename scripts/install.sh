@@ -7,6 +7,7 @@
 # lib/sysusers.d/hipsd.conf and share/doc/hipsd with the examples and the documents, which stand there as they do here; systemd finds
 # those of /usr/local and /usr. The program is crates/hipsd/out/hipsd, or the one in the environment variable PROGRAM. With DESTDIR all
 # goes below that folder, as a package wants it. Nothing is started, no user is made, and /etc and the survey's folder stay as they are.
+# With --remove nothing is removed while a unit of hipsd runs or starts with the machine.
 set -eu
 cd "$(dirname "$0")/.."
 program=${PROGRAM:-crates/hipsd/out/hipsd}
@@ -92,12 +93,13 @@ install_all() {
         return
     fi
     case $prefix in
-        /usr | /usr/local) echo "next, as root: systemd-sysusers && systemctl daemon-reload && systemctl enable --now hipsd@survey0" ;;
+        /usr | /usr/local) ;;
         *)
-            echo "next, as root, since systemd doesn't look below $prefix: systemd-sysusers $prefix/lib/sysusers.d/hipsd.conf &&" \
-                "systemctl link $prefix/lib/systemd/system/hipsd* && systemctl enable --now hipsd@survey0"
+            echo "first, as root, since systemd doesn't look below $prefix: systemd-sysusers $prefix/lib/sysusers.d/hipsd.conf &&" \
+                "systemctl link $prefix/lib/systemd/system/hipsd*"
             ;;
     esac
+    echo "next: the steps in $doc/docs/OPERATING.md. The service doesn't start before its survey is in place"
 }
 
 # running: the processes that were started with the program that stood at $prefix/bin/hipsd.
@@ -115,20 +117,35 @@ take_away() {
     [ ! -d "$doc" ] || echo "install: $doc stays, since something else is in it" >&2
 }
 
+# at_work: hipsd's units that run, or start with the machine.
+at_work() {
+    for link in /etc/systemd/system/*.wants/hipsd*; do [ ! -L "$link" ] || basename "$link"; done
+    systemctl list-units --plain --no-legend 'hipsd*' 2>/dev/null | cut -d ' ' -f 1
+}
+
 remove_all() {
     if [ ! -e "$list" ]; then
         echo "install: nothing is installed below $into: there is no $list" >&2
         exit 1
     fi
+    # A unit whose scripts are gone can't end its server in order, and a timer would fail from now on.
+    at_work=
+    [ -n "${DESTDIR:-}" ] || at_work=$(at_work | sort -u | paste -s -d ' ')
+    if [ -n "$at_work" ]; then
+        echo "install: nothing is removed yet. First, as root (edits that no copy has are lost): systemctl disable --now $at_work" >&2
+        exit 1
+    fi
     take_away
-    echo "hipsd is no more below $into. A server that runs goes on until: systemctl disable --now hipsd@survey0 hipsd@survey1"
-    echo "What was not installed from here stays:"
+    echo "hipsd is no more below $into. What was not installed from here stays:"
     root=${DESTDIR:-}
-    for path in "$root"/etc/nginx/conf.d/hipsd.conf "$root"/etc/nginx/hipsd.* "$root"/etc/nftables-hipsd* "$root"/etc/ssl/private/hipsd.key "$root"/etc/ssl/certs/hipsd.pem \
-        "$root"/etc/systemd/system/hipsd* "$root"/etc/systemd/system/*.wants/hipsd* "$root"/var/cache/nginx-hipsd "$root"/var/lib/hipsd \
-        "$root"/var/lib/hipsd-backup "$root"/srv/survey; do
+    for path in "$root"/etc/nginx/conf.d/hipsd.conf "$root"/etc/nginx/conf.d/nginx-copy.conf "$root"/etc/nginx/hipsd.* "$root"/etc/nftables-hipsd* \
+        "$root"/etc/hipsd "$root"/etc/ssl/private/hipsd.key "$root"/etc/ssl/certs/hipsd.pem "$root"/etc/systemd/system/hipsd* \
+        "$root"/etc/systemd/system/*.wants/hipsd* "$root"/var/cache/nginx-hipsd "$root"/var/lib/hipsd "$root"/var/lib/hipsd-backup \
+        "$root"/srv/survey "$root"/srv/catalogue; do
         { [ ! -e "$path" ] && [ ! -L "$path" ]; } || echo "    $path"
     done
+    ! grep -qs nftables-hipsd "$root/etc/nftables.conf" ||
+        echo "    lines of $root/etc/nftables.conf that include nftables-hipsd*: remove them before these files, else it loads no rule at all"
     [ -n "$root" ] || ! getent passwd hipsd >/dev/null || echo "    the user hipsd"
 }
 
