@@ -90,6 +90,8 @@ install_all() {
     if [ -n "$running" ]; then
         echo "process $running goes on with the program that it was started with. To renew it without an outage, as root:" \
             "systemctl daemon-reload && $prefix/share/doc/hipsd/examples/rollover.sh"
+        [ ! -e /etc/nginx/hipsd.port.conf ] || echo "That is a server at a port, as older releases had it. First make hipsd.server.conf of" \
+            "/etc/nginx/hipsd.port.conf, also where conf.d/hipsd.conf names it; then: rollover.sh 127.0.0.1:8080 unix:/run/hipsd/survey0"
         return
     fi
     case $prefix in
