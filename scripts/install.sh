@@ -122,7 +122,7 @@ take_away() {
 # at_work: hipsd's units that run, or start with the machine.
 at_work() {
     for link in /etc/systemd/system/*.wants/hipsd*; do [ ! -L "$link" ] || basename "$link"; done
-    systemctl list-units --plain --no-legend 'hipsd*' 2>/dev/null | cut -d ' ' -f 1
+    systemctl list-units --plain --no-legend --state=active,activating,reloading,deactivating 'hipsd*' 2>/dev/null | cut -d ' ' -f 1
 }
 
 remove_all() {
