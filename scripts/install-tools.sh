@@ -1,6 +1,6 @@
 #!/bin/sh
 # Installs the tools of others that the checks of this repository call (Debian's fitsverify, python3-astropy,
-# python3-healpy, stilts, curl, nginx-light, openssl, mandoc, systemd, nftables, iproute2, shellcheck, slowhttptest, gcc,
+# python3-healpy, stilts, curl, nginx-light, openssl, mandoc, systemd, nftables, iproute2, openssh-client, shellcheck, slowhttptest, gcc,
 # chromium with chromium-driver, python3-selenium and python3-pil), where they are missing and this runs as root.
 # Elsewhere it says what is missing; the checks decide what follows from that.
 [ $# = 0 ] || { sed -n '2,/^[^#]/s/^# \{0,1\}//p' "$0" >&2; exit 2; }
@@ -13,6 +13,7 @@ command -v openssl >/dev/null 2>&1 || missing="$missing openssl"
 command -v mandoc >/dev/null 2>&1 || missing="$missing mandoc"
 command -v systemd-analyze >/dev/null 2>&1 || missing="$missing systemd"
 command -v nft >/dev/null 2>&1 || [ -x /usr/sbin/nft ] || missing="$missing nftables iproute2"
+command -v ssh >/dev/null 2>&1 || missing="$missing openssh-client"
 command -v shellcheck >/dev/null 2>&1 || missing="$missing shellcheck"
 command -v slowhttptest >/dev/null 2>&1 || missing="$missing slowhttptest"
 command -v stilts >/dev/null 2>&1 || missing="$missing stilts"
