@@ -1,5 +1,5 @@
 -- What calls do to the counts of faults and of readings, and to the bytes that a sink holds.
-use Rattle.std.specs.Prelude.{◌≡◌, ℕ, ◌+◌, ◌-◌, ◌^◌, ◌≤◌, min, List, ◌++◌, take, length, flat_map, Option, Some, None, ⊤, if◌then◌else◌, nat_lt}
+use Rattle.std.specs.Prelude.{◌≡◌, ℕ, ◌+◌, ◌-◌, ◌^◌, ◌≤◌, min, List, ◌++◌, take, length, flat_map, Option, Some, None, Bool, true, false, ⊤, if◌then◌else◌, nat_lt}
 use Rattle.std.specs.Borrow.{Bor}
 
 -- a count after one more: it stays at a u64's maximum
@@ -9,6 +9,11 @@ next_count n = min (n + 1) (2 ^ 64 - 1)
 -- the count of faults rose: by one or more, or to its type's maximum, where it stays
 abbrev pub Rises : ℕ → ℕ → Type 0
 Rises old new = next_count old ≤ new
+
+-- what a call does to a count of faults: it rises where the call failed, and else it stays
+abbrev pub CountsFault : Bool → ℕ → ℕ → Type 0
+CountsFault true old new = Rises old new
+CountsFault false old new = new ≡ old
 
 -- what a count that stays at a u64's maximum shows: the number, and nothing at the maximum
 abbrev pub visible_count : ℕ → Option ℕ

@@ -1,8 +1,10 @@
 -- The files of a shelf.
-use Rattle.std.specs.Prelude.{◌≡◌, ◌≢◌, ℕ, List, Option, Some, None, ⊤, map, String, string_bytes, option_map, IsPermutation, Vec}
+use Rattle.std.specs.Prelude.{◌≡◌, ◌≢◌, ℕ, List, Option, Some, None, Result, Err, Bool, true, false, ⊤, map, String, string_bytes, option_map, IsPermutation, Vec}
 use Rattle.std.specs.declared.alloc.Global.{Global}
 use Rattle.std.specs.Ordering.{nat_cmp}
 use Rattle.std.specs.Cmp.Lexicographic.{slice_cmp}
+use Rattle.survey_link.specs.declared.faults.LinkFault.{LinkFault}
+use Rattle.survey_link.specs.declared.faults.LinkFault.TheVariants.{Failed}
 use Rattle.std.specs.FinMap.{FinMap, keys, get, insert, remove}
 
 -- the bytes of each file, by the bytes of its path
@@ -32,3 +34,8 @@ abbrev pub OthersStay : List ℕ → Option ShelfFiles → Option ShelfFiles →
 OthersStay path None new = ⊤
 OthersStay path (Some old) None = ⊥
 OthersStay path (Some old) (Some new) = (other : List ℕ) → other ≢ path → get new other ≡ get old other
+
+-- a call was refused since the shelf failed
+abbrev pub shelf_failed : {A : Type 0} → Result A LinkFault → Bool
+shelf_failed (Err Failed) = true
+shelf_failed _ = false

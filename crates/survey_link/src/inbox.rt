@@ -1,7 +1,7 @@
 //! The bytes that were read of a source and not yet used.
-ghost use Rattle.std.specs.Prelude.{◌≡◌, ◌+◌, ◌<◌, ◌≤◌, ◌⊎◌, ℕ, List, [], ◌++◌, length, take, drop, Ok, IfOk, OnErr};
+ghost use Rattle.std.specs.Prelude.{◌≡◌, ◌+◌, ◌<◌, ◌≤◌, ◌⊎◌, ℕ, List, [], ◌++◌, length, take, drop, Ok, is_err, IfOk, OnErr};
 ghost use Rattle.std.specs.Io.KnownBytes.{Consumes, IsAtEnd};
-ghost use Rattle.survey_link.specs.Link.{Rises, readings_after};
+ghost use Rattle.survey_link.specs.Link.{CountsFault, readings_after};
 
 use crate::faults::Failed;
 use crate::source::Source;
@@ -123,7 +123,7 @@ impl Inbox {
         ensures counted { S.readings src.new ≡ readings_after 1 (S.readings src.old) }
         ensures end { result ≡ Ok 0 → IsAtEnd (S.left src.new) }
         ensures kept { OnErr result ((held self.new ≡ held self.old) × (S.left src.new ≡ S.left src.old)) }
-        ensures failed { OnErr result (Rises (S.faults src.old) (S.faults src.new)) }
+        ensures faults { CountsFault (is_err result) (S.faults src.old) (S.faults src.new) }
         ensures never_falls { S.faults src.old ≤ S.faults src.new }
         ensures size { size self.new ≡ size self.old }
         ensures start { self.new.start ≡ self.old.start }

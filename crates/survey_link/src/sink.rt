@@ -1,7 +1,7 @@
 //! Where bytes go to, and the writing of all of some bytes.
-ghost use Rattle.std.specs.Prelude.{◌≡◌, ℕ, ◌<◌, ◌≤◌, List, Option, length, take, IfOk, OnOk, OnErr};
+ghost use Rattle.std.specs.Prelude.{◌≡◌, ℕ, ◌<◌, ◌≤◌, List, Option, length, take, is_err, IfOk, OnOk, OnErr};
 ghost use Rattle.std.specs.Io.KnownBytes.{Appends};
-ghost use Rattle.survey_link.specs.Link.{Rises, AppendsPrefix, parts_bytes};
+ghost use Rattle.survey_link.specs.Link.{CountsFault, AppendsPrefix, parts_bytes};
 
 use crate::faults::Failed;
 use crate::parts::{rest_of, total};
@@ -14,7 +14,7 @@ pub trait Sink {
     /// Those of the bytes held that were flushed, where the proof can see them.
     ghost flushed: { Self → Option (List ℕ) };
 
-    /// How often it has failed. The count never falls.
+    /// How often it has failed: a call that answers `Failed` raises the count, and no other call does.
     ghost faults: { Self → ℕ };
 
     /// The number of its connection among those of the door that it came through, where the proof can see it. It never
@@ -33,8 +33,7 @@ pub trait Sink {
         ensures appended { IfOk result (λ m. Appends (held self.old) (held self.new) (take m buf.now)) }
         ensures kept { OnErr result (held self.new ≡ held self.old) }
         ensures flushed { flushed self.new ≡ flushed self.old }
-        ensures failed { OnErr result (Rises (faults self.old) (faults self.new)) }
-        ensures sound { OnOk result (faults self.new ≡ faults self.old) }
+        ensures faults { CountsFault (is_err result) (faults self.old) (faults self.new) }
         ensures never_falls { faults self.old ≤ faults self.new }
         ensures same { number self.new ≡ number self.old };
 
@@ -50,8 +49,7 @@ pub trait Sink {
         ensures appended { IfOk result (λ m. Appends (held self.old) (held self.new) (take m (parts_bytes parts.entry))) }
         ensures kept { OnErr result (held self.new ≡ held self.old) }
         ensures flushed { flushed self.new ≡ flushed self.old }
-        ensures failed { OnErr result (Rises (faults self.old) (faults self.new)) }
-        ensures sound { OnOk result (faults self.new ≡ faults self.old) }
+        ensures faults { CountsFault (is_err result) (faults self.old) (faults self.new) }
         ensures never_falls { faults self.old ≤ faults self.new }
         ensures same { number self.new ≡ number self.old };
 
@@ -64,8 +62,7 @@ pub trait Sink {
         ensures kept { held self.new ≡ held self.old }
         ensures flushed { OnOk result (flushed self.new ≡ held self.new) }
         ensures stays { OnErr result (flushed self.new ≡ flushed self.old) }
-        ensures failed { OnErr result (Rises (faults self.old) (faults self.new)) }
-        ensures sound { OnOk result (faults self.new ≡ faults self.old) }
+        ensures faults { CountsFault (is_err result) (faults self.old) (faults self.new) }
         ensures never_falls { faults self.old ≤ faults self.new }
         ensures same { number self.new ≡ number self.old };
 }
@@ -79,7 +76,7 @@ pub fn write_whole<K: Sink>(sink: &mut K, bytes: &[u8]) -> Result<(), Failed>
     ensures whole { OnOk result (Appends (K.held sink.old) (K.held sink.new) bytes.now) }
     ensures part { OnErr result (AppendsPrefix (K.held sink.old) (K.held sink.new) bytes.now) }
     ensures flushed { K.flushed sink.new ≡ K.flushed sink.old }
-    ensures failed { OnErr result (Rises (K.faults sink.old) (K.faults sink.new)) }
+    ensures faults { CountsFault (is_err result) (K.faults sink.old) (K.faults sink.new) }
     ensures never_falls { K.faults sink.old ≤ K.faults sink.new }
 {
     let mut rest = bytes;
@@ -99,7 +96,7 @@ pub fn write_all_parts<K: Sink>(sink: &mut K, parts: [&[u8]; 4]) -> Result<(), F
     ensures whole { OnOk result (Appends (K.held sink.old) (K.held sink.new) (parts_bytes parts.entry)) }
     ensures part { OnErr result (AppendsPrefix (K.held sink.old) (K.held sink.new) (parts_bytes parts.entry)) }
     ensures flushed { K.flushed sink.new ≡ K.flushed sink.old }
-    ensures failed { OnErr result (Rises (K.faults sink.old) (K.faults sink.new)) }
+    ensures faults { CountsFault (is_err result) (K.faults sink.old) (K.faults sink.new) }
     ensures never_falls { K.faults sink.old ≤ K.faults sink.new }
 {
     let mut rest = parts;

@@ -1,7 +1,7 @@
 //! Where bytes come from.
-ghost use Rattle.std.specs.Prelude.{◌≡◌, ℕ, ◌<◌, ◌≤◌, List, Option, length, take, IfOk, OnOk, OnErr, Ok};
+ghost use Rattle.std.specs.Prelude.{◌≡◌, ℕ, ◌<◌, ◌≤◌, List, Option, length, take, is_err, IfOk, OnErr, Ok};
 ghost use Rattle.std.specs.Io.KnownBytes.{Consumes, IsAtEnd};
-ghost use Rattle.survey_link.specs.Link.{Rises, readings_after};
+ghost use Rattle.survey_link.specs.Link.{CountsFault, readings_after};
 
 use crate::faults::Failed;
 
@@ -13,7 +13,7 @@ pub trait Source {
     /// The number of calls of `read`, refused or not, where the proof can see it.
     ghost readings: { Self → Option ℕ };
 
-    /// How often it has failed. The count never falls.
+    /// How often it has failed: a call that answers `Failed` raises the count, and no other call does.
     ghost faults: { Self → ℕ };
 
     /// The number of its connection among those of the door that it came through, where the proof can see it. It never
@@ -32,8 +32,7 @@ pub trait Source {
         ensures end { result ≡ Ok 0 → IsAtEnd (left self.new) }
         ensures kept { OnErr result (left self.new ≡ left self.old) }
         ensures counted { readings self.new ≡ readings_after 1 (readings self.old) }
-        ensures failed { OnErr result (Rises (faults self.old) (faults self.new)) }
-        ensures sound { OnOk result (faults self.new ≡ faults self.old) }
+        ensures faults { CountsFault (is_err result) (faults self.old) (faults self.new) }
         ensures never_falls { faults self.old ≤ faults self.new }
         ensures same { number self.new ≡ number self.old };
 }

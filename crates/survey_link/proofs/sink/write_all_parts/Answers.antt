@@ -1,4 +1,4 @@
-use Rattle.std.proofs.Common.{arith, ◌∙◌}
+use Rattle.std.proofs.Common.{◌∙◌}
 use Rattle.std.proofs.lemmas.Result.{err_from_is_err_and}
 use Rattle.survey_link.proofs.Writes.{wrote_next, wrote_prefix}
 use Rattle.survey_link.proofs.sink.write_all_parts.Goals as goal
@@ -12,5 +12,5 @@ pub loop-rest-preserved : goal.loop-rest-preserved
 loop-rest-preserved g c = record {
   wrote = rw c.rest_of-rest.ensures (wrote_next _ _ _ _ _ _ c.loop-rest.invariant.wrote c.in_ok-written.ensures.appended);
   flushed = c.write_parts.ensures.flushed ∙ c.loop-rest.invariant.flushed;
-  never_falls = omega (arith, c.loop-rest.invariant.never_falls, c.write_parts.ensures.never_falls);
+  faults = c.in_ok-written.ensures.faults ∙ c.loop-rest.invariant.faults;
 }

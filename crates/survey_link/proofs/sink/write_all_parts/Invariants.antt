@@ -1,4 +1,4 @@
-use Rattle.std.proofs.Common.{◌≡◌, ◌≤◌, length}
+use Rattle.std.proofs.Common.{◌≡◌, length}
 use Rattle.survey_link.specs.Link.{parts_bytes}
 use Rattle.survey_link.proofs.Writes.{Wrote}
 use Rattle.survey_link.proofs.sink.write_all_parts.Given as goal
@@ -7,7 +7,7 @@ abbrev pub invariant-loop-rest : goal.invariant-loop-rest
 invariant-loop-rest g l = record {
   wrote : Wrote (g.K.Sink.held l.fn.sink) (g.K.Sink.held l.sink) (parts_bytes l.fn.parts) (parts_bytes l.rest);
   flushed : g.K.Sink.flushed l.sink ≡ g.K.Sink.flushed l.fn.sink;
-  never_falls : g.K.Sink.faults l.fn.sink ≤ g.K.Sink.faults l.sink;
+  faults : g.K.Sink.faults l.sink ≡ g.K.Sink.faults l.fn.sink;
 }
 
 abbrev pub decreases-loop-rest : goal.decreases-loop-rest
