@@ -5,7 +5,9 @@
 # 768 leaves of 512 by 512 numbers of 16 bits (a survey takes no more than 2^29 bytes of tiles with all its edits); and one leaf of
 # 65,536 of order 11, of 32 by 32. Each time is the server's, by the line of the request in its log, from the head until the reply
 # was flushed; beside it stands the client's. Before that the server starts over the leaves alone: it reads them and makes the first
-# generation, with all processors and with one, by the line `loaded` of its log.
+# generation, with all processors and with one, by the line `loaded` of its log; `cat` of the same files stands beside it. Beside
+# each publication stands the least work that makes the same bytes, on one processor by lanes.c: its milliseconds, how many numbers
+# it merges and how many bytes it copies, and the server's least time by it.
 #
 # The program is a proved build: one of `rt try` has checks in it, and its times say nothing. They mean something only where nothing
 # else runs.
@@ -17,6 +19,7 @@ runs=${1:-5}
 hipsd=$(realpath -e "${HIPSD:-$here/../crates/hipsd/out/hipsd}") || { echo "publication.sh: hipsd isn't built"; exit 1; }
 work=$(mktemp -d) || exit 1
 trap 'rm -rf "$work"' EXIT
+cc -O3 -march=x86-64-v2 -o "$work/lanes" "$here/lanes.c" || exit 1
 cd "$work" || exit 1
 python3 - "$here/../scripts" "$hipsd" "$runs" <<'PYTHON'
 import http.client
@@ -120,6 +123,18 @@ def told(times):
     return f"{min(times):.2f}, {statistics.median(times):.2f}"
 
 
+def least_work(field, count):
+    """What lanes.c says of replacing so many leaves: milliseconds, numbers merged, bytes copied."""
+    words = ["./lanes", str(field.order), str(field.width), str(count)]
+    took, merged, copied = subprocess.run(words, check=True, capture_output=True, text=True).stdout.split()
+    return float(took), int(merged), int(copied)
+
+
+def beside(field, count, least):
+    took, merged, copied = least_work(field, count)
+    return f"lanes.c {took:.2f} ms, {merged:,} numbers merged, {copied:,} bytes copied: {least / took:.2f}"
+
+
 def time_publications(field, plans):
     """Prints what publications take; each plan is how many leaves each replaces, and how many there are in a run."""
     for count, publications in plans:
@@ -135,16 +150,25 @@ def time_publications(field, plans):
             to_client += running.publications
         print(f"  a publication of {count}: {told(publications_took)} ms, to the client {told(to_client)}; "
               f"a PUT {told(puts)}, to the client {told(puts_to_client)}")
+        print(f"    {beside(field, count, min(publications_took))}")
 
 
 def time_starts(field):
     """Prints what the server takes to read the leaves and to make the first generation."""
+    files = [path for path in field.folder.rglob("*") if path.is_file()]
+    cat = []
+    for _ in range(RUNS):
+        begun = time.perf_counter()
+        for some in range(0, len(files), 1000):
+            subprocess.run(["cat", *files[some:some + 1000]], check=True, stdout=subprocess.DEVNULL)
+        cat.append((time.perf_counter() - begun) * 1000)
     for name, prefix in ("all processors", ()), ("one", ("taskset", "-c", "0")):
         times = []
         for _ in range(RUNS):
             with server(field, *prefix) as running:
                 times.append(running.loaded())
-        print(f"  loaded by {name} in {told(times)} ms")
+        print(f"  loaded by {name} in {told(times)} ms; `cat` of the files {told(cat)}")
+    print(f"    of it the first generation: {least_work(field, field.leaves)[0]:.2f} ms by lanes.c")
 
 
 print(f"{len(os.sched_getaffinity(0))} processors, least and middle of {RUNS} runs")
