@@ -1,13 +1,13 @@
 -- Many lines are answered one after another.
-use Rattle.std.proofs.Common.{◌≡◌, ℕ, Bool, true, false, not, cond, List, [], ◌∷◌, ◌++◌, map, Result, Ok, Err, refl, sym, ap, ◌∙◌, subst}
+use Rattle.std.proofs.Common.{◌≡◌, ℕ, true, false, not, cond, List, [], ◌∷◌, ◌++◌, Result, Ok, Err, refl, ap, ◌∙◌, subst}
 use Rattle.std.specs.Str.{bytes_eq}
 use Rattle.std.proofs.lemmas.Bool.{or_parts}
 use Rattle.hips_catalog.specs.Rows.{Source}
 use Rattle.hips_catalog.specs.Reading.{is_id}
 use Rattle.hips_catalog.specs.declared.fault.RowFault.TheVariants.{Id}
 use Rattle.hips_catalog.specs.Catalogue.{Catalogue, has_id, without_id, without_row}
-use Rattle.catalog_command.specs.declared.stop.LineFault.{LineFault}
-use Rattle.catalog_command.specs.declared.stop.LineFault.TheVariants.{Row, Absent}
+use Rattle.catalog_command.specs.declared.refusal.LineFault.{LineFault}
+use Rattle.catalog_command.specs.declared.refusal.LineFault.TheVariants.{Row, Absent}
 use Rattle.catalog_command.specs.Lines.{after_removal, after_line}
 use Rattle.catalog_command.specs.Answers.{Answer, IsAnswered, AreAnswered}
 

@@ -1,9 +1,9 @@
 -- What comes of a source, and what is so of its input, line after line.
-use Rattle.std.proofs.Common.{◌≡◌, ◌⊎◌, inl, inr, ℕ, ◌+◌, List, [], ◌++◌, Option, Some, None, Result, Ok, refl, sym, ap, ◌∙◌, subst, append_assoc}
+use Rattle.std.proofs.Common.{◌≡◌, inl, inr, ℕ, ◌+◌, List, [], ◌++◌, Option, Some, None, Result, refl, sym, ap, ◌∙◌, subst, append_assoc}
 use Rattle.std.proofs.lemmas.List.{append-nil}
 use Rattle.std.specs.Io.KnownBytes.{Consumes, IsAtEnd}
 use Rattle.hips_catalog.specs.Catalogue.{Catalogue, no_rows}
-use Rattle.catalog_command.specs.declared.stop.Stop.{Stop}
+use Rattle.catalog_command.specs.declared.refusal.CatalogRefusal.{CatalogRefusal}
 use Rattle.catalog_command.specs.Input.{MayFollow, OfInput}
 use Rattle.catalog_command.specs.Lines.{after_input, catalogue_of}
 use Rattle.catalog_command.specs.Unread.{Receives}
@@ -57,7 +57,7 @@ of_received P held held' left left' got is = record {
 -- ---- line after line
 
 -- whatever follows, what is to be read in all is what is to be read from this line on
-pub record ReadsOn (all : List ℕ → Result Catalogue Stop) (c : Catalogue) (n : ℕ) (held : List ℕ) (left left' : Option (List ℕ)) : Type 0 where
+pub record ReadsOn (all : List ℕ → Result Catalogue CatalogRefusal) (c : Catalogue) (n : ℕ) (held : List ℕ) (left left' : Option (List ℕ)) : Type 0 where
   pub came : List ℕ
   pub consumed : Consumes left left' came
   pub same : (more : List ℕ) → all (came ++ more) ≡ after_input c n (held ++ more)
@@ -69,7 +69,7 @@ begun top per_tile c held left first none = record {
   same = λ more. ap (λ d. after_input d 1 more) (sym first) ∙ ap (λ bytes. after_input c 1 (bytes ++ more)) (sym none);
 }
 
-module _ (all : List ℕ → Result Catalogue Stop) (old : Catalogue) (n : ℕ) (held : List ℕ) (first left : Option (List ℕ)) where
+module _ (all : List ℕ → Result Catalogue CatalogRefusal) (old : Catalogue) (n : ℕ) (held : List ℕ) (first left : Option (List ℕ)) where
   pub gone_on : (new : Catalogue) (held' : List ℕ) (left' : Option (List ℕ)) → ReadsOn all old n held first left → TakesLine n old new held held' left left' → ReadsOn all new (n + 1) held' first left'
   gone_on new held' left' on taken = record {
     came = on.came ++ taken.came;
@@ -77,7 +77,7 @@ module _ (all : List ℕ → Result Catalogue Stop) (old : Catalogue) (n : ℕ) 
     same = λ more. ap all (append_assoc on.came taken.came more) ∙ on.same (taken.came ++ more) ∙ taken.on more;
   }
 
-  pub ended : (P : Result Catalogue Stop → Type 0) (left' : Option (List ℕ)) → ReadsOn all old n held first left → OfInput (λ input. P (after_input old n (held ++ input))) left left'
+  pub ended : (P : Result Catalogue CatalogRefusal → Type 0) (left' : Option (List ℕ)) → ReadsOn all old n held first left → OfInput (λ input. P (after_input old n (held ++ input))) left left'
       → OfInput (λ input. P (all input)) first left'
   ended P left' on of = record {
     came = on.came ++ of.came;

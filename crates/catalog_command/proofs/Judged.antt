@@ -1,14 +1,14 @@
 -- What stands next in an input, judged as the line of its number, is what the definition says of it.
-use Rattle.std.proofs.Common.{◌≡◌, ℕ, ◌+◌, ◌<◌, ◌≤◌, Bool, true, false, cond, List, [], ◌∷◌, ◌++◌, length, take, drop, Option, Some, None, Result, Ok, Err, refl, sym, ap, ◌∙◌, subst, arith}
+use Rattle.std.proofs.Common.{◌≡◌, ℕ, ◌+◌, ◌<◌, ◌≤◌, Bool, true, false, cond, List, [], ◌∷◌, ◌++◌, length, take, drop, Option, Some, None, Result, Ok, Err, refl, ap, ◌∙◌, subst, arith}
 use Rattle.std.specs.Prelude.{nat_lt, nat_le}
 use Rattle.std.specs.Io.KnownBytes.{IsAtEnd}
 use Rattle.std.proofs.lemmas.Bool.Decides.{nat_tests}
-use Rattle.std.proofs.lemmas.List.{append-nil, append_assoc, length-take-le}
+use Rattle.std.proofs.lemmas.List.{append-nil, length-take-le}
 use Rattle.hips_catalog.specs.Catalogue.{Catalogue}
-use Rattle.catalog_command.specs.declared.stop.LineFault.{LineFault}
-use Rattle.catalog_command.specs.declared.stop.LineFault.TheVariants.{Long, Many}
-use Rattle.catalog_command.specs.declared.stop.Stop.{Stop}
-use Rattle.catalog_command.specs.declared.stop.Stop.TheVariants.{Cut, Line, OutOfMemory}
+use Rattle.catalog_command.specs.declared.refusal.LineFault.{LineFault}
+use Rattle.catalog_command.specs.declared.refusal.LineFault.TheVariants.{Long, Many}
+use Rattle.catalog_command.specs.declared.refusal.CatalogRefusal.{CatalogRefusal}
+use Rattle.catalog_command.specs.declared.refusal.CatalogRefusal.TheVariants.{Cut, Line, OutOfMemory}
 use Rattle.catalog_command.specs.declared.line.LineRefusal.TheVariants.{Fault, OutOfMemory as NoRoom}
 use Rattle.catalog_command.specs.declared.found.Found.{Found}
 use Rattle.catalog_command.specs.declared.found.Found.TheVariants.{Line as Whole, Long as Front, Cut as Short, End}
@@ -36,7 +36,7 @@ unfolding after_input
 after_cut c n bytes some none = ap (after_parts c n) (parts_none bytes none) ∙ last_some c n bytes some
 
 record IsAllowed (c : Catalogue) (n : ℕ) (part : List ℕ) (ps : List (List ℕ)) : Type 0 where
-  otherwise : Result Catalogue Stop
+  otherwise : Result Catalogue CatalogRefusal
   is : after_parts c n (part ∷ ps) ≡ where_allowed n part otherwise
 
 first_allowed : (c : Catalogue) (n : ℕ) (part : List ℕ) (ps : List (List ℕ)) → 0 < length part → IsAllowed c n part ps
@@ -44,12 +44,12 @@ first_allowed c n part [] some = record { otherwise = Err Cut; is = last_some c 
 first_allowed c n part (next ∷ more) some = record { otherwise = then_lines n (after_line c part) (λ d. after_parts d (n + 1) (next ∷ more)); is = refl }
 
 -- what is too long is refused as such, unless there are too many lines
-too_long : (n : ℕ) (part : List ℕ) (otherwise : Result Catalogue Stop) → most_bytes ≤ length part → where_allowed n part otherwise ≡ cond (nat_lt most_lines n) (bad_line n Many) (bad_line n Long)
+too_long : (n : ℕ) (part : List ℕ) (otherwise : Result Catalogue CatalogRefusal) → most_bytes ≤ length part → where_allowed n part otherwise ≡ cond (nat_lt most_lines n) (bad_line n Many) (bad_line n Long)
 too_long n part otherwise long =
     let test : nat_le most_bytes (length part) ≡ true = grind (arith, nat_tests) in
     ap (λ t. cond (nat_lt most_lines n) (bad_line n Many) (cond t (bad_line n Long) otherwise)) test
 
-not_long : (n : ℕ) (part : List ℕ) (otherwise : Result Catalogue Stop) → length part < most_bytes → where_allowed n part otherwise ≡ cond (nat_lt most_lines n) (bad_line n Many) otherwise
+not_long : (n : ℕ) (part : List ℕ) (otherwise : Result Catalogue CatalogRefusal) → length part < most_bytes → where_allowed n part otherwise ≡ cond (nat_lt most_lines n) (bad_line n Many) otherwise
 not_long n part otherwise short =
     let test : nat_le most_bytes (length part) ≡ false = grind (arith, nat_tests) in
     ap (λ t. cond (nat_lt most_lines n) (bad_line n Many) (cond t (bad_line n Long) otherwise)) test
@@ -66,7 +66,7 @@ line_first : (c : Catalogue) (n : ℕ) (part : List ℕ) (ps : List (List ℕ)) 
 line_first c n part [] some = absurd (omega (arith, some))
 line_first c n part (next ∷ more) some = refl
 
-abbrev pub next_lines : Catalogue → ℕ → List ℕ → List ℕ → ℕ → Result Catalogue Stop
+abbrev pub next_lines : Catalogue → ℕ → List ℕ → List ℕ → ℕ → Result Catalogue CatalogRefusal
 next_lines c n held more count = then_lines n (after_line c (take count held)) (λ d. after_input d (n + 1) (drop (count + 1) held ++ more))
 
 after_whole : (c : Catalogue) (n : ℕ) (held more : List ℕ) (count : ℕ) → place_of_feed held ≡ Some count → count < most_bytes →
@@ -85,17 +85,17 @@ pub judged_none : (n : ℕ) (found : Found) (held : List ℕ) (left : Option (Li
 judged_none n End held left e is = is
 judged_none n (Whole count) held left e is = at (nat_lt most_lines n) e
   where
-    at : (t : Bool) → cond {A = Result (Option ℕ) Stop} t (bad_line n Many) (Ok (Some count)) ≡ Ok None → (held ≡ []) × IsAtEnd left
+    at : (t : Bool) → cond {A = Result (Option ℕ) CatalogRefusal} t (bad_line n Many) (Ok (Some count)) ≡ Ok None → (held ≡ []) × IsAtEnd left
     at true e = cc
     at false e = cc
 judged_none n Front held left e is = at (nat_lt most_lines n) e
   where
-    at : (t : Bool) → cond {A = Result (Option ℕ) Stop} t (bad_line n Many) (bad_line n Long) ≡ Ok None → (held ≡ []) × IsAtEnd left
+    at : (t : Bool) → cond {A = Result (Option ℕ) CatalogRefusal} t (bad_line n Many) (bad_line n Long) ≡ Ok None → (held ≡ []) × IsAtEnd left
     at true e = cc
     at false e = cc
 judged_none n Short held left e is = at (nat_lt most_lines n) e
   where
-    at : (t : Bool) → cond {A = Result (Option ℕ) Stop} t (bad_line n Many) (Err Cut) ≡ Ok None → (held ≡ []) × IsAtEnd left
+    at : (t : Bool) → cond {A = Result (Option ℕ) CatalogRefusal} t (bad_line n Many) (Err Cut) ≡ Ok None → (held ≡ []) × IsAtEnd left
     at true e = cc
     at false e = cc
 
@@ -107,32 +107,32 @@ ends c n found held left more e is may =
     ap (λ bytes. after_input c n (bytes ++ more)) now.0 ∙ ap (after_input c n) (nothing_follows left more now.1 may) ∙ after_end c n
 
 -- the stop is what a result says
-said : (made : Result Catalogue Stop) (own stop : Stop) → made ≡ Err own → own ≡ stop → TellsStop made own → TellsStop made stop
+said : (made : Result Catalogue CatalogRefusal) (own stop : CatalogRefusal) → made ≡ Err own → own ≡ stop → TellsStop made own → TellsStop made stop
 said made own stop e same tells = subst (TellsStop made) same tells
 
-bad : (made : Result Catalogue Stop) (n : ℕ) (fault : LineFault) (stop : Stop) → made ≡ bad_line n fault → Line (record { line = n; fault = fault }) ≡ stop → TellsStop made stop
+bad : (made : Result Catalogue CatalogRefusal) (n : ℕ) (fault : LineFault) (stop : CatalogRefusal) → made ≡ bad_line n fault → Line (record { line = n; fault = fault }) ≡ stop → TellsStop made stop
 bad made n fault stop e same = subst (TellsStop made) same e
 
-pub stops : (c : Catalogue) (n : ℕ) (found : Found) (held : List ℕ) (left : Option (List ℕ)) (more : List ℕ) (stop : Stop) →
+pub stops : (c : Catalogue) (n : ℕ) (found : Found) (held : List ℕ) (left : Option (List ℕ)) (more : List ℕ) (stop : CatalogRefusal) →
     judged n found ≡ Err stop → IsFound held left found → MayFollow left more → TellsStop (after_input c n (held ++ more)) stop
 stops c n End held left more stop e is may = cc
 stops c n (Whole count) held left more stop e is may =
     at (next_lines c n held more count) (nat_lt most_lines n) (after_whole c n held more count is.0 is.1) e
   where
-    at : (otherwise : Result Catalogue Stop) (t : Bool) → after_input c n (held ++ more) ≡ cond t (bad_line n Many) otherwise → cond {A = Result (Option ℕ) Stop} t (bad_line n Many) (Ok (Some count)) ≡ Err stop → TellsStop (after_input c n (held ++ more)) stop
+    at : (otherwise : Result Catalogue CatalogRefusal) (t : Bool) → after_input c n (held ++ more) ≡ cond t (bad_line n Many) otherwise → cond {A = Result (Option ℕ) CatalogRefusal} t (bad_line n Many) (Ok (Some count)) ≡ Err stop → TellsStop (after_input c n (held ++ more)) stop
     at otherwise true made e = bad (after_input c n (held ++ more)) n Many stop made cc
     at otherwise false made e = cc
 stops c n Front held left more stop e is may =
     at (nat_lt most_lines n) (after_front c n held more is.0 is.1) e
   where
-    at : (t : Bool) → after_input c n (held ++ more) ≡ cond {A = Result Catalogue Stop} t (bad_line n Many) (bad_line n Long) → cond {A = Result (Option ℕ) Stop} t (bad_line n Many) (bad_line n Long) ≡ Err stop → TellsStop (after_input c n (held ++ more)) stop
+    at : (t : Bool) → after_input c n (held ++ more) ≡ cond {A = Result Catalogue CatalogRefusal} t (bad_line n Many) (bad_line n Long) → cond {A = Result (Option ℕ) CatalogRefusal} t (bad_line n Many) (bad_line n Long) ≡ Err stop → TellsStop (after_input c n (held ++ more)) stop
     at true made e = bad (after_input c n (held ++ more)) n Many stop made cc
     at false made e = bad (after_input c n (held ++ more)) n Long stop made cc
 stops c n Short held left more stop e is may =
     let whole : held ++ more ≡ held = ap (λ behind. held ++ behind) (nothing_follows left more is.3 may) ∙ append-nil held in
     at (nat_lt most_lines n) (ap (after_input c n) whole ∙ after_cut c n held is.0 is.2 ∙ not_long n held (Err Cut) is.1) e
   where
-    at : (t : Bool) → after_input c n (held ++ more) ≡ cond {A = Result Catalogue Stop} t (bad_line n Many) (Err Cut) → cond {A = Result (Option ℕ) Stop} t (bad_line n Many) (Err Cut) ≡ Err stop → TellsStop (after_input c n (held ++ more)) stop
+    at : (t : Bool) → after_input c n (held ++ more) ≡ cond {A = Result Catalogue CatalogRefusal} t (bad_line n Many) (Err Cut) → cond {A = Result (Option ℕ) CatalogRefusal} t (bad_line n Many) (Err Cut) ≡ Err stop → TellsStop (after_input c n (held ++ more)) stop
     at true made e = bad (after_input c n (held ++ more)) n Many stop made cc
     at false made e = let same : Cut ≡ stop = cc in subst (TellsStop (after_input c n (held ++ more))) same made
 
@@ -145,17 +145,17 @@ line_of : (n : ℕ) (found : Found) (held : List ℕ) (left : Option (List ℕ))
 line_of n End held left count e is = cc
 line_of n (Whole m) held left count e is = at (nat_lt most_lines n) refl e
   where
-    at : (t : Bool) → nat_lt most_lines n ≡ t → cond {A = Result (Option ℕ) Stop} t (bad_line n Many) (Ok (Some m)) ≡ Ok (Some count) → (n ≤ most_lines) × (Whole m ≡ Whole count)
+    at : (t : Bool) → nat_lt most_lines n ≡ t → cond {A = Result (Option ℕ) CatalogRefusal} t (bad_line n Many) (Ok (Some m)) ≡ Ok (Some count) → (n ≤ most_lines) × (Whole m ≡ Whole count)
     at true is e = cc
     at false is e = let same : m ≡ count = cc in (grind (arith, nat_tests), ap Whole same)
 line_of n Front held left count e is = at (nat_lt most_lines n) e
   where
-    at : (t : Bool) → cond {A = Result (Option ℕ) Stop} t (bad_line n Many) (bad_line n Long) ≡ Ok (Some count) → (n ≤ most_lines) × (Front ≡ Whole count)
+    at : (t : Bool) → cond {A = Result (Option ℕ) CatalogRefusal} t (bad_line n Many) (bad_line n Long) ≡ Ok (Some count) → (n ≤ most_lines) × (Front ≡ Whole count)
     at true e = cc
     at false e = cc
 line_of n Short held left count e is = at (nat_lt most_lines n) e
   where
-    at : (t : Bool) → cond {A = Result (Option ℕ) Stop} t (bad_line n Many) (Err Cut) ≡ Ok (Some count) → (n ≤ most_lines) × (Short ≡ Whole count)
+    at : (t : Bool) → cond {A = Result (Option ℕ) CatalogRefusal} t (bad_line n Many) (Err Cut) ≡ Ok (Some count) → (n ≤ most_lines) × (Short ≡ Whole count)
     at true e = cc
     at false e = cc
 
@@ -177,7 +177,7 @@ is_next c n found held left count e is more =
 
 -- ---- what use was made of the line
 
-pub used_stop : (n : ℕ) (made : Result Catalogue LineFault) (next : Catalogue → Result Catalogue Stop) (old new : Catalogue) (answer : Answer) (stop : Stop) (all : Result Catalogue Stop) →
+pub used_stop : (n : ℕ) (made : Result Catalogue LineFault) (next : Catalogue → Result Catalogue CatalogRefusal) (old new : Catalogue) (answer : Answer) (stop : CatalogRefusal) (all : Result Catalogue CatalogRefusal) →
     all ≡ then_lines n made next → IsAnswered made old answer new → numbered n answer ≡ Err stop → TellsStop all stop
 used_stop n made next old new (Ok done) stop all is answered e = cc
 used_stop n made next old new (Err (Fault fault)) stop all is answered e = bad all n fault stop (is ∙ ap (λ m. then_lines n m next) answered.0) cc

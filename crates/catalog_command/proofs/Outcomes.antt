@@ -1,45 +1,45 @@
 -- How the work ends.
 use Rattle.std.proofs.Common.{◌≡◌, ℕ, List, Option, Result, Ok, Err, refl, sym, subst, inl, inr}
-use Rattle.std.specs.Prelude.{IsOkAnd, OnOk, IsErrOf}
-use Rattle.survey_link.specs.Link.{Rises}
-use Rattle.survey_link.specs.Shelf.{ShelfFiles}
+use Rattle.std.specs.Prelude.{IsOkAnd}
+use Rattle.survey_link.specs.Link.{CountsFault}
+use Rattle.survey_link.specs.Shelf.{ShelfFiles, shelf_failed}
 use Rattle.survey_link.specs.declared.faults.LinkFault.{LinkFault}
 use Rattle.survey_link.specs.declared.faults.LinkFault.TheVariants.{Failed, OutOfMemory as NoMemory}
 use Rattle.hips_catalog.specs.Catalogue.{Catalogue}
-use Rattle.catalog_command.specs.declared.stop.Stop.{Stop}
-use Rattle.catalog_command.specs.declared.stop.Stop.TheVariants.{Cut, Line, ReadFault, ShelfFault, OutOfMemory}
+use Rattle.catalog_command.specs.declared.refusal.CatalogRefusal.{CatalogRefusal}
+use Rattle.catalog_command.specs.declared.refusal.CatalogRefusal.TheVariants.{Cut, Line, ReadFault, ShelfFault, OutOfMemory}
 use Rattle.catalog_command.specs.declared.counts.Counts.{Counts}
 use Rattle.catalog_command.specs.Files.{OnFiles, IsReplaced, IsUnfinished}
-use Rattle.catalog_command.specs.Stops.{of_link, TellsStop, IsReading, CountsFault, CountsShelf}
+use Rattle.catalog_command.specs.Stops.{of_link, TellsStop, IsReading, stopped_at_shelf}
 use Rattle.catalog_command.specs.Input.{OfInput}
 use Rattle.catalog_command.specs.Lines.{catalogue_of}
 use Rattle.catalog_command.specs.Run.{IsOutcome, SaysOutcome, RunsCatalog, counts_of}
 use Rattle.catalog_command.proofs.Inputs.{of_each}
 
-nothing : (given : Result Catalogue Stop) (files : Option ShelfFiles) (stop : Stop) → TellsStop given stop → IsOutcome given files files (Err stop)
+nothing : (given : Result Catalogue CatalogRefusal) (files : Option ShelfFiles) (stop : CatalogRefusal) → TellsStop given stop → IsOutcome given files files (Err stop)
 nothing given files Cut tells = (tells, refl)
 nothing given files (Line bad) tells = (tells, refl)
 nothing given files ReadFault tells = refl
 nothing given files ShelfFault tells = absurd tells
 nothing given files OutOfMemory tells = inl refl
 
-ok_and : (given : Result Catalogue Stop) (catalogue : Catalogue) (P : Catalogue → Type 0) → given ≡ Ok catalogue → P catalogue → IsOkAnd given P
-ok_and given catalogue P e holds = subst (λ (r : Result Catalogue Stop). IsOkAnd r P) (sym e) holds
+ok_and : (given : Result Catalogue CatalogRefusal) (catalogue : Catalogue) (P : Catalogue → Type 0) → given ≡ Ok catalogue → P catalogue → IsOkAnd given P
+ok_and given catalogue P e holds = subst (λ (r : Result Catalogue CatalogRefusal). IsOkAnd r P) (sym e) holds
 
-midway : (given : Result Catalogue Stop) (catalogue : Catalogue) (old new : Option ShelfFiles) (fault : LinkFault) → given ≡ Ok catalogue →
+midway : (given : Result Catalogue CatalogRefusal) (catalogue : Catalogue) (old new : Option ShelfFiles) (fault : LinkFault) → given ≡ Ok catalogue →
     OnFiles (IsUnfinished catalogue) old new → IsOutcome given old new (Err (of_link fault))
 midway given catalogue old new Failed e begun = ok_and given catalogue (λ c. OnFiles (IsUnfinished c) old new) e begun
 midway given catalogue old new NoMemory e begun = inr (ok_and given catalogue (λ c. OnFiles (IsUnfinished c) old new) e begun)
 
 module _ (top per_tile : ℕ) (left left' : Option (List ℕ)) (old new : Option ShelfFiles) where
-  abbrev Outcome : Option ShelfFiles → Result Counts Stop → Type 0
+  abbrev Outcome : Option ShelfFiles → Result Counts CatalogRefusal → Type 0
   Outcome files outcome = OfInput (λ input. IsOutcome (catalogue_of top per_tile input) old files outcome) left left'
 
   abbrev Gives : Catalogue → Type 0
   Gives catalogue = OfInput (λ input. catalogue_of top per_tile input ≡ Ok catalogue) left left'
 
   -- the input gave no catalogue, and the shelf stays
-  pub nothing_read : (stop : Stop) → OfInput (λ input. TellsStop (catalogue_of top per_tile input) stop) left left' → Outcome old (Err stop)
+  pub nothing_read : (stop : CatalogRefusal) → OfInput (λ input. TellsStop (catalogue_of top per_tile input) stop) left left' → Outcome old (Err stop)
   nothing_read stop tells = of_each _ _ left left' (λ input told. nothing (catalogue_of top per_tile input) old stop told) tells
 
   -- the work stopped midway
@@ -52,40 +52,20 @@ module _ (top per_tile : ℕ) (left left' : Option (List ℕ)) (old new : Option
       of_each _ _ left left' (λ input given. ok_and (catalogue_of top per_tile input) catalogue (λ c. (counts ≡ counts_of c) × OnFiles (IsReplaced c) old new) given (counted, done)) gives
 
   -- and what came of it was said
-  pub runs : (outcome : Result Counts Stop) (status : ℕ) (held held' flushed flushed' : Option (List ℕ)) → Outcome new outcome → SaysOutcome outcome status held held' flushed flushed'
+  pub runs : (outcome : Result Counts CatalogRefusal) (status : ℕ) (held held' flushed flushed' : Option (List ℕ)) → Outcome new outcome → SaysOutcome outcome status held held' flushed flushed'
       → OfInput (λ input. RunsCatalog top per_tile input old new status held held' flushed flushed') left left'
   runs outcome status held held' flushed flushed' is said = of_each _ _ left left' (λ input given. (outcome, (given, said))) is
 
 -- ---- counts of the shelf's faults
 
-pub of_shelf : {A : Type 0} (result : Result A LinkFault) (old new : ℕ) → OnOk result (new ≡ old) → (IsErrOf result Failed → Rises old new) → (IsErrOf result NoMemory → new ≡ old) → CountsFault result old new
-of_shelf (Ok done) old new sound failed none = sound
-of_shelf (Err Failed) old new sound failed none = failed refl
-of_shelf (Err NoMemory) old new sound failed none = none refl
-
--- a call that comes behind others in which nothing failed
-pub counts_later : (A : Type 0) (fault : LinkFault) (old mid new : ℕ) → mid ≡ old → CountsFault {A = A} (Err fault) mid new → CountsFault {A = A} (Err fault) old new
-counts_later A fault old mid new same counts = subst (λ count. CountsFault {A = A} (Err fault) count new) same counts
-
 -- reading touches no shelf
-pub reading_counts : (A : Type 0) (stop : Stop) (count : ℕ) → IsReading stop → CountsShelf {A = A} (Err stop) count count
+pub reading_counts : (A : Type 0) (stop : CatalogRefusal) (count : ℕ) → IsReading stop → CountsFault (stopped_at_shelf {A = A} (Err stop)) count count
 reading_counts A Cut count reading = refl
 reading_counts A (Line bad) count reading = refl
 reading_counts A ReadFault count reading = refl
 reading_counts A ShelfFault count reading = absurd reading
 reading_counts A OutOfMemory count reading = refl
 
-pub link_counts : (A B : Type 0) (fault : LinkFault) (old new : ℕ) → CountsFault {A = A} (Err fault) old new → CountsShelf {A = B} (Err (of_link fault)) old new
+pub link_counts : (A B : Type 0) (fault : LinkFault) (old new : ℕ) → CountsFault (shelf_failed {A = A} (Err fault)) old new → CountsFault (stopped_at_shelf {A = B} (Err (of_link fault))) old new
 link_counts A B Failed old new counts = counts
 link_counts A B NoMemory old new counts = counts
-
--- the work didn't stop at the shelf
-pub counts_none : (A : Type 0) (stop : Stop) (old new : ℕ) → CountsShelf {A = A} (Err stop) old new → (stop ≡ ShelfFault → ⊥) → new ≡ old
-counts_none A Cut old new counts other = counts
-counts_none A (Line bad) old new counts other = counts
-counts_none A ReadFault old new counts other = counts
-counts_none A ShelfFault old new counts other = absurd (other refl)
-counts_none A OutOfMemory old new counts other = counts
-
-pub counts_rise : (A : Type 0) (stop : Stop) (old new : ℕ) → CountsShelf {A = A} (Err stop) old new → stop ≡ ShelfFault → Rises old new
-counts_rise A stop old new counts is = subst (λ why. CountsShelf {A = A} (Err why) old new) is counts

@@ -9,13 +9,13 @@ use Rattle.hips_catalog.specs.Catalogue.{Catalogue, has_id, most_rows, with_sour
 use Rattle.hips_catalog.specs.Laws.{IsAmong}
 use Rattle.hips_catalog.specs.declared.fault.RowFault.{RowFault}
 use Rattle.hips_catalog.specs.declared.fault.RowFault.TheVariants.{Id}
-use Rattle.catalog_command.specs.declared.stop.LineFault.{LineFault}
-use Rattle.catalog_command.specs.declared.stop.LineFault.TheVariants.{Row, Twice, Full, Absent}
+use Rattle.catalog_command.specs.declared.refusal.LineFault.{LineFault}
+use Rattle.catalog_command.specs.declared.refusal.LineFault.TheVariants.{Row, Twice, Full, Absent}
 use Rattle.catalog_command.specs.declared.line.LineRefusal.{LineRefusal}
 use Rattle.catalog_command.specs.declared.line.LineRefusal.TheVariants.{Fault, OutOfMemory}
 use Rattle.catalog_command.specs.Lines.{is_removal, after_removal, after_row, after_line}
 use Rattle.catalog_command.specs.Answers.{Answer, IsAnswered, AreAnswered}
-use Rattle.catalog_command.specs.There.{PutsIn, TakesOut, Stays, Comes, RowsAreThere}
+use Rattle.catalog_command.specs.There.{Stays, Comes, RowsAreThere}
 
 -- ---- one row more or less
 

@@ -2,7 +2,7 @@
 -- there then.
 use Rattle.std.specs.Prelude.{◌≡◌, ℕ, List, [], ◌∷◌, Result, Ok, Err}
 use Rattle.hips_catalog.specs.Catalogue.{Catalogue}
-use Rattle.catalog_command.specs.declared.stop.LineFault.{LineFault}
+use Rattle.catalog_command.specs.declared.refusal.LineFault.{LineFault}
 use Rattle.catalog_command.specs.declared.line.LineRefusal.{LineRefusal}
 use Rattle.catalog_command.specs.declared.line.LineRefusal.TheVariants.{Fault, OutOfMemory}
 use Rattle.catalog_command.specs.Lines.{after_line}

@@ -2,9 +2,9 @@
 use Rattle.std.specs.Prelude.{◌≡◌, ℕ, ◌+◌, nat_lt, List, ◌++◌, Option, Some, None, Result, Ok, Err, if◌then◌else◌}
 use Rattle.std.specs.Io.KnownBytes.{Consumes}
 use Rattle.hips_catalog.specs.Catalogue.{Catalogue}
-use Rattle.catalog_command.specs.declared.stop.LineFault.TheVariants.{Long, Many}
-use Rattle.catalog_command.specs.declared.stop.Stop.{Stop}
-use Rattle.catalog_command.specs.declared.stop.Stop.TheVariants.{Cut, OutOfMemory}
+use Rattle.catalog_command.specs.declared.refusal.LineFault.TheVariants.{Long, Many}
+use Rattle.catalog_command.specs.declared.refusal.CatalogRefusal.{CatalogRefusal}
+use Rattle.catalog_command.specs.declared.refusal.CatalogRefusal.TheVariants.{Cut, OutOfMemory}
 use Rattle.catalog_command.specs.declared.line.LineRefusal.{LineRefusal}
 use Rattle.catalog_command.specs.declared.line.LineRefusal.TheVariants.{Fault, OutOfMemory as NoRoom}
 use Rattle.catalog_command.specs.declared.found.Found.{Found}
@@ -12,14 +12,14 @@ use Rattle.catalog_command.specs.declared.found.Found.TheVariants.{Line as Whole
 use Rattle.catalog_command.specs.Lines.{most_lines, bad_line, after_input}
 
 -- how many bytes the line has; none at the end of the input
-abbrev pub judged : ℕ → Found → Result (Option ℕ) Stop
+abbrev pub judged : ℕ → Found → Result (Option ℕ) CatalogRefusal
 judged number End = Ok None
 judged number (Whole count) = if nat_lt most_lines number then bad_line number Many else Ok (Some count)
 judged number Front = if nat_lt most_lines number then bad_line number Many else bad_line number Long
 judged number Short = if nat_lt most_lines number then bad_line number Many else Err Cut
 
 -- what use was made of a line, as that of its number
-abbrev pub numbered : ℕ → Result (Unit {0}) LineRefusal → Result (Unit {0}) Stop
+abbrev pub numbered : ℕ → Result (Unit {0}) LineRefusal → Result (Unit {0}) CatalogRefusal
 numbered number (Ok done) = Ok done
 numbered number (Err (Fault fault)) = bad_line number fault
 numbered number (Err NoRoom) = Err OutOfMemory

@@ -7,10 +7,10 @@ use Rattle.hips_catalog.specs.Reading.{is_id, read_row}
 use Rattle.hips_catalog.specs.Catalogue.{Catalogue, has_id, most_rows, no_rows, with_row, without_row}
 use Rattle.hips_catalog.specs.declared.fault.RowFault.{RowFault}
 use Rattle.hips_catalog.specs.declared.fault.RowFault.TheVariants.{Id}
-use Rattle.catalog_command.specs.declared.stop.LineFault.{LineFault}
-use Rattle.catalog_command.specs.declared.stop.LineFault.TheVariants.{Row, Long, Twice, Full, Absent, Many}
-use Rattle.catalog_command.specs.declared.stop.Stop.{Stop}
-use Rattle.catalog_command.specs.declared.stop.Stop.TheVariants.{Cut, Line}
+use Rattle.catalog_command.specs.declared.refusal.LineFault.{LineFault}
+use Rattle.catalog_command.specs.declared.refusal.LineFault.TheVariants.{Row, Long, Twice, Full, Absent, Many}
+use Rattle.catalog_command.specs.declared.refusal.CatalogRefusal.{CatalogRefusal}
+use Rattle.catalog_command.specs.declared.refusal.CatalogRefusal.TheVariants.{Cut, Line}
 
 -- ---- one line, without its line feed
 
@@ -51,35 +51,35 @@ most_bytes = 512
 abbrev pub parts : List ℕ → List (List ℕ)
 parts bytes = slice_split (λ byte. byte == line_feed) bytes
 
-abbrev pub bad_line : {X : Type 0} → ℕ → LineFault → Result X Stop
+abbrev pub bad_line : {X : Type 0} → ℕ → LineFault → Result X CatalogRefusal
 bad_line number fault = Err (Line (record { line = number; fault = fault }))
 
 -- if what is there is allowed as line of this number: there aren't too many lines, and it isn't too long
-abbrev pub where_allowed : ℕ → List ℕ → Result Catalogue Stop → Result Catalogue Stop
+abbrev pub where_allowed : ℕ → List ℕ → Result Catalogue CatalogRefusal → Result Catalogue CatalogRefusal
 where_allowed number part otherwise =
     if nat_lt most_lines number then bad_line number Many
     else (if nat_le most_bytes (length part) then bad_line number Long else otherwise)
 
 -- what is after the last line feed is no line: nothing, at the end of the input; else the input ends within a line
-abbrev pub at_last : Catalogue → ℕ → List ℕ → Result Catalogue Stop
+abbrev pub at_last : Catalogue → ℕ → List ℕ → Result Catalogue CatalogRefusal
 at_last catalogue number [] = Ok catalogue
 at_last catalogue number (byte ∷ bytes) = where_allowed number (byte ∷ bytes) (Err Cut)
 
 -- a line, and then the next ones
-abbrev pub then_lines : ℕ → Result Catalogue LineFault → (Catalogue → Result Catalogue Stop) → Result Catalogue Stop
+abbrev pub then_lines : ℕ → Result Catalogue LineFault → (Catalogue → Result Catalogue CatalogRefusal) → Result Catalogue CatalogRefusal
 then_lines number (Ok catalogue) rest = rest catalogue
 then_lines number (Err fault) rest = bad_line number fault
 
 -- the catalogue after all lines, from this number on, or the first that stops it
-abbrev pub after_parts : Catalogue → ℕ → List (List ℕ) → Result Catalogue Stop
+abbrev pub after_parts : Catalogue → ℕ → List (List ℕ) → Result Catalogue CatalogRefusal
 after_parts catalogue number [] = Ok catalogue
 after_parts catalogue number (part ∷ []) = at_last catalogue number part
 after_parts catalogue number (part ∷ next ∷ more) =
     where_allowed number part (then_lines number (after_line catalogue part) (λ c. after_parts c (number + 1) (next ∷ more)))
 
-unfoldable pub after_input : Catalogue → ℕ → List ℕ → Result Catalogue Stop
+unfoldable pub after_input : Catalogue → ℕ → List ℕ → Result Catalogue CatalogRefusal
 after_input catalogue number input = after_parts catalogue number (parts input)
 
 -- the catalogue of an input, or the first thing in it that stops it
-abbrev pub catalogue_of : ℕ → ℕ → List ℕ → Result Catalogue Stop
+abbrev pub catalogue_of : ℕ → ℕ → List ℕ → Result Catalogue CatalogRefusal
 catalogue_of top per_tile input = after_input (no_rows top per_tile) 1 input

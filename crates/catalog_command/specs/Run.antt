@@ -5,11 +5,11 @@ use Rattle.survey_link.specs.Link.{AppendsPrefix}
 use Rattle.survey_link.specs.Shelf.{ShelfFiles}
 use Rattle.hips_catalog.specs.Catalogue.{Catalogue, existing_tiles}
 use Rattle.hips_catalog.specs.Texts.{fault_number}
-use Rattle.catalog_command.specs.declared.stop.LineFault.{LineFault}
-use Rattle.catalog_command.specs.declared.stop.LineFault.TheVariants.{Row, Long, Twice, Full, Absent, Many}
-use Rattle.catalog_command.specs.declared.stop.BadLine.{BadLine}
-use Rattle.catalog_command.specs.declared.stop.Stop.{Stop}
-use Rattle.catalog_command.specs.declared.stop.Stop.TheVariants.{Cut, Line, ReadFault, ShelfFault, OutOfMemory}
+use Rattle.catalog_command.specs.declared.refusal.LineFault.{LineFault}
+use Rattle.catalog_command.specs.declared.refusal.LineFault.TheVariants.{Row, Long, Twice, Full, Absent, Many}
+use Rattle.catalog_command.specs.declared.refusal.BadLine.{BadLine}
+use Rattle.catalog_command.specs.declared.refusal.CatalogRefusal.{CatalogRefusal}
+use Rattle.catalog_command.specs.declared.refusal.CatalogRefusal.TheVariants.{Cut, Line, ReadFault, ShelfFault, OutOfMemory}
 use Rattle.catalog_command.specs.declared.counts.Counts.{Counts}
 use Rattle.catalog_command.specs.Lines.{catalogue_of}
 use Rattle.catalog_command.specs.Files.{OnFiles, IsReplaced, IsUnfinished}
@@ -54,7 +54,7 @@ Says own line status held held' handed handed' = ((status ≡ own) × IsWritten 
 abbrev pub EndsBy : ℕ → ℕ → Option (List ℕ) → Option (List ℕ) → Option (List ℕ) → Option (List ℕ) → Type 0
 EndsBy own status held held' handed handed' = (status ≡ own) × IsSilent held held' handed handed'
 
-abbrev pub SaysOutcome : Result Counts Stop → ℕ → Option (List ℕ) → Option (List ℕ) → Option (List ℕ) → Option (List ℕ) → Type 0
+abbrev pub SaysOutcome : Result Counts CatalogRefusal → ℕ → Option (List ℕ) → Option (List ℕ) → Option (List ℕ) → Option (List ℕ) → Type 0
 SaysOutcome (Ok counts) = Says 0 (line_of (counts_text counts))
 SaysOutcome (Err (Line bad)) = Says 16 (line_of (bad_line_text bad))
 SaysOutcome (Err Cut) = EndsBy 4
@@ -69,7 +69,7 @@ counts_of catalogue = record { rows = length catalogue.rows; tiles = length (exi
 
 -- the outcome of what the input gives, over the files before and after: the tiles of its catalogue are on the shelf; or it
 -- gives none, and the shelf stays. A shelf that fails, or running out of memory, may stop it midway
-abbrev pub IsOutcome : Result Catalogue Stop → Option ShelfFiles → Option ShelfFiles → Result Counts Stop → Type 0
+abbrev pub IsOutcome : Result Catalogue CatalogRefusal → Option ShelfFiles → Option ShelfFiles → Result Counts CatalogRefusal → Type 0
 IsOutcome given old new (Ok counts) = IsOkAnd given (λ catalogue. (counts ≡ counts_of catalogue) × OnFiles (IsReplaced catalogue) old new)
 IsOutcome given old new (Err (Line bad)) = (given ≡ Err (Line bad)) × (new ≡ old)
 IsOutcome given old new (Err Cut) = (given ≡ Err Cut) × (new ≡ old)
@@ -81,4 +81,4 @@ IsOutcome given old new (Err OutOfMemory) = (new ≡ old) ⊎ IsOkAnd given (λ 
 -- flushed
 abbrev pub RunsCatalog : ℕ → ℕ → List ℕ → Option ShelfFiles → Option ShelfFiles → ℕ → Option (List ℕ) → Option (List ℕ) → Option (List ℕ) → Option (List ℕ) → Type 0
 RunsCatalog top per_tile input old new status held held' handed handed' =
-    (outcome : Result Counts Stop) × (IsOutcome (catalogue_of top per_tile input) old new outcome × SaysOutcome outcome status held held' handed handed')
+    (outcome : Result Counts CatalogRefusal) × (IsOutcome (catalogue_of top per_tile input) old new outcome × SaysOutcome outcome status held held' handed handed')

@@ -1,5 +1,5 @@
 -- Which rows are there after many lines, refused ones among them.
-use Rattle.std.specs.Prelude.{◌≡◌, ◌⊎◌, ◌↔◌, ℕ, true, false, List, [], ◌∷◌, drop, Ok, Err, ⊤}
+use Rattle.std.specs.Prelude.{◌≡◌, ◌⊎◌, ◌↔◌, ℕ, true, false, List, ◌∷◌, drop, Ok, Err, ⊤}
 use Rattle.hips_catalog.specs.Rows.{Source}
 use Rattle.hips_catalog.specs.Reading.{read_row}
 use Rattle.hips_catalog.specs.Catalogue.{Catalogue}

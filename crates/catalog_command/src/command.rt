@@ -1,16 +1,16 @@
 //! The whole command.
-ghost use Rattle.std.specs.Prelude.{◌≡◌, ◌≢◌, ℕ, ◌≤◌, List, Some, IfOk, OnOk, IsErrOf, Err};
+ghost use Rattle.std.specs.Prelude.{◌≡◌, ◌≢◌, ℕ, ◌≤◌, List, Some, IfOk, OnOk, nat_eq, Err};
 ghost use Rattle.std.specs.Io.KnownBytes.{IsAtEnd};
-ghost use Rattle.survey_link.specs.Link.{Rises};
+ghost use Rattle.survey_link.specs.Link.{CountsFault};
 ghost use Rattle.catalog_command.specs.Input.{OfInput};
 ghost use Rattle.catalog_command.specs.Lines.{catalogue_of};
-ghost use Rattle.catalog_command.specs.Stops.{CountsShelf};
+ghost use Rattle.catalog_command.specs.Stops.{read_failed, stopped_at_shelf};
 ghost use Rattle.catalog_command.specs.Run.{RunsCatalog, IsOutcome, SaysOutcome};
 
 use crate::counts::Counts;
 use crate::output::say;
 use crate::reading::read_catalog;
-use crate::stop::Stop;
+use crate::refusal::CatalogRefusal;
 use crate::tiles::put_tiles;
 use crate::words::{say_stop, say_written};
 use log::Log;
@@ -27,7 +27,7 @@ use survey_link::{Shelf, Sink, Source};
 /// |---|---|
 /// | 0 | the tiles are on the shelf, and the line is written |
 /// | 4 | the input ends within a line; the shelf stays |
-/// | 5, 6, 7 | the source's, the sink's, the shelf's count of faults rose |
+/// | 5, 6, 7 | the source's, the sink's, the shelf's count of faults rose, and does so at no other status |
 /// | 11 | there was no memory |
 /// | 16 | a line has a fault; `row LINE KIND` and LF are written, and the shelf stays |
 pub fn run_catalog<R, S, K, H>(
@@ -52,11 +52,9 @@ where
     ensures not_usage { result ≢ 1 }
     ensures not_opened { (result ≢ 2) × (result ≢ 3) }
     ensures not_door { result ≢ 8 }
-    ensures read_fault { result ≡ 5 → Rises (S.faults source.old) (S.faults source.new) }
-    ensures write_fault { result ≡ 6 → Rises (K.faults sink.old) (K.faults sink.new) }
-    ensures shelf_fault { result ≡ 7 → Rises (H.faults shelf.old) (H.faults shelf.new) }
-    ensures shelf_sound { result ≢ 7 → H.faults shelf.new ≡ H.faults shelf.old }
-    ensures write_memory { result ≡ 11 → K.faults sink.new ≡ K.faults sink.old }
+    ensures read_fault { CountsFault (nat_eq result 5) (S.faults source.old) (S.faults source.new) }
+    ensures write_fault { CountsFault (nat_eq result 6) (K.faults sink.old) (K.faults sink.new) }
+    ensures shelf_fault { CountsFault (nat_eq result 7) (H.faults shelf.old) (H.faults shelf.new) }
 {
     match put_catalog(rt, top, per_tile, source, shelf) {
         Ok(counts) => say(rt.alloc(), sink, 0, &counts),
@@ -74,7 +72,7 @@ fn put_catalog<R, S, H>(
     per_tile: u32,
     source: &mut S,
     shelf: &mut H,
-) -> Result<Counts, Stop>
+) -> Result<Counts, CatalogRefusal>
 where
     R: AllocGlobal + Clock + Log,
     S: Source,
@@ -85,8 +83,8 @@ where
     ensures outcome { OfInput (λ input. IsOutcome (catalogue_of top per_tile input) (H.files shelf.old) (H.files shelf.new) result)
         (S.left source.old) (S.left source.new) }
     ensures end { OnOk result (IsAtEnd (S.left source.new)) }
-    ensures read_fault { IsErrOf result Stop.ReadFault → Rises (S.faults source.old) (S.faults source.new) }
-    ensures shelf_counted { CountsShelf result (H.faults shelf.old) (H.faults shelf.new) }
+    ensures read_fault { CountsFault (read_failed result) (S.faults source.old) (S.faults source.new) }
+    ensures shelf_fault { CountsFault (stopped_at_shelf result) (H.faults shelf.old) (H.faults shelf.new) }
 {
     let catalog = read_catalog(rt, top, per_tile, source)?;
     let tiles = put_tiles(rt, shelf, &catalog)?;
@@ -96,23 +94,21 @@ where
 }
 
 // Writes why there is no catalogue, if that is written, and answers the status.
-fn end_by<K: Sink>(alloc: Global, sink: &mut K, stop: Stop) -> u8
+fn end_by<K: Sink>(alloc: Global, sink: &mut K, stop: CatalogRefusal) -> u8
     ensures said { SaysOutcome (Err stop) result (K.held sink.old) (K.held sink.new) (K.flushed sink.old) (K.flushed sink.new) }
     ensures not_usage { result ≢ 1 }
     ensures not_opened { (result ≢ 2) × (result ≢ 3) }
     ensures not_door { result ≢ 8 }
     ensures not_done { result ≢ 0 }
-    ensures read_fault { result ≡ 5 → stop ≡ Stop.ReadFault }
-    ensures write_fault { result ≡ 6 → Rises (K.faults sink.old) (K.faults sink.new) }
-    ensures shelf_fault { result ≡ 7 → stop ≡ Stop.ShelfFault }
-    ensures shelf_status { stop ≡ Stop.ShelfFault → result ≡ 7 }
-    ensures write_memory { result ≡ 11 → K.faults sink.new ≡ K.faults sink.old }
+    ensures read_fault { nat_eq result 5 ≡ read_failed {A = Counts} (Err stop) }
+    ensures write_fault { CountsFault (nat_eq result 6) (K.faults sink.old) (K.faults sink.new) }
+    ensures shelf_fault { nat_eq result 7 ≡ stopped_at_shelf {A = Counts} (Err stop) }
 {
     match stop {
-        Stop::Cut => 4,
-        Stop::Line(bad) => say(alloc, sink, 16, &bad),
-        Stop::ReadFault => 5,
-        Stop::ShelfFault => 7,
-        Stop::OutOfMemory => 11,
+        CatalogRefusal::Cut => 4,
+        CatalogRefusal::Line(bad) => say(alloc, sink, 16, &bad),
+        CatalogRefusal::ReadFault => 5,
+        CatalogRefusal::ShelfFault => 7,
+        CatalogRefusal::OutOfMemory => 11,
     }
 }

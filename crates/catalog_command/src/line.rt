@@ -5,7 +5,7 @@ ghost use Rattle.hips_catalog.specs.Reading.{read_row};
 ghost use Rattle.catalog_command.specs.Lines.{is_removal, after_removal, after_row, after_line};
 ghost use Rattle.catalog_command.specs.Answers.{IsAnswered};
 
-use crate::stop::LineFault;
+use crate::refusal::LineFault;
 use hips_catalog::laws::row_is_read;
 use hips_catalog::{Catalog, InsertRefusal, Row, RowFault, RowRefusal, is_id};
 use std::alloc::Global;

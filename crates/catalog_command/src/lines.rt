@@ -1,7 +1,7 @@
 //! The input, line by line.
-ghost use Rattle.std.specs.Prelude.{◌≡◌, ◌<◌, ◌≤◌, ◌++◌, ℕ, List, Option, length, None, Ok, IfOk, IfSome, IsNone, OnErr};
+ghost use Rattle.std.specs.Prelude.{◌≡◌, ◌<◌, ◌≤◌, ◌++◌, ℕ, List, Option, length, None, Ok, IfOk, IfSome, is_err, IsNone, OnErr};
 ghost use Rattle.std.specs.Io.KnownBytes.{Consumes, IsAtEnd};
-ghost use Rattle.survey_link.specs.Link.{Rises};
+ghost use Rattle.survey_link.specs.Link.{CountsFault};
 ghost use Rattle.survey_link.specs.Inbox.{held, size};
 ghost use Rattle.catalog_command.specs.Lines.{most_bytes};
 ghost use Rattle.catalog_command.specs.Unread.{place_of_feed, IsFound, Receives};
@@ -24,8 +24,7 @@ pub(crate) fn find<S: Source>(inbox: &mut Inbox, source: &mut S) -> Result<Found
     requires size { size inbox.old ≡ 65536 }
     ensures found { IfOk result (IsFound (held inbox.new) (S.left source.new)) }
     ensures received { Receives (held inbox.old) (held inbox.new) (S.left source.old) (S.left source.new) }
-    ensures failed { OnErr result (Rises (S.faults source.old) (S.faults source.new)) }
-    ensures never_falls { S.faults source.old ≤ S.faults source.new }
+    ensures faults { CountsFault (is_err result) (S.faults source.old) (S.faults source.new) }
     ensures size { size inbox.new ≡ size inbox.old }
 {
     'reading: loop {
@@ -46,8 +45,7 @@ fn read_more<S: Source>(inbox: &mut Inbox, source: &mut S) -> Result<usize, Fail
         × Consumes (S.left source.old) (S.left source.new) more) }
     ensures end { result ≡ Ok 0 → IsAtEnd (S.left source.new) }
     ensures kept { OnErr result ((held inbox.new ≡ held inbox.old) × (S.left source.new ≡ S.left source.old)) }
-    ensures failed { OnErr result (Rises (S.faults source.old) (S.faults source.new)) }
-    ensures never_falls { S.faults source.old ≤ S.faults source.new }
+    ensures faults { CountsFault (is_err result) (S.faults source.old) (S.faults source.new) }
     ensures size { size inbox.new ≡ size inbox.old }
 {
     inbox.move_to_front();

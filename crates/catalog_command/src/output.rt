@@ -1,7 +1,7 @@
 //! What the command writes.
-ghost use Rattle.std.specs.Prelude.{◌≡◌, ◌≢◌, ◌⊎◌, ◌≤◌, ℕ, List, Some, OnOk, OnErr};
+ghost use Rattle.std.specs.Prelude.{◌≡◌, ◌≢◌, ◌⊎◌, ◌≤◌, ℕ, List, Some, nat_eq, is_err, OnOk, OnErr};
 ghost use Rattle.std.specs.Io.KnownBytes.{Appends};
-ghost use Rattle.survey_link.specs.Link.{Rises, AppendsPrefix};
+ghost use Rattle.survey_link.specs.Link.{CountsFault, AppendsPrefix};
 ghost use Rattle.catalog_command.specs.Run.{Says, line_of};
 
 use std::alloc::Global;
@@ -14,8 +14,7 @@ pub(crate) fn say<T: Display, K: Sink>(alloc: Global, sink: &mut K, own: u8, sho
     ensures said { (text : List ℕ) → T.output shown.now ≡ Some text → Says own (line_of text) result
         (K.held sink.old) (K.held sink.new) (K.flushed sink.old) (K.flushed sink.new) }
     ensures status { (result ≡ own) ⊎ ((result ≡ 6) ⊎ (result ≡ 11)) }
-    ensures write_fault { own ≢ 6 → result ≡ 6 → Rises (K.faults sink.old) (K.faults sink.new) }
-    ensures write_memory { own ≢ 11 → result ≡ 11 → K.faults sink.new ≡ K.faults sink.old }
+    ensures write_fault { own ≢ 6 → CountsFault (nat_eq result 6) (K.faults sink.old) (K.faults sink.new) }
 {
     match format!(in alloc; "{shown}\n") {
         Ok(line) => match write_out(sink, line.as_bytes()) {
@@ -31,8 +30,7 @@ fn write_out<K: Sink>(sink: &mut K, bytes: &[u8]) -> Result<(), Failed>
     ensures whole { OnOk result (Appends (K.held sink.old) (K.held sink.new) bytes.now) }
     ensures part { OnErr result (AppendsPrefix (K.held sink.old) (K.held sink.new) bytes.now) }
     ensures flushed { OnOk result (K.flushed sink.new ≡ K.held sink.new) }
-    ensures failed { OnErr result (Rises (K.faults sink.old) (K.faults sink.new)) }
-    ensures never_falls { K.faults sink.old ≤ K.faults sink.new }
+    ensures faults { CountsFault (is_err result) (K.faults sink.old) (K.faults sink.new) }
 {
     write_whole(sink, bytes)?;
     sink.flush()

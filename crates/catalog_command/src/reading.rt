@@ -1,19 +1,19 @@
 //! The catalogue of an input of lines.
-ghost use Rattle.std.specs.Prelude.{◌≡◌, ℕ, ◌+◌, ◌<◌, ◌≤◌, ◌++◌, List, Some, Option, true, false, Ok, IfOk, OnOk, IfErr, IsErrOf};
-ghost use Rattle.survey_link.specs.Link.{Rises};
+ghost use Rattle.std.specs.Prelude.{◌≡◌, ℕ, ◌+◌, ◌<◌, ◌≤◌, ◌++◌, List, Some, Option, true, false, Ok, IfOk, OnOk, IfErr};
+ghost use Rattle.survey_link.specs.Link.{CountsFault};
 ghost use Rattle.std.specs.Io.KnownBytes.{IsAtEnd};
 ghost use Rattle.hips_catalog.specs.Catalogue.{Catalogue, no_rows};
 ghost use Rattle.survey_link.specs.Inbox.{held, size};
 ghost use Rattle.catalog_command.specs.Input.{OfInput};
 ghost use Rattle.catalog_command.specs.Lines.{after_input, after_line, catalogue_of, most_lines, then_lines};
-ghost use Rattle.catalog_command.specs.Stops.{TellsStop, IsReading};
+ghost use Rattle.catalog_command.specs.Stops.{TellsStop, IsReading, read_failed};
 ghost use Rattle.catalog_command.specs.Judging.{judged, numbered, TakesLine};
 
 use crate::found::Found;
 use crate::line::{LineRefusal, use_line};
 use crate::lines::{ROOM, find};
 use crate::progress::Progress;
-use crate::stop::{BadLine, LineFault, Stop};
+use crate::refusal::{BadLine, CatalogRefusal, LineFault};
 use hips_catalog::Catalog;
 use log::Log;
 use std::alloc::Global;
@@ -34,7 +34,7 @@ pub(crate) fn read_catalog<R: AllocGlobal + Clock + Log, S: Source>(
     top: u8,
     per_tile: u32,
     source: &mut S,
-) -> Result<Catalog, Stop>
+) -> Result<Catalog, CatalogRefusal>
     requires top { top ≤ 11 }
     requires least { 1 ≤ per_tile }
     requires most { per_tile ≤ 4096 }
@@ -42,8 +42,7 @@ pub(crate) fn read_catalog<R: AllocGlobal + Clock + Log, S: Source>(
     ensures stopped { IfErr result (λ stop. OfInput (λ input. TellsStop (catalogue_of top per_tile input) stop) (S.left source.old) (S.left source.new)) }
     ensures kinds { IfErr result IsReading }
     ensures end { OnOk result (IsAtEnd (S.left source.new)) }
-    ensures failed { IsErrOf result Stop.ReadFault → Rises (S.faults source.old) (S.faults source.new) }
-    ensures never_falls { S.faults source.old ≤ S.faults source.new }
+    ensures faults { CountsFault (read_failed result) (S.faults source.old) (S.faults source.new) }
 {
     let mut catalog = Catalog::new(rt.alloc(), top, per_tile);
     let mut inbox = Inbox::new(rt.alloc(), ROOM)?;
@@ -66,7 +65,7 @@ fn take_line<S: Source>(
     number: u64,
     top: u8,
     catalog: &mut Catalog,
-) -> Result<bool, Stop>
+) -> Result<bool, CatalogRefusal>
     requires top { catalog.old.top ≡ top }
     requires few { top ≤ 11 }
     requires size { size inbox.old ≡ 65536 }
@@ -81,8 +80,7 @@ fn take_line<S: Source>(
     ensures end { result ≡ Ok false → IsAtEnd (S.left source.new) }
     ensures more { result ≡ Ok true → number ≤ most_lines }
     ensures top { catalog.new.top ≡ catalog.old.top }
-    ensures failed { IsErrOf result Stop.ReadFault → Rises (S.faults source.old) (S.faults source.new) }
-    ensures never_falls { S.faults source.old ≤ S.faults source.new }
+    ensures faults { CountsFault (read_failed result) (S.faults source.old) (S.faults source.new) }
 {
     let found = find(inbox, source)?;
     match judged(number, found)? {
@@ -99,7 +97,7 @@ fn take_line<S: Source>(
 }
 
 // How many bytes the line of this number has, by what comes next; `None` at the end of the input.
-fn judged(number: u64, found: Found) -> Result<Option<usize>, Stop>
+fn judged(number: u64, found: Found) -> Result<Option<usize>, CatalogRefusal>
     ensures judged { result ≡ judged number found }
     ensures kinds { IfErr result IsReading }
 {
@@ -112,26 +110,26 @@ fn judged(number: u64, found: Found) -> Result<Option<usize>, Stop>
     match found {
         Found::Line(count) => Ok(Some(count)),
         Found::Long => Err(stop_at(number, LineFault::Long)),
-        Found::Cut => Err(Stop::Cut),
+        Found::Cut => Err(CatalogRefusal::Cut),
         Found::End => Ok(None),
     }
 }
 
 // What use was made of a line, as that of this number.
-fn used(number: u64, used: Result<(), LineRefusal>) -> Result<(), Stop>
+fn used(number: u64, used: Result<(), LineRefusal>) -> Result<(), CatalogRefusal>
     ensures numbered { result ≡ numbered number used }
     ensures kinds { IfErr result IsReading }
 {
     match used {
         Ok(()) => Ok(()),
         Err(LineRefusal::Fault(fault)) => Err(stop_at(number, fault)),
-        Err(LineRefusal::OutOfMemory) => Err(Stop::OutOfMemory),
+        Err(LineRefusal::OutOfMemory) => Err(CatalogRefusal::OutOfMemory),
     }
 }
 
 // The fault of the line of this number.
-fn stop_at(line: u64, fault: LineFault) -> Stop
-    ensures { result ≡ Stop.Line (record { line = line; fault = fault }) }
+fn stop_at(line: u64, fault: LineFault) -> CatalogRefusal
+    ensures { result ≡ CatalogRefusal.Line (record { line = line; fault = fault }) }
 {
-    Stop::Line(BadLine { line, fault })
+    CatalogRefusal::Line(BadLine { line, fault })
 }

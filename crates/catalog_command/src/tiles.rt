@@ -1,10 +1,10 @@
 //! The tiles of a catalogue, put on a shelf.
 ghost use Rattle.std.specs.Prelude.{◌≡◌, ◌≤◌, ◌<◌, ℕ, length, map, true, string_bytes, option_map, slice_get, Some, IfOk, OnOk, OnErr};
-ghost use Rattle.survey_link.specs.Shelf.{Finds, OthersStay as OtherPathsStay};
+ghost use Rattle.survey_link.specs.Link.{CountsFault};
+ghost use Rattle.survey_link.specs.Shelf.{Finds, OthersStay as OtherPathsStay, shelf_failed};
 ghost use Rattle.tile_path.specs.Spelling.{IsTile, catalogue_spelling};
 ghost use Rattle.hips_catalog.specs.Catalogue.{existing_tiles};
 ghost use Rattle.hips_catalog.specs.TileText.{tile_text};
-ghost use Rattle.catalog_command.specs.Stops.{CountsFault};
 ghost use Rattle.catalog_command.specs.Files.{OnFiles, OnOneShelf, IsReplaced, IsUnfinished, IsCleared, IsClearing, IsFilled, IsFilling};
 ghost use Rattle.catalog_command.specs.Steps.{Clears, ClearsPath, IsTilePath, HasRight, FillsTile};
 
@@ -35,7 +35,7 @@ pub(crate) fn put_tiles<R: AllocGlobal + Clock + Log, H: Shelf>(
     ensures count { IfOk result (λ count. count ≡ length (existing_tiles catalog.now)) }
     ensures replaced { OnOk result (OnFiles (IsReplaced catalog.now) (H.files shelf.old) (H.files shelf.new)) }
     ensures refused { OnErr result (OnFiles (IsUnfinished catalog.now) (H.files shelf.old) (H.files shelf.new)) }
-    ensures counted { CountsFault result (H.faults shelf.old) (H.faults shelf.new) }
+    ensures faults { CountsFault (shelf_failed result) (H.faults shelf.old) (H.faults shelf.new) }
 {
     clear(rt.alloc(), shelf, catalog)?;
     fill(rt, shelf, catalog)
@@ -45,7 +45,7 @@ pub(crate) fn put_tiles<R: AllocGlobal + Clock + Log, H: Shelf>(
 fn clear<H: Shelf>(alloc: Global, shelf: &mut H, catalog: &Catalog) -> Result<(), LinkFault>
     ensures cleared { OnOk result (OnFiles (IsCleared catalog.now) (H.files shelf.old) (H.files shelf.new)) }
     ensures refused { OnErr result (OnFiles IsClearing (H.files shelf.old) (H.files shelf.new)) }
-    ensures counted { CountsFault result (H.faults shelf.old) (H.faults shelf.new) }
+    ensures faults { CountsFault (shelf_failed result) (H.faults shelf.old) (H.faults shelf.new) }
 {
     let paths = shelf.list(alloc)?;
     clear_paths(alloc, shelf, catalog, &paths)
@@ -60,7 +60,7 @@ fn clear_paths<H: Shelf>(
 ) -> Result<(), LinkFault>
     ensures cleared { OnOk result (OnFiles (Clears catalog.now (map string_bytes paths.now)) (H.files shelf.old) (H.files shelf.new)) }
     ensures refused { OnErr result (OnFiles IsClearing (H.files shelf.old) (H.files shelf.new)) }
-    ensures counted { CountsFault result (H.faults shelf.old) (H.faults shelf.new) }
+    ensures faults { CountsFault (shelf_failed result) (H.faults shelf.old) (H.faults shelf.new) }
 {
     for path in paths {
         clear_path(alloc, shelf, catalog, path)?;
@@ -77,7 +77,7 @@ fn clear_path<H: Shelf>(
 ) -> Result<(), LinkFault>
     ensures cleared { OnOk result (OnFiles (ClearsPath catalog.now path.now) (H.files shelf.old) (H.files shelf.new)) }
     ensures refused { OnErr result (IsTilePath path.now × OtherPathsStay path.now (H.files shelf.old) (H.files shelf.new)) }
-    ensures counted { CountsFault result (H.faults shelf.old) (H.faults shelf.new) }
+    ensures faults { CountsFault (shelf_failed result) (H.faults shelf.old) (H.faults shelf.new) }
 {
     match read_tsv(path.as_bytes()) {
         None => Ok(()),
@@ -100,7 +100,7 @@ fn is_right<H: Shelf>(
 ) -> Result<bool, LinkFault>
     ensures right { IfOk result (λ right. right ≡ true → OnOneShelf (HasRight catalog.now cell path.now) (H.files shelf.old)) }
     ensures kept { H.files shelf.new ≡ H.files shelf.old }
-    ensures counted { CountsFault result (H.faults shelf.old) (H.faults shelf.new) }
+    ensures faults { CountsFault (shelf_failed result) (H.faults shelf.old) (H.faults shelf.new) }
 {
     match catalog.text(cell) {
         Ok(None) => Ok(false),
@@ -121,7 +121,7 @@ fn fill<R: AllocGlobal + Clock + Log, H: Shelf>(
     ensures count { IfOk result (λ count. count ≡ length (existing_tiles catalog.now)) }
     ensures filled { OnOk result (OnFiles (IsFilled catalog.now) (H.files shelf.old) (H.files shelf.new)) }
     ensures refused { OnErr result (OnFiles (IsFilling catalog.now) (H.files shelf.old) (H.files shelf.new)) }
-    ensures counted { CountsFault result (H.faults shelf.old) (H.faults shelf.new) }
+    ensures faults { CountsFault (shelf_failed result) (H.faults shelf.old) (H.faults shelf.new) }
 {
     // For the prover: two tiles have two paths, and the catalogue's orders end at 11.
     catalogue_spellings_differ();
@@ -146,7 +146,7 @@ fn fill_tile<H: Shelf>(
     requires { cell.order ≤ 11 }
     ensures filled { OnOk result (OnFiles (FillsTile catalog.now cell) (H.files shelf.old) (H.files shelf.new)) }
     ensures refused { OnErr result (OtherPathsStay (catalogue_spelling cell.order cell.npix) (H.files shelf.old) (H.files shelf.new)) }
-    ensures counted { CountsFault result (H.faults shelf.old) (H.faults shelf.new) }
+    ensures faults { CountsFault (shelf_failed result) (H.faults shelf.old) (H.faults shelf.new) }
 {
     match catalog.text(cell) {
         Ok(None) => Ok(()),

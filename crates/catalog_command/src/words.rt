@@ -1,13 +1,14 @@
 //! What is logged.
-use crate::stop::{BadLine, LineFault, Stop};
+use crate::refusal::{BadLine, CatalogRefusal, LineFault};
 use log::{Log, error, info};
 
 /// Logs why no catalogue was put on the shelf, if the reason lies in the input.
-pub(crate) fn say_stop<R: Log>(rt: &R, stop: Stop) {
+pub(crate) fn say_stop<R: Log>(rt: &R, stop: CatalogRefusal) {
     match stop {
-        Stop::Cut => error!(rt; "the last line has no line feed: the input may be cut off"),
-        Stop::Line(bad) => say_bad_line(rt, bad),
-        Stop::ReadFault | Stop::ShelfFault | Stop::OutOfMemory => {}
+        CatalogRefusal::Cut =>
+            error!(rt; "the last line has no line feed: the input may be cut off"),
+        CatalogRefusal::Line(bad) => say_bad_line(rt, bad),
+        CatalogRefusal::ReadFault | CatalogRefusal::ShelfFault | CatalogRefusal::OutOfMemory => {}
     }
 }
 

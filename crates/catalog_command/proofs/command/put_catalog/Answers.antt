@@ -3,8 +3,8 @@ use Rattle.catalog_command.specs.declared.counts.Counts.{Counts}
 use Rattle.catalog_command.proofs.Outcomes.{nothing_read, reading_counts}
 use Rattle.catalog_command.proofs.command.put_catalog.Goals as goal
 
-pub returns-in_err-catalog-clause-shelf_counted : goal.returns-in_err-catalog-clause-shelf_counted
-returns-in_err-catalog-clause-shelf_counted g c =
+pub returns-in_err-catalog-clause-shelf_fault : goal.returns-in_err-catalog-clause-shelf_fault
+returns-in_err-catalog-clause-shelf_fault g c =
     let p = err_from_is_err_and c.from_residual.result c.from_residual.ensures.1 in
     let same = reading_counts Counts c.in_err-catalog.field-0.0 (g.H.Shelf.faults c.args.shelf.now) c.in_err-catalog.ensures.kinds in
     rw (p.1, p.2) same

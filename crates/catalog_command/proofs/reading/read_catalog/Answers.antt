@@ -1,8 +1,7 @@
-use Rattle.std.proofs.Common.{◌≡◌, Bool, true, Result, Ok, ap, ◌∙◌, arith}
-use Rattle.std.proofs.Math.Nat.{le_refl}
+use Rattle.std.proofs.Common.{◌≡◌, refl, Bool, true, Result, Ok, ap, ◌∙◌, arith}
 use Rattle.std.proofs.lemmas.Result.{err_from_is_err_and}
 use Rattle.hips_catalog.specs.Catalogue.{Catalogue}
-use Rattle.catalog_command.specs.declared.stop.Stop.{Stop}
+use Rattle.catalog_command.specs.declared.refusal.CatalogRefusal.{CatalogRefusal}
 use Rattle.catalog_command.specs.Lines.{catalogue_of}
 use Rattle.survey_link.specs.Inbox.{held}
 use Rattle.catalog_command.specs.Stops.{TellsStop}
@@ -27,17 +26,17 @@ lines-init g c = record {
   few = omega arith;
   top = ap (λ (d : Catalogue). d.top) c.new-catalog.ensures;
   size = c.in_ok-inbox.ensures.size;
-  faults = le_refl (g.S.Source.faults c.args.source.now);
+  faults = refl;
 }
 
 pub lines-preserved : goal.lines-preserved
 lines-preserved g c =
-    let more : ◌≡◌ {A = Result Bool Stop} (Ok c.in_ok-take_line.field-0) (Ok true) = ap (λ (b : Bool). Ok b) c.if-not-branch.false in
+    let more : ◌≡◌ {A = Result Bool CatalogRefusal} (Ok c.in_ok-take_line.field-0) (Ok true) = ap (λ (b : Bool). Ok b) c.if-not-branch.false in
     record {
       reads = gone_on (catalogue_of c.args.top c.args.per_tile) c.lines.catalog c.lines.number (held c.lines.inbox) (g.S.Source.left c.args.source.now) (g.S.Source.left c.lines.source)
           c.take_line.new.catalog (held c.take_line.new.inbox) (g.S.Source.left c.take_line.new.source) c.lines.invariant.reads (c.in_ok-take_line.ensures.taken more);
       few = omega (arith, c.in_ok-take_line.ensures.more more);
       top = c.in_ok-take_line.ensures.top ∙ c.lines.invariant.top;
       size = c.in_ok-take_line.ensures.size ∙ c.lines.invariant.size;
-      faults = omega (arith, c.lines.invariant.faults, c.in_ok-take_line.ensures.never_falls);
+      faults = c.in_ok-take_line.ensures.faults ∙ c.lines.invariant.faults;
     }

@@ -10,7 +10,7 @@ invariant-lines g l = record {
   few : l.number ≤ most_lines + 1;
   top : l.catalog.top ≡ l.top;
   size : size l.inbox ≡ 65536;
-  faults : g.S.Source.faults l.fn.source ≤ g.S.Source.faults l.source;
+  faults : g.S.Source.faults l.source ≡ g.S.Source.faults l.fn.source;
 }
 
 -- how many lines there may still be

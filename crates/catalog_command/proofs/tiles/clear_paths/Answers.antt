@@ -1,9 +1,10 @@
-use Rattle.std.proofs.Common.{◌+◌, map, take, string_bytes, subst, ◌∙◌}
+use Rattle.std.proofs.Common.{◌+◌, Err, map, take, string_bytes, subst, ◌∙◌}
 use Rattle.std.proofs.lemmas.Result.{err_from_is_err_and}
 use Rattle.catalog_command.specs.Files.{OnFiles}
 use Rattle.catalog_command.specs.Steps.{ClearsPath}
 use Rattle.catalog_command.proofs.Shelves.{clearing_goes_on, clearing_fails, map_more}
-use Rattle.catalog_command.proofs.Outcomes.{counts_later}
+use Rattle.survey_link.specs.Link.{CountsFault}
+use Rattle.survey_link.specs.Shelf.{shelf_failed}
 use Rattle.catalog_command.proofs.tiles.clear_paths.Goals as goal
 
 pub loop-path-preserved : goal.loop-path-preserved
@@ -15,13 +16,13 @@ loop-path-preserved g c =
     record {
       clears = clearing_goes_on c.args.catalog.now (map string_bytes (take c.loop-path.path-index c.args.paths.now)) (map string_bytes (take (c.loop-path.path-index + 1) c.args.paths.now)) (string_bytes c.path-item.result) old now new
           (map_more string_bytes c.args.paths.now c.loop-path.path-index c.path-item.result c.loop-path-test.true c.path-item.is) c.loop-path.invariant.clears step;
-      faults = c.in_ok-clear_path.ensures.counted ∙ c.loop-path.invariant.faults;
+      faults = c.in_ok-clear_path.ensures.faults ∙ c.loop-path.invariant.faults;
     }
 
-pub returns-in_err-clear_path-clause-counted : goal.returns-in_err-clear_path-clause-counted
-returns-in_err-clear_path-clause-counted g c =
+pub returns-in_err-clear_path-clause-faults : goal.returns-in_err-clear_path-clause-faults
+returns-in_err-clear_path-clause-faults g c =
     let p = err_from_is_err_and c.from_residual.result c.from_residual.ensures.1 in
-    rw (p.1, p.2) (counts_later (Unit {0}) c.in_err-clear_path.field-0.0 (g.H.Shelf.faults c.args.shelf.now) (g.H.Shelf.faults c.loop-path.shelf) (g.H.Shelf.faults c.clear_path.new.shelf) c.loop-path.invariant.faults c.in_err-clear_path.ensures.counted)
+    rw (p.1, p.2) (subst (λ count. CountsFault (shelf_failed {A = Unit {0}} (Err c.in_err-clear_path.field-0.0)) count (g.H.Shelf.faults c.clear_path.new.shelf)) c.loop-path.invariant.faults c.in_err-clear_path.ensures.faults)
 
 pub returns-in_err-clear_path-clause-refused : goal.returns-in_err-clear_path-clause-refused
 returns-in_err-clear_path-clause-refused g c =

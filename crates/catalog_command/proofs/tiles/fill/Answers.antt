@@ -1,9 +1,10 @@
-use Rattle.std.proofs.Common.{ℕ, sym, ◌∙◌, arith}
+use Rattle.std.proofs.Common.{ℕ, Err, sym, subst, ◌∙◌, arith}
 use Rattle.std.proofs.lemmas.Result.{err_from_is_err_and}
 use Rattle.hips_catalog.specs.Catalogue.{existing_tiles}
 use Rattle.catalog_command.proofs.Existing.{are_tiles, are_all, are_few}
 use Rattle.catalog_command.proofs.Shelves.{inside, beyond, filling_goes_on, filling_fails, filling_ends}
-use Rattle.catalog_command.proofs.Outcomes.{counts_later}
+use Rattle.survey_link.specs.Link.{CountsFault}
+use Rattle.survey_link.specs.Shelf.{shelf_failed}
 use Rattle.catalog_command.proofs.tiles.fill.Goals as goal
 
 pub fill_tile-requires : goal.fill_tile-requires
@@ -16,10 +17,10 @@ returns-in_err-fill_tile-clause-refused g c =
     rw p.1 (filling_fails c.args.catalog.now c.tiles.count c.in-Some.cell (g.H.Shelf.files c.args.shelf.now) (g.H.Shelf.files c.tiles.shelf) (g.H.Shelf.files c.fill_tile.new.shelf) tile
     c.tiles.invariant.fills c.in_err-fill_tile.ensures.refused)
 
-pub returns-in_err-fill_tile-clause-counted : goal.returns-in_err-fill_tile-clause-counted
-returns-in_err-fill_tile-clause-counted g c =
+pub returns-in_err-fill_tile-clause-faults : goal.returns-in_err-fill_tile-clause-faults
+returns-in_err-fill_tile-clause-faults g c =
     let p = err_from_is_err_and c.from_residual.result c.from_residual.ensures.1 in
-    rw (p.1, p.2) (counts_later ℕ c.in_err-fill_tile.field-0.0 (g.H.Shelf.faults c.args.shelf.now) (g.H.Shelf.faults c.tiles.shelf) (g.H.Shelf.faults c.fill_tile.new.shelf) c.tiles.invariant.faults c.in_err-fill_tile.ensures.counted)
+    rw (p.1, p.2) (subst (λ count. CountsFault (shelf_failed {A = ℕ} (Err c.in_err-fill_tile.field-0.0)) count (g.H.Shelf.faults c.fill_tile.new.shelf)) c.tiles.invariant.faults c.in_err-fill_tile.ensures.faults)
 
 pub overflow_add-count : goal.overflow_add-count
 overflow_add-count g c =
@@ -39,7 +40,7 @@ tiles-preserved g c =
       fills = filling_goes_on c.catalogue_spellings_differ.ensures c.args.catalog.now (are_tiles c.args.catalog.now c.len-rows.ensures.known.top) c.tiles.count c.in-Some.cell
           (g.H.Shelf.files c.args.shelf.now) (g.H.Shelf.files c.tiles.shelf) (g.H.Shelf.files c.fill_tile.new.shelf) (sym c.in-Some.ensures) c.tiles.invariant.fills c.in_ok-fill_tile.ensures.filled;
       within = omega (arith, low);
-      faults = c.in_ok-fill_tile.ensures.counted ∙ c.tiles.invariant.faults;
+      faults = c.in_ok-fill_tile.ensures.faults ∙ c.tiles.invariant.faults;
     }
 
 pub returns-clause-count : goal.returns-clause-count

@@ -60,7 +60,7 @@ impl fmt::Display for BadLine {
 
 /// Why no catalogue was put on the shelf, or not all of it.
 #[derive(Clone, Copy, Debug, PartialEq, Eq)]
-pub enum Stop {
+pub enum CatalogRefusal {
     /// The input ends within a line.
     Cut,
     /// A line has a fault.
@@ -73,35 +73,35 @@ pub enum Stop {
     OutOfMemory,
 }
 
-impl From<AllocError> for Stop {
-    ghost use Rattle.catalog_command.specs.declared.stop.Stop.TheVariants.{OutOfMemory};
+impl From<AllocError> for CatalogRefusal {
+    ghost use Rattle.catalog_command.specs.declared.refusal.CatalogRefusal.TheVariants.{OutOfMemory};
 
     ghost from_gives = { λ _ stop. stop ≡ OutOfMemory };
 
-    fn from(_: AllocError) -> Stop {
-        Stop::OutOfMemory
+    fn from(_: AllocError) -> CatalogRefusal {
+        CatalogRefusal::OutOfMemory
     }
 }
 
-impl From<Failed> for Stop {
-    ghost use Rattle.catalog_command.specs.declared.stop.Stop.TheVariants.{ReadFault};
+impl From<Failed> for CatalogRefusal {
+    ghost use Rattle.catalog_command.specs.declared.refusal.CatalogRefusal.TheVariants.{ReadFault};
 
     ghost from_gives = { λ _ stop. stop ≡ ReadFault };
 
-    fn from(_: Failed) -> Stop {
-        Stop::ReadFault
+    fn from(_: Failed) -> CatalogRefusal {
+        CatalogRefusal::ReadFault
     }
 }
 
-impl From<LinkFault> for Stop {
+impl From<LinkFault> for CatalogRefusal {
     ghost use Rattle.catalog_command.specs.Stops.{of_link};
 
     ghost from_gives = { λ fault stop. stop ≡ of_link fault };
 
-    fn from(fault: LinkFault) -> Stop {
+    fn from(fault: LinkFault) -> CatalogRefusal {
         match fault {
-            LinkFault::Failed => Stop::ShelfFault,
-            LinkFault::OutOfMemory => Stop::OutOfMemory,
+            LinkFault::Failed => CatalogRefusal::ShelfFault,
+            LinkFault::OutOfMemory => CatalogRefusal::OutOfMemory,
         }
     }
 }
