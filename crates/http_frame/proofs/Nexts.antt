@@ -94,20 +94,20 @@ at_end : (held held' xs ys : List ℕ) → Takes held held' (Some xs) (Some ys) 
 at_end held held' xs ys takes end =
     same_bytes held held' (Some xs) (Some ys) takes xs ys refl refl ∙ ap (λ rest. held' ++ rest) end ∙ append-nil held'
 
-pub stops_head : (old new : FrameState) (left left' : Option (List ℕ)) (faults faults' : ℕ) (stop : Stop)
-    → Takes old.held new.held left left' → StopsFill new.held left' faults faults' stop → StopsHead old new left faults faults' stop
-stops_head old new None left' faults faults' End takes stops = tt
-stops_head old new (Some xs) None faults faults' End takes stops = absurd takes.consumed
-stops_head old new (Some xs) (Some ys) faults faults' End takes stops = at_end old.held new.held xs ys takes stops.1 ∙ stops.0
-stops_head old new None left' faults faults' Cut takes stops = tt
-stops_head old new (Some xs) None faults faults' Cut takes stops = absurd takes.consumed
-stops_head old new (Some xs) (Some ys) faults faults' Cut takes stops =
+pub stops_head : (old new : FrameState) (left left' : Option (List ℕ)) (stop : Stop)
+    → Takes old.held new.held left left' → StopsFill new.held left' stop → StopsHead old new left stop
+stops_head old new None left' End takes stops = tt
+stops_head old new (Some xs) None End takes stops = absurd takes.consumed
+stops_head old new (Some xs) (Some ys) End takes stops = at_end old.held new.held xs ys takes stops.1 ∙ stops.0
+stops_head old new None left' Cut takes stops = tt
+stops_head old new (Some xs) None Cut takes stops = absurd takes.consumed
+stops_head old new (Some xs) (Some ys) Cut takes stops =
     rw (at_end old.held new.held xs ys takes stops.2) (record { some = stops.0; short = stops.1.short; none = stops.1.none })
-stops_head old new None left' faults faults' (Refuse code) takes stops = tt
-stops_head old new (Some xs) None faults faults' (Refuse code) takes stops = absurd takes.consumed
-stops_head old new (Some xs) (Some ys) faults faults' (Refuse code) takes stops =
+stops_head old new None left' (Refuse code) takes stops = tt
+stops_head old new (Some xs) None (Refuse code) takes stops = absurd takes.consumed
+stops_head old new (Some xs) (Some ys) (Refuse code) takes stops =
     rw (same_bytes old.held new.held (Some xs) (Some ys) takes xs ys refl refl, stops.0) (endless_of_more old.room new.held ys stops.2 stops.1)
-stops_head old new left left' faults faults' ReadFault takes stops = stops
+stops_head old new left left' ReadFault takes stops = stops
 
 -- ---- bodies
 

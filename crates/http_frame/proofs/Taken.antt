@@ -1,9 +1,6 @@
 -- The bytes that are taken of those held and of those that come behind them.
 use Rattle.std.proofs.Common.{◌≡◌, ℕ, ◌+◌, ◌≤◌, ◌<◌, ◌⊎◌, inl, inr, List, [], ◌++◌, length, take, Option, sym, ap, subst, ◌∙◌, arith, length-append}
-use Rattle.std.proofs.lemmas.List.{length-take-le, take-append-le, take_all, append-nil, nil_from_length, with_items_is}
-use Rattle.std.specs.Prelude.{Vec}
-use Rattle.std.specs.Vec.{with_items}
-use Rattle.std.specs.declared.alloc.Global.{Global}
+use Rattle.std.proofs.lemmas.List.{length-take-le, take-append-le, append-nil, nil_from_length}
 use Rattle.std.proofs.Math.Seq.{take-append-add}
 use Rattle.http_frame.specs.Fill.{Takes, EndsShort}
 use Rattle.http_frame.specs.Frame.{IsShort}

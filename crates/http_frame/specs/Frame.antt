@@ -2,7 +2,6 @@
 use Rattle.std.specs.Prelude.{◌≡◌, ℕ, ◌<◌, List, [], ◌++◌, length, take, Option, Some, IfSome, IsSomeAnd, Result, Ok, Err, IfOk, IfErr, OnOk, ⊤}
 use Rattle.std.specs.Borrow.{Bor}
 use Rattle.std.specs.Io.KnownBytes.{prepend_known}
-use Rattle.survey_link.specs.Link.{Rises}
 use Rattle.http_frame.specs.declared.request.Request.{Request}
 use Rattle.http_frame.specs.declared.stop.Stop.{Stop}
 use Rattle.http_frame.specs.declared.stop.Stop.TheVariants.{End, Cut, ReadFault, Refuse}
@@ -44,19 +43,19 @@ pub record ReadsHead (old new : FrameState) (left left' : Option (List ℕ)) (re
   pub next : IfSome (unread old left) (λ bytes. IsSomeAnd (unread new left') (λ rest. IsNextHead old.room bytes (found request new.path rest)))
   pub turn : new.turn ≡ AtBody request.length
 
--- why no head was read, where the source's count of faults went from faults to faults'
-abbrev pub StopsHead : FrameState → FrameState → Option (List ℕ) → ℕ → ℕ → Stop → Type 0
-StopsHead old new left faults faults' End = NextIs old.room (unread old left) ended
-StopsHead old new left faults faults' Cut = NextIs old.room (unread old left) cut_off
-StopsHead old new left faults faults' (Refuse code) = NextIs old.room (unread old left) (refused code)
-StopsHead old new left faults faults' ReadFault = Rises faults faults' × NeedsMore new.held
+-- why no head was read
+abbrev pub StopsHead : FrameState → FrameState → Option (List ℕ) → Stop → Type 0
+StopsHead old new left End = NextIs old.room (unread old left) ended
+StopsHead old new left Cut = NextIs old.room (unread old left) cut_off
+StopsHead old new left (Refuse code) = NextIs old.room (unread old left) (refused code)
+StopsHead old new left ReadFault = NeedsMore new.held
 
 -- no body was read of n bytes
-abbrev pub StopsBody : ℕ → FrameState → FrameState → Option (List ℕ) → ℕ → ℕ → Stop → Type 0
-StopsBody n old new left faults faults' Cut = IfSome (unread old left) (λ bytes. length bytes < n)
-StopsBody n old new left faults faults' ReadFault = Rises faults faults' × (length new.held < n)
-StopsBody n old new left faults faults' End = ⊥
-StopsBody n old new left faults faults' (Refuse code) = ⊥
+abbrev pub StopsBody : ℕ → FrameState → FrameState → Option (List ℕ) → Stop → Type 0
+StopsBody n old new left Cut = IfSome (unread old left) (λ bytes. length bytes < n)
+StopsBody n old new left ReadFault = length new.held < n
+StopsBody n old new left End = ⊥
+StopsBody n old new left (Refuse code) = ⊥
 
 -- the unread bytes are what they were, where the proof can see them
 abbrev pub KeepsUnread : FrameState → FrameState → Option (List ℕ) → Option (List ℕ) → Type 0
@@ -82,23 +81,23 @@ abbrev pub GivesFront : ℕ → List ℕ → Result (Bor (List ℕ)) Stop → Ty
 GivesFront n bytes result = IfOk result (λ body. body.now ≡ take n bytes)
 
 -- where a frame that was at a body of n bytes is after it was asked for it
-pub record LeavesBodyOf (n : ℕ) (old new : FrameState) (left left' : Option (List ℕ)) (faults faults' : ℕ) (result : Result (List ℕ) Stop) : Type 0 where
+pub record LeavesBodyOf (n : ℕ) (old new : FrameState) (left left' : Option (List ℕ)) (result : Result (List ℕ) Stop) : Type 0 where
   pub read : IfOk result (λ body. IfSome (unread old left) (λ bytes. IsSomeAnd (unread new left') (λ rest. bytes ≡ body ++ rest)))
   pub turn : OnOk result (new.turn ≡ AtHead)
   pub exact : length old.held < n → OnOk result (new.held ≡ [])
   pub stopped : IfErr result (IsStopped old new left left')
-  pub stop : IfErr result (StopsBody n old new left faults faults')
+  pub stop : IfErr result (StopsBody n old new left)
 
 -- where a frame is after it was asked for a body
-abbrev pub LeavesBodyAt : Turn → FrameState → FrameState → Option (List ℕ) → Option (List ℕ) → ℕ → ℕ → Result (List ℕ) Stop → Type 0
-LeavesBodyAt AtHead old new left left' faults faults' result = ⊤
-LeavesBodyAt (AtBody n) old new left left' faults faults' result = LeavesBodyOf n old new left left' faults faults' result
-LeavesBodyAt (Stopped stop) old new left left' faults faults' result = new ≡ old
+abbrev pub LeavesBodyAt : Turn → FrameState → FrameState → Option (List ℕ) → Option (List ℕ) → Result (List ℕ) Stop → Type 0
+LeavesBodyAt AtHead old new left left' result = ⊤
+LeavesBodyAt (AtBody n) old new left left' result = LeavesBodyOf n old new left left' result
+LeavesBodyAt (Stopped stop) old new left left' result = new ≡ old
 
-pub record LeavesBody (old new : FrameState) (left left' : Option (List ℕ)) (faults faults' : ℕ) (result : Result (List ℕ) Stop) : Type 0 where
+pub record LeavesBody (old new : FrameState) (left left' : Option (List ℕ)) (result : Result (List ℕ) Stop) : Type 0 where
   pub room : new.room ≡ old.room
   pub path : new.path ≡ old.path
-  pub turn : LeavesBodyAt old.turn old new left left' faults faults' result
+  pub turn : LeavesBodyAt old.turn old new left left' result
 
 -- what was answered, wherever the bytes lie in memory
 abbrev pub answered : {E : Type 0} → Result (Bor (List ℕ)) E → Result (List ℕ) E

@@ -1,11 +1,11 @@
 //! Reading of a connection until a whole head or a whole body is held.
-ghost use Rattle.std.specs.Prelude.{◌≡◌, ◌≢◌, ◌⊎◌, ◌<◌, ◌≤◌, ◌+◌, ◌-◌, ◌^◌, ℕ, List, [], ◌++◌, length, take, Ok, IfOk, IfErr, OnErr, OnOk, IfSome, IsNone, true, false};
+ghost use Rattle.std.specs.Prelude.{◌≡◌, ◌≢◌, ◌⊎◌, ◌<◌, ◌≤◌, ◌+◌, ◌-◌, ◌^◌, ℕ, List, [], ◌++◌, length, take, Ok, IfOk, is_err, IfErr, OnErr, OnOk, IfSome, IsNone, true, false};
 ghost use Rattle.std.specs.Io.KnownBytes.{Consumes, IsAtEnd};
-ghost use Rattle.survey_link.specs.Link.{Rises, readings_after};
+ghost use Rattle.survey_link.specs.Link.{CountsFault, readings_after};
 ghost use Rattle.memchr.specs.Find.{OccursAt, Nowhere};
 ghost use Rattle.survey_link.specs.Inbox.{held, size};
 ghost use Rattle.http_frame.specs.Next.{IsHeadLength, HasNoHead, NeedsMore, head_end, most_head};
-ghost use Rattle.http_frame.specs.Fill.{Takes, EndsShort, StopsFill, StopsBodyFill};
+ghost use Rattle.http_frame.specs.Fill.{Takes, EndsShort, StopsFill, StopsBodyFill, read_failed};
 ghost use Rattle.http_frame.specs.Frame.{IsShort};
 ghost use Rattle.http_frame.specs.Readings.{ReadsWhile};
 
@@ -27,7 +27,8 @@ pub fn fill_head<S: Source>(buffer: &mut Inbox, src: &mut S) -> Result<usize, St
     requires places { (buffer.old.start ≡ buffer.old.end) ⊎ (buffer.old.end ≤ most_head) }
     ensures found { IfOk result (IsHeadLength (held buffer.new)) }
     ensures taken { Takes (held buffer.old) (held buffer.new) (S.left src.old) (S.left src.new) }
-    ensures stop { IfErr result (StopsFill (held buffer.new) (S.left src.new) (S.faults src.old) (S.faults src.new)) }
+    ensures stop { IfErr result (StopsFill (held buffer.new) (S.left src.new)) }
+    ensures faults { CountsFault (read_failed result) (S.faults src.old) (S.faults src.new) }
     ensures needed { (came : List ℕ) × ReadsWhile S.left S.readings NeedsMore (held buffer.old) src.old src.new came × (held buffer.new ≡ held buffer.old ++ came) }
     ensures untouched { (NeedsMore (held buffer.old) → ⊥) → src.new ≡ src.old }
     ensures never_falls { S.faults src.old ≤ S.faults src.new }
@@ -55,7 +56,8 @@ fn read_more<S: Source>(buffer: &mut Inbox, src: &mut S) -> Result<(), Stop>
     ensures taken { Takes (held buffer.old) (held buffer.new) (S.left src.old) (S.left src.new) }
     ensures more { OnOk result (length (held buffer.old) < length (held buffer.new)) }
     ensures counted { S.readings src.new ≡ readings_after 1 (S.readings src.old) }
-    ensures stop { IfErr result (StopsFill (held buffer.new) (S.left src.new) (S.faults src.old) (S.faults src.new)) }
+    ensures stop { IfErr result (StopsFill (held buffer.new) (S.left src.new)) }
+    ensures faults { CountsFault (read_failed result) (S.faults src.old) (S.faults src.new) }
     ensures same { OnErr result (held buffer.new ≡ held buffer.old) }
     ensures never_falls { S.faults src.old ≤ S.faults src.new }
     ensures places { buffer.new.end ≤ most_head }
@@ -99,7 +101,8 @@ pub(crate) fn fill_body<S: Source>(
     ensures taken { Takes (held buffer.old) (held buffer.new) (S.left src.old) (S.left src.new) }
     ensures filled { OnOk result (count ≤ length (held buffer.new)) }
     ensures exact { OnOk result ((held buffer.new ≡ held buffer.old) ⊎ (length (held buffer.new) ≡ count)) }
-    ensures stop { IfErr result (StopsBodyFill count (held buffer.new) (S.left src.new) (S.faults src.old) (S.faults src.new)) }
+    ensures stop { IfErr result (StopsBodyFill count (held buffer.new) (S.left src.new)) }
+    ensures faults { CountsFault (read_failed result) (S.faults src.old) (S.faults src.new) }
     ensures needed { (came : List ℕ) × ReadsWhile S.left S.readings (IsShort count) (held buffer.old) src.old src.new came × (held buffer.new ≡ held buffer.old ++ came) }
     ensures untouched { count ≤ length (held buffer.old) → src.new ≡ src.old }
     ensures never_falls { S.faults src.old ≤ S.faults src.new }
@@ -131,7 +134,7 @@ pub fn take_exact<S: Source>(inbox: &mut Inbox, src: &mut S, out: &mut [u8]) -> 
     ensures cut { result ≡ Ok false → EndsShort (length out.old) (held inbox.old) (S.left src.old) (S.left src.new) }
     ensures needed { (came : List ℕ) × ReadsWhile S.left S.readings (IsShort (length out.old)) (held inbox.old) src.old src.new came
         × (result ≡ Ok true → out.new ++ held inbox.new ≡ held inbox.old ++ came) × (result ≢ Ok true → IsShort (length out.old) (held inbox.old ++ came)) }
-    ensures failed { OnErr result (Rises (S.faults src.old) (S.faults src.new)) }
+    ensures faults { CountsFault (is_err result) (S.faults src.old) (S.faults src.new) }
     ensures never_falls { S.faults src.old ≤ S.faults src.new }
     ensures len { length out.new ≡ length out.old }
     ensures size { size inbox.new ≡ size inbox.old }
@@ -147,7 +150,7 @@ fn fill_behind<S: Source>(src: &mut S, out: &mut [u8], start: usize) -> Result<b
     ensures cut { result ≡ Ok false → EndsShort (length out.old) (take start out.old) (S.left src.old) (S.left src.new) }
     ensures needed { (came : List ℕ) × ReadsWhile S.left S.readings (IsShort (length out.old)) (take start out.old) src.old src.new came
         × (result ≡ Ok true → out.new ≡ take start out.old ++ came) × (result ≢ Ok true → IsShort (length out.old) (take start out.old ++ came)) }
-    ensures failed { OnErr result (Rises (S.faults src.old) (S.faults src.new)) }
+    ensures faults { CountsFault (is_err result) (S.faults src.old) (S.faults src.new) }
     ensures never_falls { S.faults src.old ≤ S.faults src.new }
     ensures len { length out.new ≡ length out.old }
 {
@@ -171,7 +174,7 @@ fn read_behind<S: Source>(src: &mut S, bytes: &mut [u8], at: usize) -> Result<us
     ensures end { result ≡ Ok 0 → IsAtEnd (S.left src.new) }
     ensures kept { OnErr result (S.left src.new ≡ S.left src.old) }
     ensures front { take at bytes.new ≡ take at bytes.old }
-    ensures failed { OnErr result (Rises (S.faults src.old) (S.faults src.new)) }
+    ensures faults { CountsFault (is_err result) (S.faults src.old) (S.faults src.new) }
     ensures never_falls { S.faults src.old ≤ S.faults src.new }
     ensures len { length bytes.new ≡ length bytes.old }
 {

@@ -2,10 +2,12 @@
 ghost use Rattle.std.specs.Prelude.{◌≡◌, ◌<◌, ◌≤◌, ◌^◌, ◌++◌, ℕ, List, [], None, Some, Err, length, take, if◌then◌else◌, option_copied, vec_capacity, IfOk, IfErr, OnOk, OnErr};
 ghost use Rattle.std.specs.Borrow.{sem};
 ghost use Rattle.std.specs.Io.BufRead.{Rests};
+ghost use Rattle.survey_link.specs.Link.{CountsFault};
 ghost use Rattle.percent_encoding.specs.Percent.{percent_decode};
 ghost use Rattle.http_frame.specs.Target.{path_of};
 ghost use Rattle.http_frame.specs.Next.{IsTaken, NeedsMore};
 ghost use Rattle.http_frame.specs.Refusal.{IsRefused};
+ghost use Rattle.http_frame.specs.Fill.{read_failed};
 
 use crate::fill::{MAX_HEAD, fill_body, fill_head};
 use crate::head::{Head, read_head};
@@ -102,7 +104,8 @@ impl Frame {
     pub fn head<S: Source>(&mut self, src: &mut S) -> Result<Request, Stop>
         requires { AwaitsHead self.old.turn }
         ensures read { self.old.turn ≡ AtHead → IfOk result (ReadsHead self.old self.new (S.left src.old) (S.left src.new)) }
-        ensures stop { self.old.turn ≡ AtHead → IfErr result (StopsHead self.old self.new (S.left src.old) (S.faults src.old) (S.faults src.new)) }
+        ensures stop { self.old.turn ≡ AtHead → IfErr result (StopsHead self.old self.new (S.left src.old)) }
+        ensures faults { self.old.turn ≡ AtHead → CountsFault (read_failed result) (S.faults src.old) (S.faults src.new) }
         ensures turn { IfOk result (λ request. self.new.turn ≡ AtBody request.length) }
         ensures stopped { IfErr result (IsStopped self.old self.new (S.left src.old) (S.left src.new)) }
         ensures again { (stop : Stop) → self.old.turn ≡ Stopped stop → (result ≡ Err stop) × (self.new ≡ self.old) × (src.new ≡ src.old) }
@@ -145,13 +148,14 @@ impl Frame {
     pub fn body<S: Source>(&mut self, src: &mut S) -> Result<&[u8], Stop>
         requires { AwaitsBody self.old.turn }
         ensures length { (n : ℕ) → self.old.turn ≡ AtBody n → IfOk result (λ body. length body.now ≡ n) }
+        ensures faults { (n : ℕ) → self.old.turn ≡ AtBody n → CountsFault (read_failed result) (S.faults src.old) (S.faults src.new) }
         ensures needed { (n : ℕ) → self.old.turn ≡ AtBody n
             → (came : List ℕ) × ReadsWhile S.left S.readings (IsShort n) self.old.held src.old src.new came × GivesFront n (self.old.held ++ came) result }
         ensures untouched { (n : ℕ) → self.old.turn ≡ AtBody n → n ≤ length self.old.held → src.new ≡ src.old }
         ensures again { (stop : Stop) → self.old.turn ≡ Stopped stop → (result ≡ Err stop) × (src.new ≡ src.old) }
         ensures never_falls { S.faults src.old ≤ S.faults src.new }
         ensures* after_borrow { sem 𝓛 (Rests the_row self.entry (λ new.
-            LeavesBody self.old new (S.left src.old) (S.left src.new) (S.faults src.old) (S.faults src.new) (answered result))) }
+            LeavesBody self.old new (S.left src.old) (S.left src.new) (answered result))) }
     {
         self.take_body(src)?;
         Ok(self.buffer.given(self.given))
@@ -161,7 +165,8 @@ impl Frame {
     fn next_head<S: Source>(&mut self, src: &mut S) -> Result<Request, Stop>
         requires { self.old.turn ≡ AtHead }
         ensures read { IfOk result (ReadsHead self.old self.new (S.left src.old) (S.left src.new)) }
-        ensures stop { IfErr result (StopsHead self.old self.new (S.left src.old) (S.faults src.old) (S.faults src.new)) }
+        ensures stop { IfErr result (StopsHead self.old self.new (S.left src.old)) }
+        ensures faults { CountsFault (read_failed result) (S.faults src.old) (S.faults src.new) }
         ensures kept { OnErr result (KeepsUnread self.old self.new (S.left src.old) (S.left src.new)) }
         ensures path { OnErr result (self.new.path ≡ self.old.path) }
         ensures needed { (came : List ℕ) × ReadsWhile S.left S.readings NeedsMore self.old.held src.old src.new came × HoldsRest self.old self.new came result }
@@ -189,8 +194,9 @@ impl Frame {
     // Reads and takes the next body.
     fn take_body<S: Source>(&mut self, src: &mut S) -> Result<(), Stop>
         requires { AwaitsBody self.old.turn }
-        ensures leaves { LeavesBody self.old self.new (S.left src.old) (S.left src.new) (S.faults src.old) (S.faults src.new) (with_bytes result self.new.body) }
+        ensures leaves { LeavesBody self.old self.new (S.left src.old) (S.left src.new) (with_bytes result self.new.body) }
         ensures length { (n : ℕ) → self.old.turn ≡ AtBody n → OnOk result (length self.new.body ≡ n) }
+        ensures faults { (n : ℕ) → self.old.turn ≡ AtBody n → CountsFault (read_failed result) (S.faults src.old) (S.faults src.new) }
         ensures needed { (n : ℕ) → self.old.turn ≡ AtBody n
             → (came : List ℕ) × ReadsWhile S.left S.readings (IsShort n) self.old.held src.old src.new came × OnOk result (self.new.body ≡ take n (self.old.held ++ came)) }
         ensures untouched { (n : ℕ) → self.old.turn ≡ AtBody n → n ≤ length self.old.held → src.new ≡ src.old }
@@ -207,8 +213,9 @@ impl Frame {
     // Reads and takes the next body, which has so many bytes.
     fn read_body<S: Source>(&mut self, src: &mut S, count: u64) -> Result<(), Stop>
         requires { self.old.turn ≡ AtBody count }
-        ensures leaves { LeavesBodyOf count self.old self.new (S.left src.old) (S.left src.new) (S.faults src.old) (S.faults src.new) (with_bytes result self.new.body) }
+        ensures leaves { LeavesBodyOf count self.old self.new (S.left src.old) (S.left src.new) (with_bytes result self.new.body) }
         ensures length { OnOk result (length self.new.body ≡ count) }
+        ensures faults { CountsFault (read_failed result) (S.faults src.old) (S.faults src.new) }
         ensures needed { (came : List ℕ) × ReadsWhile S.left S.readings (IsShort count) self.old.held src.old src.new came
             × OnOk result (self.new.body ≡ take count (self.old.held ++ came)) }
         ensures untouched { count ≤ length self.old.held → src.new ≡ src.old }

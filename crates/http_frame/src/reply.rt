@@ -1,7 +1,7 @@
 //! Replies as bytes.
-ghost use Rattle.std.specs.Prelude.{◌≡◌, ◌+◌, ◌≤◌, ◌++◌, true, length, OnOk, OnErr, decimal};
+ghost use Rattle.std.specs.Prelude.{◌≡◌, ◌+◌, ◌≤◌, ◌++◌, true, length, is_err, OnOk, OnErr, decimal};
 ghost use Rattle.std.specs.Io.KnownBytes.{Appends};
-ghost use Rattle.survey_link.specs.Link.{AppendsPrefix, Rises, parts_bytes};
+ghost use Rattle.survey_link.specs.Link.{AppendsPrefix, CountsFault, parts_bytes};
 ghost use Rattle.http_frame.specs.Reply.{is_reply_code, reason_of, reply_bytes, reply_head, FitsReply, continue_bytes, line, status_line, allow_line, type_line, length_line, number_line, close_line};
 ghost use Rattle.arrayvec.specs.ArrayVec.{array_vec_len};
 
@@ -78,7 +78,7 @@ pub fn write_reply<K: Sink>(sink: &mut K, reply: &Reply, body: &[u8]) -> Result<
     ensures flushed { OnOk result (K.flushed sink.new ≡ K.held sink.new) }
     ensures stays { OnErr result (K.flushed sink.new ≡ K.flushed sink.old) }
     ensures part { OnErr result (AppendsPrefix (K.held sink.old) (K.held sink.new) (reply_bytes reply.now body.now)) }
-    ensures failed { OnErr result (Rises (K.faults sink.old) (K.faults sink.new)) }
+    ensures faults { CountsFault (is_err result) (K.faults sink.old) (K.faults sink.new) }
     ensures never_falls { K.faults sink.old ≤ K.faults sink.new }
 {
     let mut text = ArrayVec::new();
@@ -108,7 +108,7 @@ pub fn write_reply_parts<K: Sink>(
     ensures flushed { OnOk result (K.flushed sink.new ≡ K.held sink.new) }
     ensures stays { OnErr result (K.flushed sink.new ≡ K.flushed sink.old) }
     ensures part { OnErr result (AppendsPrefix (K.held sink.old) (K.held sink.new) (reply_bytes reply.now (parts_bytes body.entry))) }
-    ensures failed { OnErr result (Rises (K.faults sink.old) (K.faults sink.new)) }
+    ensures faults { CountsFault (is_err result) (K.faults sink.old) (K.faults sink.new) }
     ensures never_falls { K.faults sink.old ≤ K.faults sink.new }
 {
     let mut text = ArrayVec::new();
@@ -128,7 +128,7 @@ pub fn write_continue<K: Sink>(sink: &mut K) -> Result<(), Failed>
     ensures flushed { OnOk result (K.flushed sink.new ≡ K.held sink.new) }
     ensures stays { OnErr result (K.flushed sink.new ≡ K.flushed sink.old) }
     ensures part { OnErr result (AppendsPrefix (K.held sink.old) (K.held sink.new) continue_bytes) }
-    ensures failed { OnErr result (Rises (K.faults sink.old) (K.faults sink.new)) }
+    ensures faults { CountsFault (is_err result) (K.faults sink.old) (K.faults sink.new) }
     ensures never_falls { K.faults sink.old ≤ K.faults sink.new }
 {
     write_whole(sink, b"HTTP/1.1 100 Continue\r\n\r\n")?;

@@ -41,7 +41,7 @@ loop-at-preserved g c =
       filling =
           filling_more _ _ _ (take c.args.start c.args.out.now) (take c.loop-at.at c.loop-at.out) (take (c.loop-at.at + c.in-Ok.count) c.read_behind.new.bytes) _ _ _
           read.more c.loop-at.invariant.filling short (record { given = read.consumed; counted = c.read_behind.ensures.counted }) read.grown some;
-      faults = omega (arith, c.loop-at.invariant.faults, c.read_behind.ensures.never_falls);
+      faults = c.in-Ok.ensures.faults ∙ c.loop-at.invariant.faults;
       len = c.read_behind.ensures.len ∙ c.loop-at.invariant.len;
     }
 

@@ -9,7 +9,7 @@ invariant-loop-at g l = record {
   within : l.at ≤ length l.out;
   taken : Takes (take l.start l.fn.out) (take l.at l.out) (g.S.Source.left l.fn.src) (g.S.Source.left l.src);
   filling : Filling g.S.Source.left g.S.Source.readings (IsShort (length l.fn.out)) (take l.start l.fn.out) (take l.at l.out) l.fn.src l.src;
-  faults : g.S.Source.faults l.fn.src ≤ g.S.Source.faults l.src;
+  faults : g.S.Source.faults l.src ≡ g.S.Source.faults l.fn.src;
   len : length l.out ≡ length l.fn.out;
 }
 

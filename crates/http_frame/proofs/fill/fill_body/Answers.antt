@@ -18,7 +18,7 @@ loop-buffer-preserved g c =
           (record { given = read.3; counted = c.read.ensures.counted }) read.2 (omega (arith, read.1, c.if-read-eq0.false));
       exact = inr c.read.ensures.limit;
       untouched = λ whole. absurd (omega (arith, whole, short, longer, length-append (held c.args.buffer.now) before.taken.more));
-      faults = omega (arith, before.faults, c.read.ensures.never_falls);
+      faults = c.in-Ok.ensures.faults ∙ before.faults;
       start = c.read.ensures.start ∙ before.start;
       size = c.read.ensures.size ∙ before.size;
     }

@@ -11,7 +11,7 @@ invariant-loop-buffer g l = record {
   filling : Filling g.S.Source.left g.S.Source.readings (IsShort l.count) (held l.initial.buffer) (held l.buffer) l.initial.src l.src;
   exact : ((held l.buffer ≡ held l.initial.buffer) × (l.src ≡ l.initial.src)) ⊎ (l.buffer.end ≤ l.end);
   untouched : l.count ≤ length (held l.initial.buffer) → l.src ≡ l.initial.src;
-  faults : g.S.Source.faults l.initial.src ≤ g.S.Source.faults l.src;
+  faults : g.S.Source.faults l.src ≡ g.S.Source.faults l.initial.src;
   start : l.buffer.start ≡ l.initial.buffer.start;
   size : size l.buffer ≡ size l.initial.buffer;
 }

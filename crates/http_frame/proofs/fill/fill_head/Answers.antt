@@ -34,7 +34,7 @@ loop-length-preserved g c =
           (record { given = taken.consumed; counted = c.in_ok-read_more.ensures.counted }) taken.grown
           (gave_some (held c.loop-length.buffer) taken.more (held c.read_more.new.buffer) taken.grown c.in_ok-read_more.ensures.more);
       untouched = λ no. absurd (no (needs_before (held c.args.buffer.now) before.more (rw (sym before.grown) needs)));
-      faults = search rules;
+      faults = c.in_ok-read_more.ensures.faults ∙ c.loop-length.invariant.faults;
       places = inr c.in_ok-read_more.ensures.places;
       size = c.in_ok-read_more.ensures.size ∙ c.loop-length.invariant.size;
     }

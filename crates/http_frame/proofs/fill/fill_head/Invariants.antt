@@ -13,7 +13,7 @@ invariant-loop-length g l = record {
   taken : Takes (held l.initial.buffer) (held l.buffer) (g.S.Source.left l.initial.src) (g.S.Source.left l.src);
   filling : Filling g.S.Source.left g.S.Source.readings NeedsMore (held l.initial.buffer) (held l.buffer) l.initial.src l.src;
   untouched : (NeedsMore (held l.initial.buffer) → ⊥) → l.src ≡ l.initial.src;
-  faults : g.S.Source.faults l.initial.src ≤ g.S.Source.faults l.src;
+  faults : g.S.Source.faults l.src ≡ g.S.Source.faults l.initial.src;
   places : (l.buffer.start ≡ l.buffer.end) ⊎ (l.buffer.end ≤ most_head);
   size : size l.buffer ≡ size l.initial.buffer;
 }

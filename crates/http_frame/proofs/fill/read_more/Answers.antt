@@ -16,4 +16,4 @@ returns-else-is_empty-clause-stop g c =
 pub returns-in-Err-clause-stop : goal.returns-in-Err-clause-stop
 returns-in-Err-clause-stop g c =
     let same : held c.read.new.self ≡ held c.args.buffer.now = c.in-Err.ensures.kept.0 ∙ c.move_to_front.ensures.same in
-    (c.in-Err.ensures.failed, rw same c.requires.needed)
+    rw same c.requires.needed

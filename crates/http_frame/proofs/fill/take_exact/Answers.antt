@@ -1,4 +1,4 @@
-use Rattle.std.proofs.Common.{take, ◌≡◌, ◌∙◌, length}
+use Rattle.std.proofs.Common.{take, ◌≡◌, length}
 use Rattle.http_frame.proofs.Taken.{reads_behind, given_whole}
 use Rattle.survey_link.specs.Inbox.{held}
 use Rattle.http_frame.proofs.fill.take_exact.Goals as goal

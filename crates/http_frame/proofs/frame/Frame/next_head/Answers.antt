@@ -6,7 +6,7 @@ use Rattle.http_frame.proofs.frame.Frame.next_head.Goals as goal
 
 pub returns-in-Err-clause-stop : goal.returns-in-Err-clause-stop
 returns-in-Err-clause-stop g c =
-    rw (← c.self.view_is) (stops_head (shown c.self.inside) (shown (record c.self.inside { buffer = c.fill_head.new.buffer; given = 0 })) _ _ _ _ c.in-Err.stop c.in-Err.ensures.taken c.in-Err.ensures.stop)
+    rw (← c.self.view_is) (stops_head (shown c.self.inside) (shown (record c.self.inside { buffer = c.fill_head.new.buffer; given = 0 })) _ _ c.in-Err.stop c.in-Err.ensures.taken c.in-Err.ensures.stop)
 
 pub returns-in-Ok-take_head-clause-read : goal.returns-in-Ok-take_head-clause-read
 returns-in-Ok-take_head-clause-read g c = record {
