@@ -621,8 +621,8 @@ FEW_LEFT = (
     "place 1 has taken 6 of 7 connections: after 1 more it ends. "
     "When all places have ended the server ends, and its edits are lost: run rollover.sh before"
 )
-BUSY = "all places have been busy for # s, and further clients wait: serve with more PLACES, "
-BUSY = warn("tcp_link::busy", BUSY + "or keep the connections of the proxy below them (nginx: max_conns, keepalive)")
+BUSY = "all places have been busy for # s, and further clients wait: raise PLACES (64 at most), "
+BUSY = warn("tcp_link::busy", BUSY + "or keep the proxy's connections below them (nginx: max_conns, keepalive)")
 # The connections of a server: what each sends, what is said of its requests, and how it ends.
 CONNECTIONS = [
     (ask(b"GET", b"/x") + ask(b"PUT", LEAF, body=TILE), ["GET /x 404 10 # not_found", "PUT /Norder4/Dir0/Npix0.fits 201 0 # -"], "Closed"),

@@ -72,7 +72,7 @@ impl Busy {
             let busy = self.busy_for(rt, now);
             if busy >= Duration::from_secs(LONG) && self.limit.allows(rt, now) {
                 let seconds = busy.as_secs();
-                warn!(rt; "all places have been busy for {seconds} s, and further clients wait: serve with more PLACES, or keep the connections of the proxy below them (nginx: max_conns, keepalive)");
+                warn!(rt; "all places have been busy for {seconds} s, and further clients wait: raise PLACES (64 at most), or keep the proxy's connections below them (nginx: max_conns, keepalive)");
             }
         }
     }
