@@ -33,7 +33,7 @@ TRAITS = [(f"crates/{file}.rt", name) for file, name in [
 ENDS = ["hipsd/src/*.rt", "tcp_link/src/*.rt", "survey_link/src/stream.rt", "survey_link/src/here.rt", "survey_link/src/folder_shelf.rt"]
 # What these pages say of the counts.
 COUNTS = re.compile(r"([\d,]+) lines in ([\d,]+) definitions.*?([\d,]+) lines of code.*?([\d,]+) lines of this", re.S)
-ROUNDED = re.compile(r"real ends \(([\d,]+) lines\)")
+ROUNDED = re.compile(r"I/O code \(([\d,]+) lines\)")
 COUNTED = "{:,} lines in {:,} definitions and clauses; {:,} lines of code of the real ends; {:,} lines of this repository in all"
 DEFINED = re.compile(r"^ *(?:(?:abbrev|unfoldable) (?:pub )?|pub record |pub data )(\S+)", re.M)
 CONSTRUCTOR = re.compile(r"^  +(\w+) :", re.M)
