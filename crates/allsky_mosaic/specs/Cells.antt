@@ -9,6 +9,7 @@ use Rattle.pyramid_model.specs.Shape.{PyramidShape, LeafMap}
 use Rattle.pyramid_model.specs.Value.{value}
 use Rattle.tile_pixels.specs.Stored.{stored_at}
 use Rattle.tile_pixels.specs.Tile.{PixelTile, pixel_in}
+use Rattle.allsky_mosaic.specs.declared.form.TileForm.{TileForm}
 use Rattle.allsky_mosaic.specs.Mosaic.{place_pixel, side_of}
 use Rattle.allsky_mosaic.specs.Tiles.{IsSurvey}
 
@@ -16,6 +17,11 @@ use Rattle.allsky_mosaic.specs.Tiles.{IsSurvey}
 abbrev pub ShowsSquare : PyramidShape → LeafMap → ℕ → ℕ → (ℕ → ℕ → ℤ) → Type 0
 ShowsSquare shape leaves cell levels number = (column line : ℕ) → column < 2 ^ levels → line < 2 ^ levels
     → number column line ≡ value shape leaves (3 + levels) (cell * 4 ^ levels + z_order column line)
+
+-- a square of blank numbers
+pub record IsBlank (form : TileForm) (bytes : List ℕ) : Type 0 where
+  pub long : length bytes ≡ side_of form.n * side_of form.n * (form.depth.bitpix / 8)
+  pub blank : (place : ℕ) → place < side_of form.n * side_of form.n → stored_at form.depth.bitpix bytes place ≡ form.depth.blank
 
 -- the number in a column and a line of a square that is stored bottom line first
 abbrev pub square_number : ℕ → ℕ → List ℕ → ℕ → ℕ → ℤ

@@ -1,19 +1,27 @@
 -- The tiles of order 3 that a mosaic is made of.
-use Rattle.std.specs.Prelude.{◌≡◌, ℕ, ◌≤◌, ◌<◌, ◌/◌, ◌*◌, List, map, All, option_map, length}
+use Rattle.std.specs.Prelude.{◌≡◌, ℕ, ◌≤◌, ◌<◌, ◌/◌, ◌*◌, List, map, All, option_map, length, IsTrue}
 use Rattle.std.specs.Map.{keys_of, values_of}
 use Rattle.healpix_nested.specs.Cells.{cell_count}
-use Rattle.parent_rule.specs.Depth.{PixelDepth}
+use Rattle.parent_rule.specs.Depth.{PixelDepth, is_bitpix}
 use Rattle.leaf_store.specs.Store.{value_at}
 use Rattle.pyramid_model.specs.Shape.{PyramidShape, LeafMap}
 use Rattle.tile_pixels.specs.Stored.{numbers_from}
 use Rattle.tile_pixels.specs.Tile.{PixelTile, HasShape}
 use Rattle.tile_pixels.specs.Merge.{Shows}
+use Rattle.allsky_mosaic.specs.declared.form.TileForm.{TileForm}
 use Rattle.allsky_mosaic.specs.Mosaic.{mosaic, mosaic_count}
 
 -- each is of a cell of order 3, and of that depth and size
 pub record AreOfOrder3 (depth : PixelDepth) (n : ℕ) (tiles : List (ℕ × PixelTile)) : Type 0 where
   pub cells : All (λ cell. cell < cell_count 3) (keys_of tiles)
   pub shapes : All (λ tile. HasShape tile depth n) (values_of tiles)
+
+-- of this form, which has 2 to 512 columns
+pub record AreOfForm (form : TileForm) (tiles : List (ℕ × PixelTile)) : Type 0 where
+  pub least_n : 1 ≤ form.n
+  pub greatest_n : form.n ≤ 9
+  pub known : IsTrue (is_bitpix form.depth.bitpix)
+  pub are : AreOfOrder3 form.depth form.n tiles
 
 -- a pyramid of which they are the leaves
 abbrev pub order_3 : PixelDepth → ℕ → PyramidShape

@@ -5,6 +5,7 @@
 #![tactic(auto)]
 
 mod bands;
+mod form;
 mod making;
 mod patching;
 mod square;

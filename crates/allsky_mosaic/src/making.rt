@@ -2,10 +2,11 @@
 ghost use Rattle.std.specs.Prelude.{◌≡◌, ℕ, ◌-◌, ◌<◌, ◌≤◌, ◌↔◌, [], vec_len, slice_index_or, IfOk, IfSome, IsNone};
 ghost use Rattle.pyramid_model.specs.Shape.{PyramidShape, LeafMap};
 ghost use Rattle.allsky_mosaic.specs.Mosaic.{side_of};
-ghost use Rattle.allsky_mosaic.specs.Tiles.{AreOfOrder3, IsSurvey, IsMosaic, ShowsCell, order_3, leaf_map};
+ghost use Rattle.allsky_mosaic.specs.Tiles.{AreOfForm, AreOfOrder3, IsSurvey, IsMosaic, ShowsCell, order_3, leaf_map};
 ghost use Rattle.allsky_mosaic.specs.Cells.{AreBands};
 
 use crate::bands::{ROWS, band};
+use crate::form::TileForm;
 use leaf_store::Store;
 use parent_rule::Depth;
 use std::alloc::{AllocError, Global};
@@ -42,7 +43,7 @@ pub fn whole<R: Threads + Sync>(
     if tiles.len() == 0 {
         return Ok(None);
     }
-    let raw = all_bands(rt, alloc, depth, n, tiles)?;
+    let raw = all_bands(rt, alloc, &TileForm { depth, n }, tiles)?;
     Ok(Some(raw))
 }
 
@@ -50,20 +51,17 @@ pub fn whole<R: Threads + Sync>(
 fn all_bands<R: Threads + Sync>(
     rt: &R,
     alloc: Global,
-    depth: Depth,
-    n: u8,
+    form: &TileForm,
     tiles: &Store<Tile>,
 ) -> Result<Vec<u8>, AllocError>
-    requires least_n { 1 ≤ n }
-    requires greatest_n { n ≤ 9 }
-    requires tiles { AreOfOrder3 depth n tiles.now }
-    ensures { IfOk result (λ raw. AreBands depth n tiles.now 28 29 raw.items) }
+    requires tiles { AreOfForm form.now tiles.now }
+    ensures { IfOk result (λ raw. AreBands form.now.depth form.now.n tiles.now 28 29 raw.items) }
 {
-    let threads = threads_for(rt, tiles.len(), n);
+    let threads = threads_for(rt, tiles.len(), form.n);
     if threads > 1 {
-        bands_by_many(rt, alloc, depth, n, tiles, threads)
+        bands_by_many(rt, alloc, form, tiles, threads)
     } else {
-        bands(alloc, depth, n, tiles)
+        bands(alloc, form, tiles)
     }
 }
 
@@ -81,15 +79,13 @@ fn threads_for(rt: &impl Threads, tiles: usize, n: u8) -> usize
 }
 
 // The bands one after the other.
-fn bands(alloc: Global, depth: Depth, n: u8, tiles: &Store<Tile>) -> Result<Vec<u8>, AllocError>
-    requires least_n { 1 ≤ n }
-    requires greatest_n { n ≤ 9 }
-    requires tiles { AreOfOrder3 depth n tiles.now }
-    ensures { IfOk result (λ raw. AreBands depth n tiles.now 28 29 raw.items) }
+fn bands(alloc: Global, form: &TileForm, tiles: &Store<Tile>) -> Result<Vec<u8>, AllocError>
+    requires tiles { AreOfForm form.now tiles.now }
+    ensures { IfOk result (λ raw. AreBands form.now.depth form.now.n tiles.now 28 29 raw.items) }
 {
     let mut raw = Vec::new(alloc);
     for up in 0..ROWS {
-        let next = band(alloc, depth, n, tiles, ROWS - 1 - up)?;
+        let next = band(alloc, form, tiles, ROWS - 1 - up)?;
         raw.extend_from_slice(&next)?;
     }
     Ok(raw)
@@ -99,18 +95,15 @@ fn bands(alloc: Global, depth: Depth, n: u8, tiles: &Store<Tile>) -> Result<Vec<
 fn bands_by_many<R: Threads + Sync>(
     rt: &R,
     alloc: Global,
-    depth: Depth,
-    n: u8,
+    form: &TileForm,
     tiles: &Store<Tile>,
     threads: usize,
 ) -> Result<Vec<u8>, AllocError>
     requires threads { 0 < threads }
-    requires least_n { 1 ≤ n }
-    requires greatest_n { n ≤ 9 }
-    requires tiles { AreOfOrder3 depth n tiles.now }
-    ensures { IfOk result (λ raw. AreBands depth n tiles.now 28 29 raw.items) }
+    requires tiles { AreOfForm form.now tiles.now }
+    ensures { IfOk result (λ raw. AreBands form.now.depth form.now.n tiles.now 28 29 raw.items) }
 {
-    let made = each_band(rt, alloc, depth, n, tiles, threads)?;
+    let made = each_band(rt, alloc, form, tiles, threads)?;
     let mut raw = Vec::new(alloc);
     for next in &made {
         match next {
@@ -125,23 +118,20 @@ fn bands_by_many<R: Threads + Sync>(
 fn each_band<R: Threads + Sync>(
     rt: &R,
     alloc: Global,
-    depth: Depth,
-    n: u8,
+    form: &TileForm,
     tiles: &Store<Tile>,
     threads: usize,
 ) -> Result<Vec<Result<Vec<u8>, AllocError>>, AllocError>
     requires threads { 0 < threads }
-    requires least_n { 1 ≤ n }
-    requires greatest_n { n ≤ 9 }
-    requires tiles { AreOfOrder3 depth n tiles.now }
+    requires tiles { AreOfForm form.now tiles.now }
     ensures count { IfOk result (λ made. vec_len made ≡ 29) }
-    ensures bands { IfOk result (λ made. (up : ℕ) (d : _) → up < 29 → IfOk (slice_index_or made.items up d) (λ band. AreBands depth n tiles.now (28 - up) 1 band.items)) }
+    ensures bands { IfOk result (λ made. (up : ℕ) (d : _) → up < 29 → IfOk (slice_index_or made.items up d) (λ band. AreBands form.now.depth form.now.n tiles.now (28 - up) 1 band.items)) }
 {
     let mut made = no_bands(alloc)?;
     let make = |up: usize, made: &mut Result<Vec<u8>, AllocError>|
-        requires { (1 ≤ n) × (n ≤ 9) × AreOfOrder3 depth n tiles.now × (up < 29) }
-        ensures { IfOk made.exit.now (λ band. AreBands depth n tiles.entry.now (28 - up) 1 band.items) }
-    { *made = band(alloc, depth, n, tiles, ROWS - 1 - up as u64) };
+        requires { AreOfForm form.now tiles.now × (up < 29) }
+        ensures { IfOk made.exit.now (λ band. AreBands form.entry.now.depth form.entry.now.n tiles.entry.now (28 - up) 1 band.items) }
+    { *made = band(alloc, form, tiles, ROWS - 1 - up as u64) };
     for_each_mut(rt, &mut made, threads, &make);
     Ok(made)
 }

@@ -1,13 +1,13 @@
 //! A mosaic after some tiles of order 3 have changed.
-ghost use Rattle.std.specs.Prelude.{◌≡◌, ◌≢◌, ℕ, ◌+◌, ◌-◌, ◌*◌, ◌/◌, ◌<◌, ◌≤◌, ◌↔◌, [], length, All, Contains, IfOk, OnOk, IfSome, IsNone};
+ghost use Rattle.std.specs.Prelude.{◌≡◌, ◌≢◌, ℕ, ◌+◌, ◌-◌, ◌*◌, ◌/◌, ◌%◌, ◌<◌, ◌≤◌, ◌↔◌, [], length, All, Contains, IfOk, OnOk, IfSome, IsNone};
 ghost use Rattle.pyramid_model.specs.Shape.{PyramidShape, LeafMap};
-ghost use Rattle.tile_pixels.specs.Stored.{stored_at};
 ghost use Rattle.allsky_mosaic.specs.Mosaic.{side_of, place_pixel};
-ghost use Rattle.allsky_mosaic.specs.Tiles.{AreOfOrder3, IsSurvey, IsMosaic, ShowsCell, order_3, leaf_map};
+ghost use Rattle.allsky_mosaic.specs.Tiles.{AreOfForm, AreOfOrder3, IsSurvey, IsMosaic, ShowsCell, order_3, leaf_map};
 ghost use Rattle.allsky_mosaic.specs.Patch.{WasMosaic};
-ghost use Rattle.allsky_mosaic.specs.Cells.{ShowCells, ShowsPlace, band_number, number_in_place};
+ghost use Rattle.allsky_mosaic.specs.Cells.{IsBlank, ShowCells, ShowsPlace, band_number, number_in_place};
 
 use crate::bands::{COLUMNS, ROWS, write_cell};
+use crate::form::TileForm;
 use crate::square::{blank_lines, side, write_square};
 use leaf_store::Store;
 use parent_rule::Depth;
@@ -73,33 +73,30 @@ pub fn patch_in_place(
 {
     let side = side(n);
     let blank = blank_lines(alloc, depth, side, side)?;
-    patch_cells(alloc, depth, n, touched, tiles, &blank, raw)?;
+    let form = TileForm { depth, n };
+    patch_cells(alloc, &form, tiles, touched, &blank, raw)?;
     Ok(())
 }
 
 // Makes the squares of the touched cells anew.
 fn patch_cells(
     alloc: Global,
-    depth: Depth,
-    n: u8,
-    touched: &[u64],
+    form: &TileForm,
     tiles: &Store<Tile>,
+    touched: &[u64],
     blank: &[u8],
     raw: &mut [u8],
 ) -> Result<(), AllocError>
-    requires least_n { 1 ≤ n }
-    requires greatest_n { n ≤ 9 }
+    requires tiles { AreOfForm form.now tiles.now }
     requires touched { All (λ cell. cell < 768) touched.now }
-    requires tiles { AreOfOrder3 depth n tiles.now }
-    requires square { length blank.now ≡ side_of n * side_of n * (depth.bitpix / 8) }
-    requires blank { (place : ℕ) → place < side_of n * side_of n → stored_at depth.bitpix blank.now place ≡ depth.blank }
-    requires raw { length raw.old ≡ 29 * (27 * side_of n * side_of n) * (depth.bitpix / 8) }
-    ensures { IfOk result (λ _. (shape : PyramidShape) (leaves : LeafMap) → IsSurvey depth n shape → ShowCells shape leaves tiles.now
-        → ((place : ℕ) → place < 783 → (Contains touched.now place → ⊥) → ShowsPlace depth n shape leaves place raw.old)
-        → (place : ℕ) → place < 783 → ShowsPlace depth n shape leaves place raw.new) }
+    requires blank { IsBlank form.now blank.now }
+    requires raw { length raw.old ≡ 29 * (27 * side_of form.now.n * side_of form.now.n) * (form.now.depth.bitpix / 8) }
+    ensures { IfOk result (λ _. (shape : PyramidShape) (leaves : LeafMap) → IsSurvey form.now.depth form.now.n shape → ShowCells shape leaves tiles.now
+        → ((place : ℕ) → place < 783 → (Contains touched.now place → ⊥) → ShowsPlace form.now.depth form.now.n shape leaves place raw.old)
+        → (place : ℕ) → place < 783 → ShowsPlace form.now.depth form.now.n shape leaves place raw.new) }
 {
     for cell in touched {
-        patch_cell(alloc, depth, n, *cell, tiles, blank, raw)?;
+        patch_cell(alloc, form, tiles, *cell, blank, raw)?;
     }
     Ok(())
 }
@@ -107,67 +104,49 @@ fn patch_cells(
 // Makes the square of a cell anew: of its tile, or blank. The others stay.
 fn patch_cell(
     alloc: Global,
-    depth: Depth,
-    n: u8,
-    cell: u64,
+    form: &TileForm,
     tiles: &Store<Tile>,
+    cell: u64,
     blank: &[u8],
     raw: &mut [u8],
 ) -> Result<(), AllocError>
-    requires least_n { 1 ≤ n }
-    requires greatest_n { n ≤ 9 }
+    requires tiles { AreOfForm form.now tiles.now }
     requires cell { cell < 768 }
-    requires tiles { AreOfOrder3 depth n tiles.now }
-    requires square { length blank.now ≡ side_of n * side_of n * (depth.bitpix / 8) }
-    requires blank { (place : ℕ) → place < side_of n * side_of n → stored_at depth.bitpix blank.now place ≡ depth.blank }
-    requires raw { length raw.old ≡ 29 * (27 * side_of n * side_of n) * (depth.bitpix / 8) }
-    ensures shown { IfOk result (λ _. (shape : PyramidShape) (leaves : LeafMap) → IsSurvey depth n shape → ShowCells shape leaves tiles.now
-        → ShowsPlace depth n shape leaves cell raw.new) }
-    ensures kept { IfOk result (λ _. (place t column : ℕ) → place < 783 → place ≢ cell → t < side_of n → column < side_of n
-        → number_in_place depth.bitpix (side_of n) raw.new place t column ≡ number_in_place depth.bitpix (side_of n) raw.old place t column) }
+    requires blank { IsBlank form.now blank.now }
+    requires raw { length raw.old ≡ 29 * (27 * side_of form.now.n * side_of form.now.n) * (form.now.depth.bitpix / 8) }
+    ensures shown { IfOk result (λ _. (shape : PyramidShape) (leaves : LeafMap) → IsSurvey form.now.depth form.now.n shape → ShowCells shape leaves tiles.now
+        → ShowsPlace form.now.depth form.now.n shape leaves cell raw.new) }
+    ensures kept { IfOk result (λ _. (place t column : ℕ) → place < 783 → place ≢ cell → t < side_of form.now.n → column < side_of form.now.n
+        → number_in_place form.now.depth.bitpix (side_of form.now.n) raw.new place t column ≡ number_in_place form.now.depth.bitpix (side_of form.now.n) raw.old place t column) }
 {
-    let row = cell / COLUMNS;
     let length = raw.len() / ROWS as usize;
-    let start = (ROWS - 1 - row) as usize * length;
-    patch_band(
-        alloc,
-        depth,
-        n,
-        row,
-        cell % COLUMNS,
-        tiles,
-        blank,
-        &mut raw[start..start + length],
-    )?;
+    let start = (ROWS - 1 - cell / COLUMNS) as usize * length;
+    let band = &mut raw[start..start + length];
+    patch_band(alloc, form, tiles, cell, blank, band)?;
     Ok(())
 }
 
 // The same within the band of the cell's row of places.
 fn patch_band(
     alloc: Global,
-    depth: Depth,
-    n: u8,
-    row: u64,
-    col: u64,
+    form: &TileForm,
     tiles: &Store<Tile>,
+    cell: u64,
     blank: &[u8],
     band: &mut [u8],
 ) -> Result<(), AllocError>
-    requires least_n { 1 ≤ n }
-    requires greatest_n { n ≤ 9 }
-    requires row { row < 29 }
-    requires col { col < 27 }
-    requires tiles { AreOfOrder3 depth n tiles.now }
-    requires square { length blank.now ≡ side_of n * side_of n * (depth.bitpix / 8) }
-    requires blank { (place : ℕ) → place < side_of n * side_of n → stored_at depth.bitpix blank.now place ≡ depth.blank }
-    requires band { length band.old ≡ 27 * side_of n * side_of n * (depth.bitpix / 8) }
-    ensures shown { IfOk result (λ _. (shape : PyramidShape) (leaves : LeafMap) → IsSurvey depth n shape → ShowCells shape leaves tiles.now
-        → (t column : ℕ) → t < side_of n → column < side_of n
-        → band_number depth.bitpix (side_of n) band.new col t column ≡ place_pixel shape leaves (row * 27 + col) column (side_of n - 1 - t)) }
-    ensures kept { (t other column : ℕ) → t < side_of n → other < 27 → other ≢ col → column < side_of n
-        → band_number depth.bitpix (side_of n) band.new other t column ≡ band_number depth.bitpix (side_of n) band.old other t column }
+    requires tiles { AreOfForm form.now tiles.now }
+    requires cell { cell < 768 }
+    requires blank { IsBlank form.now blank.now }
+    requires band { length band.old ≡ 27 * side_of form.now.n * side_of form.now.n * (form.now.depth.bitpix / 8) }
+    ensures shown { IfOk result (λ _. (shape : PyramidShape) (leaves : LeafMap) → IsSurvey form.now.depth form.now.n shape → ShowCells shape leaves tiles.now
+        → (t column : ℕ) → t < side_of form.now.n → column < side_of form.now.n
+        → band_number form.now.depth.bitpix (side_of form.now.n) band.new (cell % 27) t column ≡ place_pixel shape leaves cell column (side_of form.now.n - 1 - t)) }
+    ensures kept { (t other column : ℕ) → t < side_of form.now.n → other < 27 → other ≢ cell % 27 → column < side_of form.now.n
+        → band_number form.now.depth.bitpix (side_of form.now.n) band.new other t column ≡ band_number form.now.depth.bitpix (side_of form.now.n) band.old other t column }
 {
-    write_square(depth, side(n), col as usize, blank, band);
-    write_cell(alloc, depth, n, tiles, row, col, band)?;
+    let col = cell % COLUMNS;
+    write_square(form.depth, side(form.n), col as usize, blank, band);
+    write_cell(alloc, form, tiles, cell / COLUMNS, col, band)?;
     Ok(())
 }

@@ -6,8 +6,8 @@ use Rattle.allsky_mosaic.proofs.bands.write_cells.Goals as goal
 
 pub loop-col-preserved : goal.loop-col-preserved
 loop-col-preserved c =
-    let bits = c.args.depth.bitpix in
-    let side : ℕ = side_of c.args.n in
+    let bits = c.args.form.now.depth.bitpix in
+    let side : ℕ = side_of c.args.form.now.n in
     let kept = c.in_ok-write_cell.ensures.kept in (
       λ other t column behind other_in t_in column_in.
           let apart : other ≢ c.loop-col.col = omega arith in

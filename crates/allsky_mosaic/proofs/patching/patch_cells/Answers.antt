@@ -22,7 +22,7 @@ loop-cell-preserved c shape leaves survey show before place place_in rest =
     let i : ℕ = c.loop-cell.cell-index in
     elim (cases_eq place (get_or c.args.touched.now i 0)) [
       | inl here ↦
-          let P : ℕ → Type 0 = λ k. ShowsPlace c.args.depth c.args.n shape leaves k c.patch_cell.new.raw in
+          let P : ℕ → Type 0 = λ k. ShowsPlace c.args.form.now.depth c.args.form.now.n shape leaves k c.patch_cell.new.raw in
           subst P (sym here) (c.in_ok-patch_cell.ensures.shown shape leaves survey show)
       | inr other ↦ λ t column t_in column_in.
           c.in_ok-patch_cell.ensures.kept place t column place_in other t_in column_in

@@ -7,6 +7,6 @@ use Rattle.allsky_mosaic.proofs.patching.patch_cells.Given as goal
 
 -- each square that is still to be made is that of a touched cell
 abbrev pub invariant-loop-cell : goal.invariant-loop-cell
-invariant-loop-cell l = (shape : PyramidShape) (leaves : LeafMap) → IsSurvey l.fn.depth l.n shape → ShowCells shape leaves l.tiles
-    → ((place : ℕ) → place < 783 → (Contains l.touched place → ⊥) → ShowsPlace l.fn.depth l.n shape leaves place l.initial.raw)
-    → (place : ℕ) → place < 783 → ((k : ℕ) → l.cell-index ≤ k → k < length l.touched → get_or l.touched k 0 ≢ place) → ShowsPlace l.fn.depth l.n shape leaves place l.raw
+invariant-loop-cell l = (shape : PyramidShape) (leaves : LeafMap) → IsSurvey l.fn.form.depth l.form.n shape → ShowCells shape leaves l.tiles
+    → ((place : ℕ) → place < 783 → (Contains l.touched place → ⊥) → ShowsPlace l.fn.form.depth l.form.n shape leaves place l.initial.raw)
+    → (place : ℕ) → place < 783 → ((k : ℕ) → l.cell-index ≤ k → k < length l.touched → get_or l.touched k 0 ≢ place) → ShowsPlace l.fn.form.depth l.form.n shape leaves place l.raw
