@@ -299,6 +299,7 @@ same_history() {
     [ "$count" -lt "$behind" ] || return 0
     fail "nothing was sent: $base has $count edits, and had $behind after the last one of $journal. So it has started again, from its folder.
     If the folder has these edits (rollover.sh renewed the server): start a new journal, another folder in HIPSD_JOURNAL.
+    If it has some of them (it is a copy): docs/OPERATING.md, 'After a loss'.
     If not: 'edit.sh replay $journal $base' sends them again, in order."
 }
 
