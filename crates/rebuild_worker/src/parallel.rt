@@ -69,7 +69,18 @@ pub fn level_changed<R: Threads + Sync, G: Gate + Sync>(
     ensures pixels { IfOk result (λ level. All (ShowsItsCell shape sources.entry.children.now) (all_shown level.items)) }
 {
     let workers = workers_for(rt, todo.len(), shape.n);
-    merge_by(rt, alloc, gate, shape, sources, Permits::new(todo), workers)
+    let run = Run {
+        todo: Permits::new(todo),
+        workers,
+    };
+    merge_by(rt, alloc, gate, shape, sources, run)
+}
+
+// Permits, and how many workers make their merges.
+#[derive(Drop)]
+struct Run {
+    todo: Permits,
+    workers: usize,
 }
 
 // How many workers make so many merges of tiles of 4^n pixels.
@@ -107,14 +118,14 @@ fn merge_by<R: Threads + Sync, G: Gate + Sync>(
     gate: &G,
     shape: Shape,
     sources: Sources<'_>,
-    mut todo: Permits,
-    workers: usize,
+    run: Run,
 ) -> Result<Vec<Named>, AllocError>
-    requires repaid { AreRepaid workers (length todo) shape.n }
-    requires cells { All (IsAboveLeaves shape) todo }
+    requires repaid { AreRepaid run.workers (length run.todo) shape.n }
+    requires cells { All (IsAboveLeaves shape) run.todo }
     requires sources { AreSources shape sources }
-    ensures { IfOk result (λ level. all_shown level.items ≡ merges_of shape sources.entry.children.now todo) }
+    ensures { IfOk result (λ level. all_shown level.items ≡ merges_of shape sources.entry.children.now run.todo) }
 {
+    let Run { mut todo, workers } = run;
     if workers < 2 {
         return merge_all(alloc, gate, shape, sources, todo);
     }
@@ -140,7 +151,8 @@ fn merge_by<R: Threads + Sync, G: Gate + Sync>(
             touched,
             height,
         };
-        merge_by(rt, alloc, gate, shape, sources, todo, near)
+        let workers = near;
+        merge_by(rt, alloc, gate, shape, sources, Run { todo, workers })
     };
     let back = move || -> Result<Vec<Named>, AllocError>
         requires { IsSync R.row × IsSync G.row × AreRepaid far (length rest) shape.n × All (IsAboveLeaves shape) rest
@@ -153,7 +165,8 @@ fn merge_by<R: Threads + Sync, G: Gate + Sync>(
             touched,
             height,
         };
-        merge_by(rt, alloc, gate, shape, sources, rest, far)
+        let (todo, workers) = (rest, far);
+        merge_by(rt, alloc, gate, shape, sources, Run { todo, workers })
     };
     let (last, first) = join(rt, back, front);
     joined(first?, last?)

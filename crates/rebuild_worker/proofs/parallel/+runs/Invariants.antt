@@ -8,4 +8,4 @@ abbrev pub decreases-front : goal.decreases-front
 decreases-front g l = 2 * l.near + 1
 
 abbrev pub decreases-merge_by : goal.decreases-merge_by
-decreases-merge_by g l = 2 * l.workers
+decreases-merge_by g l = 2 * l.run.workers
