@@ -11,7 +11,7 @@ use Rattle.tile_pixels.specs.Lines.{row_above}
 use Rattle.tile_pixels.specs.QuadrantLaws.{same_four}
 use Rattle.tile_pixels.specs.StoredLaws.{AreBytes, stored_bytes-nil}
 use Rattle.byteorder.specs.Endian.{little_number}
-use Rattle.tile_pixels.proofs.Rows.{stored_more}
+use Rattle.tile_pixels.proofs.Rows.{stored_more, written_all}
 
 pub length-row_above : (way : Combine) (bits : ℕ) (blank : ℤ) (count : ℕ) (top bottom : List ℕ) → length (row_above way bits blank count top bottom) ≡ count
 unfolding row_above
@@ -91,10 +91,8 @@ pub above_all : (way : Combine) (bits : ℕ) (blank : ℤ) (count i : ℕ) (top 
     → take (i * (bits / 8)) out ≡ stored_bytes bits (take i (row_above way bits blank count top bottom))
     → out ≡ stored_bytes bits (row_above way bits blank count top bottom)
 above_all way bits blank count i top bottom out end long before =
-    let numbers : List ℤ = row_above way bits blank count top bottom in
-    let all : length out ≤ i * (bits / 8) = rw end (omega arith) in
-    let every : length numbers ≤ i = rw (length-row_above way bits blank count top bottom) (omega arith) in
-    sym (take_all (i * (bits / 8)) out all) ∙ before ∙ ap (stored_bytes bits) (take_all i numbers every)
+    let count_is : count ≡ length (row_above way bits blank count top bottom) = sym (length-row_above way bits blank count top bottom) in
+    written_all bits (row_above way bits blank count top bottom) out i (end ∙ count_is) (long ∙ ap (λ (k : ℕ). k * (bits / 8)) count_is) before
 
 -- a number that is written at its place
 pub wrote : (n i : ℕ) (bytes buf bs rest post : List ℕ) → n * i ≤ length bytes → length bs ≡ n → buf ≡ bs ++ rest

@@ -3,6 +3,7 @@ ghost use Rattle.std.specs.Prelude.{◌≡◌, ◌*◌, ◌/◌, length, All};
 ghost use Rattle.parent_rule.specs.Depth.{IsNumber};
 ghost use Rattle.tile_pixels.specs.Stored.{numbers_from, stored_bytes};
 
+use crate::stored::Stored;
 use byteorder::{BigEndian, ByteOrder};
 use parent_rule::Depth;
 
@@ -13,9 +14,9 @@ pub fn read_row(depth: Depth, bytes: &[u8], numbers: &mut [i64])
     ensures range { All (IsNumber depth.bitpix) numbers.new }
 {
     match depth.bitpix() {
-        8 => read_8(bytes, numbers),
-        16 => read_16(bytes, numbers),
-        32 => read_32(bytes, numbers),
+        8 => read_each::<u8>(bytes, numbers),
+        16 => read_each::<i16>(bytes, numbers),
+        32 => read_each::<i32>(bytes, numbers),
         _ => read_64(bytes, numbers),
     }
 }
@@ -28,40 +29,21 @@ pub fn write_row(depth: Depth, numbers: &[i64], bytes: &mut [u8])
     ensures numbers { numbers_from depth.bitpix (length numbers.now) bytes.new ≡ numbers.now }
 {
     match depth.bitpix() {
-        8 => write_8(numbers, bytes),
-        16 => write_16(numbers, bytes),
-        32 => write_32(numbers, bytes),
+        8 => write_each::<u8>(numbers, bytes),
+        16 => write_each::<i16>(numbers, bytes),
+        32 => write_each::<i32>(numbers, bytes),
         _ => write_64(numbers, bytes),
     }
 }
 
-fn read_8(bytes: &[u8], numbers: &mut [i64])
-    requires { length bytes.now ≡ length numbers.old }
-    ensures numbers { numbers.new ≡ numbers_from 8 (length numbers.old) bytes.now }
-    ensures range { All (IsNumber 8) numbers.new }
+// The numbers of a width of at most 32 bits.
+fn read_each<N: Stored>(bytes: &[u8], numbers: &mut [i64])
+    requires { length bytes.now ≡ length numbers.old * (N.bits / 8) }
+    ensures numbers { numbers.new ≡ numbers_from N.bits (length numbers.old) bytes.now }
+    ensures range { All (IsNumber N.bits) numbers.new }
 {
     for i in 0..numbers.len() {
-        numbers[i] = i64::from(bytes[i]);
-    }
-}
-
-fn read_16(bytes: &[u8], numbers: &mut [i64])
-    requires { length bytes.now ≡ length numbers.old * 2 }
-    ensures numbers { numbers.new ≡ numbers_from 16 (length numbers.old) bytes.now }
-    ensures range { All (IsNumber 16) numbers.new }
-{
-    for i in 0..numbers.len() {
-        numbers[i] = i64::from(BigEndian::read_i16(&bytes[2 * i..]));
-    }
-}
-
-fn read_32(bytes: &[u8], numbers: &mut [i64])
-    requires { length bytes.now ≡ length numbers.old * 4 }
-    ensures numbers { numbers.new ≡ numbers_from 32 (length numbers.old) bytes.now }
-    ensures range { All (IsNumber 32) numbers.new }
-{
-    for i in 0..numbers.len() {
-        numbers[i] = i64::from(BigEndian::read_i32(&bytes[4 * i..]));
+        numbers[i] = N::read(bytes, i).wide();
     }
 }
 
@@ -73,33 +55,13 @@ fn read_64(bytes: &[u8], numbers: &mut [i64])
     BigEndian::read_i64_into(bytes, numbers);
 }
 
-fn write_8(numbers: &[i64], bytes: &mut [u8])
-    requires room { length bytes.old ≡ length numbers.now }
-    requires range { All (IsNumber 8) numbers.now }
-    ensures { bytes.new ≡ stored_bytes 8 numbers.now }
+fn write_each<N: Stored>(numbers: &[i64], bytes: &mut [u8])
+    requires room { length bytes.old ≡ length numbers.now * (N.bits / 8) }
+    requires range { All (IsNumber N.bits) numbers.now }
+    ensures { bytes.new ≡ stored_bytes N.bits numbers.now }
 {
     for i in 0..numbers.len() {
-        bytes[i] = numbers[i] as u8;
-    }
-}
-
-fn write_16(numbers: &[i64], bytes: &mut [u8])
-    requires room { length bytes.old ≡ length numbers.now * 2 }
-    requires range { All (IsNumber 16) numbers.now }
-    ensures { bytes.new ≡ stored_bytes 16 numbers.now }
-{
-    for i in 0..numbers.len() {
-        BigEndian::write_i16(&mut bytes[2 * i..], numbers[i] as i16);
-    }
-}
-
-fn write_32(numbers: &[i64], bytes: &mut [u8])
-    requires room { length bytes.old ≡ length numbers.now * 4 }
-    requires range { All (IsNumber 32) numbers.now }
-    ensures { bytes.new ≡ stored_bytes 32 numbers.now }
-{
-    for i in 0..numbers.len() {
-        BigEndian::write_i32(&mut bytes[4 * i..], numbers[i] as i32);
+        N::of(numbers[i]).write(bytes, i);
     }
 }
 
