@@ -10,6 +10,7 @@
 mod above;
 mod block;
 mod byte_means;
+mod form;
 mod full_means;
 mod halved;
 mod means;
@@ -22,6 +23,7 @@ mod tile;
 
 pub use above::{store_plain, store_row_above};
 pub use block::Block;
+pub use form::TileForm;
 pub use halved::combine_rows;
 pub use quadrant::{Quadrant, Quadrants};
 pub use row::{read_row, write_row};

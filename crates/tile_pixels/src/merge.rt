@@ -11,6 +11,7 @@ ghost use Rattle.tile_pixels.specs.Stored.{stored_bytes};
 ghost use Rattle.tile_pixels.specs.Tile.{HasShape};
 
 use crate::above::store_row_above;
+use crate::form::TileForm;
 use crate::quadrant::{Quadrant, Quadrants};
 use crate::row::write_row;
 use crate::tile::Tile;
@@ -105,8 +106,9 @@ impl Tile {
         let numbers = &mut numbers[..5 * half];
         let bytes = &mut bytes[..half * depth.bytes()];
         let mut raw = Vec::with_capacity(alloc, bytes.len() * 4 * half)?;
-        append_rows(depth, n, second, fourth, numbers, bytes, &mut raw)?;
-        append_rows(depth, n, first, third, numbers, bytes, &mut raw)?;
+        let form = TileForm { depth, n };
+        append_rows(&form, second, fourth, numbers, bytes, &mut raw)?;
+        append_rows(&form, first, third, numbers, bytes, &mut raw)?;
         Ok(Tile::of_raw(raw, depth, n))
     }
 }
@@ -125,59 +127,57 @@ fn half_side(n: u8) -> usize
 
 // Appends half of the lines of the tile above, bottom line first: those of two quadrants side by side.
 fn append_rows(
-    depth: Depth,
-    n: u8,
+    form: &TileForm,
     left: Quadrant<'_>,
     right: Quadrant<'_>,
     numbers: &mut [i64],
     bytes: &mut [u8],
     raw: &mut Vec<u8>,
 ) -> Result<(), AllocError>
-    requires least_n { 1 ≤ n }
-    requires greatest_n { n ≤ 9 }
-    requires left { Fits depth n left }
-    requires right { Fits depth n right }
-    requires numbers { length numbers.old ≡ 5 * 2 ^ (n - 1) }
-    requires bytes { length bytes.old ≡ 2 ^ (n - 1) * (depth.bitpix / 8) }
-    ensures length { IfOk result (λ _. length raw.new.items ≡ length raw.old.items + 2 ^ (n - 1) * (2 * (2 ^ (n - 1) * (depth.bitpix / 8)))) }
-    ensures bytes { IfOk result (λ _. (l r : Option (List ℤ)) → IsOver depth n l left.entry → IsOver depth n r right.entry
-        → raw.new.items ≡ raw.old.items ++ stored_bytes depth.bitpix (half_rows depth n l r (2 ^ (n - 1)))) }
-    ensures range { IfOk result (λ _. (l r : Option (List ℤ)) → IsOver depth n l left.entry → IsOver depth n r right.entry
-        → All (IsNumber depth.bitpix) (half_rows depth n l r (2 ^ (n - 1)))) }
+    requires least_n { 1 ≤ form.now.n }
+    requires greatest_n { form.now.n ≤ 9 }
+    requires left { Fits form.now.depth form.now.n left }
+    requires right { Fits form.now.depth form.now.n right }
+    requires numbers { length numbers.old ≡ 5 * 2 ^ (form.now.n - 1) }
+    requires bytes { length bytes.old ≡ 2 ^ (form.now.n - 1) * (form.now.depth.bitpix / 8) }
+    ensures length { IfOk result (λ _. length raw.new.items ≡ length raw.old.items + 2 ^ (form.now.n - 1) * (2 * (2 ^ (form.now.n - 1) * (form.now.depth.bitpix / 8)))) }
+    ensures bytes { IfOk result (λ _. (l r : Option (List ℤ)) → IsOver form.now.depth form.now.n l left.entry → IsOver form.now.depth form.now.n r right.entry
+        → raw.new.items ≡ raw.old.items ++ stored_bytes form.now.depth.bitpix (half_rows form.now.depth form.now.n l r (2 ^ (form.now.n - 1)))) }
+    ensures range { IfOk result (λ _. (l r : Option (List ℤ)) → IsOver form.now.depth form.now.n l left.entry → IsOver form.now.depth form.now.n r right.entry
+        → All (IsNumber form.now.depth.bitpix) (half_rows form.now.depth form.now.n l r (2 ^ (form.now.n - 1)))) }
 {
-    let half = half_side(n);
+    let half = half_side(form.n);
     for line in 0..half {
-        append_row(depth, n, left, half - 1 - line, numbers, bytes, raw)?;
-        append_row(depth, n, right, half - 1 - line, numbers, bytes, raw)?;
+        append_row(form, left, half - 1 - line, numbers, bytes, raw)?;
+        append_row(form, right, half - 1 - line, numbers, bytes, raw)?;
     }
     Ok(())
 }
 
 // Appends a line of a quadrant, counted from 0 at the quadrant's top.
 fn append_row(
-    depth: Depth,
-    n: u8,
+    form: &TileForm,
     quadrant: Quadrant<'_>,
     row: usize,
     numbers: &mut [i64],
     bytes: &mut [u8],
     raw: &mut Vec<u8>,
 ) -> Result<(), AllocError>
-    requires least_n { 1 ≤ n }
-    requires greatest_n { n ≤ 9 }
-    requires quadrant { Fits depth n quadrant }
-    requires row { row < 2 ^ (n - 1) }
-    requires numbers { length numbers.old ≡ 5 * 2 ^ (n - 1) }
-    requires bytes { length bytes.old ≡ 2 ^ (n - 1) * (depth.bitpix / 8) }
-    ensures length { IfOk result (λ _. length raw.new.items ≡ length raw.old.items + 2 ^ (n - 1) * (depth.bitpix / 8)) }
-    ensures bytes { IfOk result (λ _. (child : Option (List ℤ)) → IsOver depth n child quadrant.entry
-        → raw.new.items ≡ raw.old.items ++ stored_bytes depth.bitpix (half_row depth n child row)) }
-    ensures range { (child : Option (List ℤ)) → IsOver depth n child quadrant.entry → All (IsNumber depth.bitpix) (half_row depth n child row) }
+    requires least_n { 1 ≤ form.now.n }
+    requires greatest_n { form.now.n ≤ 9 }
+    requires quadrant { Fits form.now.depth form.now.n quadrant }
+    requires row { row < 2 ^ (form.now.n - 1) }
+    requires numbers { length numbers.old ≡ 5 * 2 ^ (form.now.n - 1) }
+    requires bytes { length bytes.old ≡ 2 ^ (form.now.n - 1) * (form.now.depth.bitpix / 8) }
+    ensures length { IfOk result (λ _. length raw.new.items ≡ length raw.old.items + 2 ^ (form.now.n - 1) * (form.now.depth.bitpix / 8)) }
+    ensures bytes { IfOk result (λ _. (child : Option (List ℤ)) → IsOver form.now.depth form.now.n child quadrant.entry
+        → raw.new.items ≡ raw.old.items ++ stored_bytes form.now.depth.bitpix (half_row form.now.depth form.now.n child row)) }
+    ensures range { (child : Option (List ℤ)) → IsOver form.now.depth form.now.n child quadrant.entry → All (IsNumber form.now.depth.bitpix) (half_row form.now.depth form.now.n child row) }
 {
     match quadrant {
         Quadrant::Kept(tile, i) => return raw.extend_from_slice(tile.quadrant_line(i, row)),
         Quadrant::Merged(child) => {
-            store_half_row(depth, n, child, row, numbers, bytes);
+            store_half_row(form.depth, form.n, child, row, numbers, bytes);
             return raw.extend_from_slice(bytes);
         }
     }

@@ -6,18 +6,18 @@ use Rattle.tile_pixels.proofs.merge.append_rows.Goals as goal
 pub loop-line-init : goal.loop-line-init
 loop-line-init c = record {
   long = omega arith;
-  bytes = λ left right over_left over_right. bytes_of_none c.args.depth.bitpix c.args.raw.now.items c.args.depth c.args.n left right;
-  range = λ left right over_left over_right. numbers_of_none c.args.depth.bitpix c.args.depth c.args.n left right;
+  bytes = λ left right over_left over_right. bytes_of_none c.args.form.now.depth.bitpix c.args.raw.now.items c.args.form.now.depth c.args.form.now.n left right;
+  range = λ left right over_left over_right. numbers_of_none c.args.form.now.depth.bitpix c.args.form.now.depth c.args.form.now.n left right;
 }
 
 pub loop-line-preserved : goal.loop-line-preserved
 loop-line-preserved c =
-    let row : c.half_side-half.result - 1 - c.loop-line.line ≡ 2 ^ (c.args.n - 1) - 1 - c.loop-line.line = ap (λ h. h - 1 - c.loop-line.line) c.half_side-half.ensures.half in
-    let more = add-mul c.loop-line.line 1 (2 * (2 ^ (c.args.n - 1) * (c.args.depth.bitpix / 8))) in
+    let row : c.half_side-half.result - 1 - c.loop-line.line ≡ 2 ^ (c.args.form.now.n - 1) - 1 - c.loop-line.line = ap (λ h. h - 1 - c.loop-line.line) c.half_side-half.ensures.half in
+    let more = add-mul c.loop-line.line 1 (2 * (2 ^ (c.args.form.now.n - 1) * (c.args.form.now.depth.bitpix / 8))) in
     record {
       long = omega (arith, more, c.loop-line.invariant.long, c.in_ok-append_row.ensures.length, c.in_ok-append_row-2.ensures.length);
-      bytes = λ left right over_left over_right. bytes_of_more c.args.depth.bitpix c.args.raw.now.items c.loop-line.raw.items _ _ c.args.depth c.args.n left right c.loop-line.line _ row
+      bytes = λ left right over_left over_right. bytes_of_more c.args.form.now.depth.bitpix c.args.raw.now.items c.loop-line.raw.items _ _ c.args.form.now.depth c.args.form.now.n left right c.loop-line.line _ row
           (c.loop-line.invariant.bytes left right over_left over_right) (c.in_ok-append_row.ensures.bytes left over_left) (c.in_ok-append_row-2.ensures.bytes right over_right);
-      range = λ left right over_left over_right. numbers_of_more c.args.depth.bitpix c.args.depth c.args.n left right c.loop-line.line _ row
+      range = λ left right over_left over_right. numbers_of_more c.args.form.now.depth.bitpix c.args.form.now.depth c.args.form.now.n left right c.loop-line.line _ row
           (c.loop-line.invariant.range left right over_left over_right) (c.append_row.ensures.range left over_left) (c.append_row-in-loop-line.ensures.range right over_right);
     }

@@ -8,9 +8,9 @@ use Rattle.tile_pixels.proofs.merge.append_rows.Given as goal
 
 abbrev pub invariant-loop-line : goal.invariant-loop-line
 invariant-loop-line l = record {
-  long : length l.raw.items ≡ length l.initial.raw.items + l.line * (2 * (2 ^ (l.n - 1) * (l.depth.bitpix / 8)));
-  bytes : (left right : Option (List ℤ)) → IsOver l.depth l.n left l.left → IsOver l.depth l.n right l.right
-      → l.raw.items ≡ l.initial.raw.items ++ stored_bytes l.depth.bitpix (half_rows l.depth l.n left right l.line);
-  range : (left right : Option (List ℤ)) → IsOver l.depth l.n left l.left → IsOver l.depth l.n right l.right
-      → All (IsNumber l.depth.bitpix) (half_rows l.depth l.n left right l.line);
+  long : length l.raw.items ≡ length l.initial.raw.items + l.line * (2 * (2 ^ (l.form.n - 1) * (l.form.depth.bitpix / 8)));
+  bytes : (left right : Option (List ℤ)) → IsOver l.form.depth l.form.n left l.left → IsOver l.form.depth l.form.n right l.right
+      → l.raw.items ≡ l.initial.raw.items ++ stored_bytes l.form.depth.bitpix (half_rows l.form.depth l.form.n left right l.line);
+  range : (left right : Option (List ℤ)) → IsOver l.form.depth l.form.n left l.left → IsOver l.form.depth l.form.n right l.right
+      → All (IsNumber l.form.depth.bitpix) (half_rows l.form.depth l.form.n left right l.line);
 }
