@@ -31,6 +31,11 @@ abbrev pub ReadsRecord : ℕ → List ℕ → List ℕ → List ℕ → Option (
 ReadsRecord room bytes text rest left (Ok asked) = next_record room bytes ≡ then_rest (record_of asked text) rest
 ReadsRecord room bytes text rest left (Err stop) = Stops room bytes left stop
 
+-- the source failed
+abbrev pub read_failed : {T : Type 0} → Result T Stop → Bool
+read_failed (Err ReadFault) = true
+read_failed _ = false
+
 -- whether there are bytes behind the last record
 abbrev pub LooksOn : List ℕ → Option (List ℕ) → Result Bool Failed → Type 0
 LooksOn bytes left (Ok true) = 0 < length bytes

@@ -1,13 +1,13 @@
 //! Reading of one record.
-ghost use Rattle.std.specs.Prelude.{◌≡◌, ◌==◌, ◌+◌, ◌^◌, ◌<◌, ◌≤◌, ◌++◌, ℕ, List, length, position, Some, Err, IfOk, IfErr, OnOk, OnErr, IsErrOf};
-ghost use Rattle.survey_link.specs.Link.{Rises, readings_after};
+ghost use Rattle.std.specs.Prelude.{◌≡◌, ◌==◌, ◌+◌, ◌^◌, ◌<◌, ◌≤◌, ◌++◌, ℕ, List, length, position, Some, Err, is_err, IfOk, IfErr, OnOk, OnErr};
+ghost use Rattle.survey_link.specs.Link.{CountsFault, readings_after};
 ghost use Rattle.survey_link.specs.Inbox.{held, size};
 ghost use Rattle.http_frame.specs.Fill.{Takes};
 ghost use Rattle.http_frame.specs.Frame.{IsShort};
 ghost use Rattle.http_frame.specs.Readings.{ReadsWhile};
 ghost use Rattle.past_frame.specs.Line.{batch_line, line_of, line_feed};
 ghost use Rattle.past_frame.specs.Record.{most_line};
-ghost use Rattle.past_frame.specs.Reading.{NeedsMore, ReadsRecord, LooksOn, NeedsLine, StopsLine};
+ghost use Rattle.past_frame.specs.Reading.{NeedsMore, ReadsRecord, LooksOn, NeedsLine, StopsLine, read_failed};
 
 use crate::line::{Line, line_of, place_of};
 use crate::record::{Record, Stop};
@@ -36,7 +36,7 @@ pub fn read_record<S: Source>(
     requires room { room ≤ 2 ^ 30 }
     ensures read { (came : List ℕ) × ReadsWhile S.left S.readings (NeedsMore room) (held inbox.old) src.old src.new came
         × ReadsRecord room (held inbox.old ++ came) text.new.items (held inbox.new) (S.left src.new) result }
-    ensures failed { IsErrOf result Stop.ReadFault → Rises (S.faults src.old) (S.faults src.new) }
+    ensures faults { CountsFault (read_failed result) (S.faults src.old) (S.faults src.new) }
     ensures never_falls { S.faults src.old ≤ S.faults src.new }
     ensures size { size inbox.new ≡ size inbox.old }
 {
@@ -54,7 +54,7 @@ pub fn read_record<S: Source>(
 pub fn has_more<S: Source>(inbox: &mut Inbox, src: &mut S) -> Result<bool, Failed>
     ensures looks { (came : List ℕ) × ReadsWhile S.left S.readings (IsShort 1) (held inbox.old) src.old src.new came
         × LooksOn (held inbox.old ++ came) (S.left src.new) result }
-    ensures failed { OnErr result (Rises (S.faults src.old) (S.faults src.new)) }
+    ensures faults { CountsFault (is_err result) (S.faults src.old) (S.faults src.new) }
     ensures never_falls { S.faults src.old ≤ S.faults src.new }
     ensures size { size inbox.new ≡ size inbox.old }
 {
@@ -74,7 +74,7 @@ fn take_record<S: Source>(
     requires end { position (λ b. b == line_feed) (held inbox.old) ≡ Some end }
     ensures read { (came : List ℕ) × ReadsWhile S.left S.readings (NeedsMore room) (held inbox.old) src.old src.new came
         × ReadsRecord room (held inbox.old ++ came) text.new.items (held inbox.new) (S.left src.new) result }
-    ensures failed { IsErrOf result Stop.ReadFault → Rises (S.faults src.old) (S.faults src.new) }
+    ensures faults { CountsFault (read_failed result) (S.faults src.old) (S.faults src.new) }
     ensures never_falls { S.faults src.old ≤ S.faults src.new }
     ensures size { size inbox.new ≡ size inbox.old }
 {
@@ -113,7 +113,7 @@ fn fill_line<S: Source>(inbox: &mut Inbox, src: &mut S) -> Result<usize, Stop>
     ensures found { IfOk result (λ end. position (λ b. b == line_feed) (held inbox.new) ≡ Some end) }
     ensures read { (came : List ℕ) × ReadsWhile S.left S.readings NeedsLine (held inbox.old) src.old src.new came × (held inbox.new ≡ held inbox.old ++ came) }
     ensures stop { IfErr result (StopsLine (held inbox.new) (S.left src.new)) }
-    ensures failed { IsErrOf result Stop.ReadFault → Rises (S.faults src.old) (S.faults src.new) }
+    ensures faults { CountsFault (read_failed result) (S.faults src.old) (S.faults src.new) }
     ensures never_falls { S.faults src.old ≤ S.faults src.new }
     ensures size { size inbox.new ≡ size inbox.old }
 {
@@ -137,7 +137,7 @@ fn read_more<S: Source>(inbox: &mut Inbox, src: &mut S) -> Result<(), Stop>
     ensures more { OnOk result (length (held inbox.old) < length (held inbox.new)) }
     ensures counted { S.readings src.new ≡ readings_after 1 (S.readings src.old) }
     ensures stop { IfErr result (StopsLine (held inbox.new) (S.left src.new)) }
-    ensures failed { IsErrOf result Stop.ReadFault → Rises (S.faults src.old) (S.faults src.new) }
+    ensures faults { CountsFault (read_failed result) (S.faults src.old) (S.faults src.new) }
     ensures never_falls { S.faults src.old ≤ S.faults src.new }
     ensures size { size inbox.new ≡ size inbox.old }
 {

@@ -1,4 +1,4 @@
-use Rattle.std.proofs.Common.{arith, sym, ◌∙◌}
+use Rattle.std.proofs.Common.{sym, ◌∙◌}
 use Rattle.survey_link.specs.Inbox.{held}
 use Rattle.http_frame.proofs.ReadingSteps.{gave_some, filling_more, filling_last}
 use Rattle.past_frame.specs.Reading.{NeedsLine}
@@ -14,7 +14,7 @@ loop-end-preserved g c =
     record {
       filling = filling_more _ _ _ (held c.args.inbox.now) (held c.loop-end.inbox) (held c.read_more.new.inbox) _ _ _ e.taken.more c.loop-end.invariant.filling needs
           (record { given = e.taken.consumed; counted = e.counted }) e.taken.grown (gave_some (held c.loop-end.inbox) e.taken.more (held c.read_more.new.inbox) e.taken.grown e.more);
-      faults = omega (arith, c.loop-end.invariant.faults, e.never_falls);
+      faults = e.faults ∙ c.loop-end.invariant.faults;
       size = e.size ∙ c.loop-end.invariant.size;
     }
 
