@@ -6,7 +6,6 @@ use Rattle.std.specs.Io.KnownBytes.{Consumes}
 use Rattle.http_frame.specs.Next.{head_end, most_head, IsHeadLength, HasNoHead, NeedsMore}
 use Rattle.http_frame.proofs.Fills.{occurs_in_front}
 use Rattle.http_frame.proofs.Nexts.{head_length_of_more, text_of_more}
-use Rattle.survey_link.specs.Link.{Rises}
 use Rattle.http_frame.specs.Fill.{StopsFill}
 use Rattle.http_frame.specs.declared.stop.Stop.{Stop as Stopped}
 use Rattle.http_frame.specs.declared.stop.Stop.TheVariants as stopped
@@ -17,7 +16,6 @@ use Rattle.mirror_frame.specs.Reply.{BeginsReply, IsReply, IsCutReply, IsWrongRe
 use Rattle.mirror_frame.specs.Reading.{StopsBegin, StopsReply, ReadsReply, TellsPinned, unread, of_stopped}
 use Rattle.mirror_frame.specs.Peer.{Told}
 use Rattle.mirror_frame.specs.declared.due.Due.{Due}
-use Rattle.mirror_frame.specs.declared.due.Due.TheVariants.{Pinned}
 use Rattle.mirror_frame.specs.declared.reading.Stop.{Stop}
 use Rattle.mirror_frame.specs.declared.reading.Stop.TheVariants.{Wrong, Cut, ReadFault, WriteFault, OutOfMemory}
 
@@ -147,17 +145,11 @@ nothing_held bytes none = record {
 }
 
 -- why no head was read
-pub stops_head : (due : Due) (held : List ℕ) (left : Option (List ℕ)) (faults faults' : ℕ) (why : Stopped) → StopsFill held left faults faults' why → StopsBegin due held left (of_stopped why)
-stops_head due held left faults faults' (stopped.Refuse code) stops = inl (stops.2, stops.1)
-stops_head due held left faults faults' stopped.End stops = (nothing_held held stops.0, stops.1)
-stops_head due held left faults faults' stopped.Cut stops = (stops.1, stops.2)
-stops_head due held left faults faults' stopped.ReadFault stops = tt
-
-pub fails_head : (held : List ℕ) (left : Option (List ℕ)) (faults faults' : ℕ) (why : Stopped) → StopsFill held left faults faults' why → of_stopped why ≡ ReadFault → Rises faults faults'
-fails_head held left faults faults' (stopped.Refuse code) stops is = absurd cc
-fails_head held left faults faults' stopped.End stops is = absurd cc
-fails_head held left faults faults' stopped.Cut stops is = absurd cc
-fails_head held left faults faults' stopped.ReadFault stops is = stops.0
+pub stops_head : (due : Due) (held : List ℕ) (left : Option (List ℕ)) (why : Stopped) → StopsFill held left why → StopsBegin due held left (of_stopped why)
+stops_head due held left (stopped.Refuse code) stops = inl (stops.2, stops.1)
+stops_head due held left stopped.End stops = (nothing_held held stops.0, stops.1)
+stops_head due held left stopped.Cut stops = (stops.1, stops.2)
+stops_head due held left stopped.ReadFault stops = tt
 
 -- what came of a head, and then what came behind it
 pub read_both : {S : Type 0} (left : S → Option (List ℕ)) (readings : S → Option ℕ) (due : Due) (held held' : List ℕ) (a b c : S) (n : ℕ) → IsHeadLength held' n

@@ -1,5 +1,5 @@
 -- What reading one reply does, as its steps say it.
-use Rattle.std.specs.Prelude.{◌≡◌, ℕ, List, length, Option, IfSome, IsSome, Result, Ok, Err, ⊤}
+use Rattle.std.specs.Prelude.{◌≡◌, ℕ, List, Option, IfSome, IsSome, Bool, true, false, Result, Ok, Err, ⊤}
 use Rattle.std.specs.Io.KnownBytes.{prepend_known, IsAtEnd}
 use Rattle.http_frame.specs.Next.{NeedsMore}
 use Rattle.http_frame.specs.declared.stop.Stop.{Stop as Stopped}
@@ -28,6 +28,15 @@ of_stopped (stopped.Refuse code) = Wrong
 of_stopped stopped.End = Cut
 of_stopped stopped.Cut = Cut
 of_stopped stopped.ReadFault = ReadFault
+
+-- a request has no reply since the source failed; since the sink failed
+abbrev pub read_failed : {A : Type 0} → Result A Stop → Bool
+read_failed (Err ReadFault) = true
+read_failed _ = false
+
+abbrev pub write_failed : {A : Type 0} → Result A Stop → Bool
+write_failed (Err WriteFault) = true
+write_failed _ = false
 
 -- why no head of the reply that is due is held
 abbrev pub StopsBegin : Due → List ℕ → Option (List ℕ) → Stop → Type 0

@@ -1,7 +1,7 @@
 //! What a mirror asks for.
-ghost use Rattle.std.specs.Prelude.{◌≡◌, ◌≤◌, OnOk, OnErr};
+ghost use Rattle.std.specs.Prelude.{◌≡◌, is_err, OnOk, OnErr};
 ghost use Rattle.std.specs.Io.KnownBytes.{Appends};
-ghost use Rattle.survey_link.specs.Link.{AppendsPrefix, Rises};
+ghost use Rattle.survey_link.specs.Link.{AppendsPrefix, CountsFault};
 ghost use Rattle.tile_path.specs.Spelling.{HasTileOrder, spelling};
 ghost use Rattle.mirror_frame.specs.Requests.{HasOrder, request_bytes};
 ghost use Rattle.mirror_frame.specs.declared.ask.Ask;
@@ -27,14 +27,13 @@ pub enum Ask {
 ///
 /// # Errors
 ///
-/// `Failed` only where the sink's count of faults rose; a prefix may have been written.
+/// `Failed` if and only if the sink's count of faults rose; a prefix may have been written.
 pub(crate) fn send<K: Sink>(sink: &mut K, ask: &Ask) -> Result<(), Failed>
     requires { HasOrder ask.now }
     ensures sent { OnOk result (Appends (K.held sink.old) (K.held sink.new) (request_bytes ask.now)) }
     ensures part { OnErr result (AppendsPrefix (K.held sink.old) (K.held sink.new) (request_bytes ask.now)) }
     ensures flushed { OnOk result (K.flushed sink.new ≡ K.held sink.new) }
-    ensures failed { OnErr result (Rises (K.faults sink.old) (K.faults sink.new)) }
-    ensures never_falls { K.faults sink.old ≤ K.faults sink.new }
+    ensures faults { CountsFault (is_err result) (K.faults sink.old) (K.faults sink.new) }
 {
     match write_request(sink, ask) {
         Ok(()) => sink.flush(),
@@ -47,8 +46,7 @@ fn write_request<K: Sink>(sink: &mut K, ask: &Ask) -> Result<(), Failed>
     requires { HasOrder ask.now }
     ensures sent { OnOk result (Appends (K.held sink.old) (K.held sink.new) (request_bytes ask.now)) }
     ensures part { OnErr result (AppendsPrefix (K.held sink.old) (K.held sink.new) (request_bytes ask.now)) }
-    ensures failed { OnErr result (Rises (K.faults sink.old) (K.faults sink.new)) }
-    ensures never_falls { K.faults sink.old ≤ K.faults sink.new }
+    ensures faults { CountsFault (is_err result) (K.faults sink.old) (K.faults sink.new) }
 {
     match ask {
         Ask::Pin => write_whole(sink, b"POST /pin HTTP/1.1\r\nHost: mirror\r\n\r\n"),
@@ -65,8 +63,7 @@ fn write_get<K: Sink>(sink: &mut K, path: &Path) -> Result<(), Failed>
     requires { HasTileOrder path.now }
     ensures sent { OnOk result (Appends (K.held sink.old) (K.held sink.new) (request_bytes (Ask.File path.now))) }
     ensures part { OnErr result (AppendsPrefix (K.held sink.old) (K.held sink.new) (request_bytes (Ask.File path.now))) }
-    ensures failed { OnErr result (Rises (K.faults sink.old) (K.faults sink.new)) }
-    ensures never_falls { K.faults sink.old ≤ K.faults sink.new }
+    ensures faults { CountsFault (is_err result) (K.faults sink.old) (K.faults sink.new) }
 {
     let mut spelled = [0; PATH_ROOM];
     let len = path.write_into(&mut spelled);

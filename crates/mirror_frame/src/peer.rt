@@ -43,19 +43,17 @@ impl Received {
 
 impl Received {
     ghost use Rattle.std.specs.Prelude.{◌++◌, ℕ, List};
-    ghost use Rattle.std.specs.Prelude.{◌≤◌, IsErrOf};
-    ghost use Rattle.survey_link.specs.Link.{Rises};
+    ghost use Rattle.survey_link.specs.Link.{CountsFault};
     ghost use Rattle.survey_link.specs.Inbox.{held};
     ghost use Rattle.http_frame.specs.Readings.{ReadsWhile};
     ghost use Rattle.mirror_frame.specs.Reply.{IsCutReply};
-    ghost use Rattle.mirror_frame.specs.Reading.{ReadsReply};
+    ghost use Rattle.mirror_frame.specs.Reading.{ReadsReply, read_failed};
 
     // Reads the next reply, and answers its Survey-Prefix.
     fn read<S: Source>(&mut self, src: &mut S, due: Due) -> Result<Option<u32>, Stop>
         ensures read { (came : List ℕ) × ReadsWhile S.left S.readings (IsCutReply due) (held self.old.inbox) src.old src.new came
             × ReadsReply due (held self.old.inbox ++ came) self.new.body.items (held self.new.inbox) (S.left src.new) result }
-        ensures failed { IsErrOf result Stop.ReadFault → Rises (S.faults src.old) (S.faults src.new) }
-        ensures never_falls { S.faults src.old ≤ S.faults src.new }
+        ensures faults { CountsFault (read_failed result) (S.faults src.old) (S.faults src.new) }
     {
         read_reply(&mut self.inbox, src, &mut self.body, due)
     }
@@ -77,9 +75,9 @@ impl<S: Source, K: Sink> Peer<'_, '_, '_, S, K> {
     ghost use Rattle.survey_link.specs.Inbox.{held};
     ghost use Rattle.mirror_frame.specs.Requests.{HasOrder};
     ghost use Rattle.mirror_frame.specs.Reply.{IsReply, FitsPrefix};
-    ghost use Rattle.mirror_frame.specs.Reading.{StopsReply, TellsPinned};
+    ghost use Rattle.mirror_frame.specs.Reading.{StopsReply, TellsPinned, read_failed, write_failed};
     ghost use Rattle.mirror_frame.specs.Exchange.{IsExchanged, BreaksOff};
-    ghost use Rattle.mirror_frame.specs.Peer.{talk, body_of, unread_at, Goes, TellsFault, Told};
+    ghost use Rattle.mirror_frame.specs.Peer.{talk, body_of, unread_at, Goes, Told};
 
     /// The body of the last reply.
     pub fn body(&self) -> &[u8]
@@ -100,7 +98,7 @@ impl<S: Source, K: Sink> Peer<'_, '_, '_, S, K> {
     /// # Errors
     ///
     /// `Wrong` if and only if the reply is malformed; `Cut` if and only if the input ends within it, before that is known;
-    /// `ReadFault` and `WriteFault` only where that end's count of faults rose; `OutOfMemory`.
+    /// `ReadFault` and `WriteFault` if and only if that end's count of faults rose; `OutOfMemory`.
     pub fn ask(&mut self, ask: &Ask, due: Due) -> Result<Option<u32>, Stop>
         requires { HasOrder ask.now }
         ensures asked { MatchResult result
@@ -109,8 +107,7 @@ impl<S: Source, K: Sink> Peer<'_, '_, '_, S, K> {
         ensures read { OnOk result (Told (unread_at S.Source self.old) (unread_at S.Source self.new) (λ bytes rest. IsReply due bytes (body_of self.new) rest)) }
         ensures prefix { IfOk result (λ prefix. FitsPrefix due prefix × TellsPinned due (body_of self.new) prefix) }
         ensures stop { IfErr result (λ stop. IfSome (unread_at S.Source self.old) (λ bytes. StopsReply due bytes stop)) }
-        ensures faults { IfErr result (TellsFault S.Source K.Sink self.old self.new) }
-        ensures goes { Goes S.Source K.Sink self.old self.new }
+        ensures goes { Goes S.Source K.Sink (read_failed result) (write_failed result) self.old self.new }
     {
         match send(self.sink, ask) {
             Ok(()) => self.received.read(self.src, due),

@@ -1,12 +1,12 @@
 //! Reading of one reply.
-ghost use Rattle.std.specs.Prelude.{◌≡◌, ◌≢◌, ◌<◌, ◌≤◌, ◌++◌, length, take, drop, Ok, Err, IfOk, IfErr, OnOk, OnErr, IsErrOf, IsNone, IfSome, Option, ℕ, List};
+ghost use Rattle.std.specs.Prelude.{◌≡◌, ◌≢◌, ◌<◌, ◌≤◌, ◌++◌, length, take, drop, Ok, Err, IfOk, IfErr, OnOk, OnErr, IsNone, IfSome, Option, ℕ, List};
 ghost use Rattle.std.specs.Io.KnownBytes.{IsAtEnd};
-ghost use Rattle.survey_link.specs.Link.{Rises};
+ghost use Rattle.survey_link.specs.Link.{CountsFault};
 ghost use Rattle.survey_link.specs.Inbox.{held, size};
 ghost use Rattle.http_frame.specs.Next.{NeedsMore, most_head};
 ghost use Rattle.http_frame.specs.Readings.{ReadsWhile};
 ghost use Rattle.mirror_frame.specs.Reply.{BeginsReply, SaysReply, FitsPrefix, FitsBody, IsCutReply};
-ghost use Rattle.mirror_frame.specs.Reading.{StopsBegin, ReadsReply, of_stopped};
+ghost use Rattle.mirror_frame.specs.Reading.{StopsBegin, ReadsReply, of_stopped, read_failed};
 
 use crate::due::Due;
 use crate::head::{ReplyHead, read_head};
@@ -50,8 +50,7 @@ pub(crate) fn read_reply<S: Source>(
     requires { size inbox.old ≡ most_head }
     ensures read { (came : List ℕ) × ReadsWhile S.left S.readings (IsCutReply due) (held inbox.old) src.old src.new came
         × ReadsReply due (held inbox.old ++ came) body.new.items (held inbox.new) (S.left src.new) result }
-    ensures failed { IsErrOf result Stop.ReadFault → Rises (S.faults src.old) (S.faults src.new) }
-    ensures never_falls { S.faults src.old ≤ S.faults src.new }
+    ensures faults { CountsFault (read_failed result) (S.faults src.old) (S.faults src.new) }
     ensures size { size inbox.new ≡ size inbox.old }
 {
     match begin_reply(inbox, src, due) {
@@ -72,8 +71,7 @@ fn finish_reply<S: Source>(
     requires end { begun.end ≤ length (held inbox.old) }
     ensures read { (came : List ℕ) × ReadsWhile S.left S.readings (IsCutReply due) (held inbox.old) src.old src.new came
         × ReadsReply due (held inbox.old ++ came) body.new.items (held inbox.new) (S.left src.new) result }
-    ensures failed { IsErrOf result Stop.ReadFault → Rises (S.faults src.old) (S.faults src.new) }
-    ensures never_falls { S.faults src.old ≤ S.faults src.new }
+    ensures faults { CountsFault (read_failed result) (S.faults src.old) (S.faults src.new) }
     ensures size { size inbox.new ≡ size inbox.old }
 {
     body.resize(begun.head.length, 0)?;
@@ -111,8 +109,7 @@ fn begin_reply<S: Source>(inbox: &mut Inbox, src: &mut S, due: Due) -> Result<Be
     ensures end { IfOk result (λ begun. begun.end ≤ length (held inbox.new)) }
     ensures read { (came : List ℕ) × ReadsWhile S.left S.readings NeedsMore (held inbox.old) src.old src.new came × (held inbox.new ≡ held inbox.old ++ came) }
     ensures stop { IfErr result (StopsBegin due (held inbox.new) (S.left src.new)) }
-    ensures failed { IsErrOf result Stop.ReadFault → Rises (S.faults src.old) (S.faults src.new) }
-    ensures never_falls { S.faults src.old ≤ S.faults src.new }
+    ensures faults { CountsFault (read_failed result) (S.faults src.old) (S.faults src.new) }
     ensures size { size inbox.new ≡ size inbox.old }
 {
     match fill_head(inbox, src) {

@@ -1,8 +1,7 @@
-use Rattle.std.proofs.Common.{[], ◌++◌, ap, subst, refl}
-use Rattle.std.specs.Prelude.{OnErr, codes}
+use Rattle.std.proofs.Common.{[], ◌++◌, ap}
+use Rattle.std.specs.Prelude.{codes}
 use Rattle.httparse.specs.Ascii.{crlf_bytes}
 use Rattle.tile_path.specs.Spelling.{spelling}
-use Rattle.survey_link.specs.Link.{AppendsPrefix}
 use Rattle.mirror_frame.proofs.Exchanges.{five_parts}
 use Rattle.mirror_frame.proofs.ask.write_get.Goals as goal
 

@@ -1,10 +1,6 @@
-use Rattle.std.proofs.Common.{◌≡◌, ◌++◌, ◌∙◌, ◌<◌, ℕ, List, [], refl, sym, ap, subst, arith, length, take, drop}
+use Rattle.std.proofs.Common.{◌≡◌, ◌++◌, ◌∙◌, ◌<◌, refl, sym, ap, subst, arith, length, drop}
 use Rattle.std.proofs.lemmas.List.{with_items_is}
-use Rattle.http_frame.proofs.ReadLemmas.{reads_for}
-use Rattle.http_frame.specs.Frame.{IsShort}
-use Rattle.http_frame.specs.Readings.{ReadsWhile}
 use Rattle.survey_link.specs.Inbox.{held}
-use Rattle.mirror_frame.specs.Reply.{IsCutReply}
 use Rattle.mirror_frame.proofs.Replies.{judged, cut_reply, cut_while}
 use Rattle.mirror_frame.proofs.reading.finish_reply.Goals as goal
 

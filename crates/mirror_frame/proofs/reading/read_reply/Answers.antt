@@ -1,10 +1,10 @@
-use Rattle.std.proofs.Common.{◌≡◌, ◌++◌, ◌∙◌, inl, refl, sym, ap, subst, append_assoc, Err}
-use Rattle.http_frame.proofs.ReadLemmas.{reads_for, reads_gave, reads_then}
+use Rattle.std.proofs.Common.{inl, subst, Err}
+use Rattle.http_frame.proofs.ReadLemmas.{reads_for}
 use Rattle.http_frame.specs.Next.{NeedsMore}
 use Rattle.survey_link.specs.Inbox.{held}
 use Rattle.mirror_frame.specs.Reply.{IsCutReply}
 use Rattle.mirror_frame.specs.Reading.{ReadsReply}
-use Rattle.mirror_frame.proofs.Replies.{stops_begun, head_is_enough, read_both}
+use Rattle.mirror_frame.proofs.Replies.{stops_begun, read_both}
 use Rattle.mirror_frame.proofs.reading.read_reply.Goals as goal
 
 pub returns-in-Ok-clause-read : goal.returns-in-Ok-clause-read
