@@ -1,3 +1,5 @@
 pub mod Costs
 pub mod Texts
 pub mod Past
+pub mod Answers
+pub mod AnswerLaws

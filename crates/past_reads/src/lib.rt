@@ -5,8 +5,10 @@
 #![tactic(auto)]
 
 mod past;
+mod reads;
 mod refusal;
 mod saying;
 
 pub use past::Past;
+pub use reads::PastRead;
 pub use refusal::PastRefusal;

@@ -30,7 +30,7 @@ use survey_link::Gate;
 /// first.
 #[derive(Drop)]
 pub struct Past {
-    alloc: Global,
+    pub(crate) alloc: Global,
     conf: Arc<Conf>,
     journal: Journal,
     opening: Option<Arc<Generation>>,
