@@ -1,7 +1,7 @@
 //! Why `probe` ends without a tile.
-ghost use Rattle.std.specs.Prelude.{◌≡◌};
+ghost use Rattle.std.specs.Prelude.{◌≡◌, nat_eq, Err, ⊤};
 ghost use Rattle.leaf_probe.specs.declared.fault.ProbeFault.TheVariants.{Read, OutOfMemory};
-ghost use Rattle.leaf_probe.specs.Status.{status_of};
+ghost use Rattle.leaf_probe.specs.Status.{status_of, read_failed, write_failed};
 
 use std::alloc::{AllocError, AllocFailed};
 use survey_link::Failed;
@@ -28,7 +28,9 @@ pub enum ProbeFault {
 impl ProbeFault {
     /// The status that the program ends with.
     pub fn status(self) -> u8
-        ensures { result ≡ status_of self }
+        ensures status { result ≡ status_of self }
+        ensures read { nat_eq result 5 ≡ read_failed {A = ⊤} (Err self) }
+        ensures write { nat_eq result 6 ≡ write_failed {A = ⊤} (Err self) }
     {
         match self {
             ProbeFault::Cut => 4,

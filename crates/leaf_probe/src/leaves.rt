@@ -1,14 +1,15 @@
 //! The leaves that the records of `probe` give.
-ghost use Rattle.std.specs.Prelude.{◌≡◌, ℕ, ◌*◌, ◌/◌, ◌^◌, ◌<◌, ◌≤◌, ◌&&◌, List, length, IfOk, IfErr, OnOk, Some, IsErrOf, All, MatchResult, if◌then◌else◌};
+ghost use Rattle.std.specs.Prelude.{◌≡◌, ℕ, ◌*◌, ◌/◌, ◌^◌, ◌<◌, ◌≤◌, ◌&&◌, List, length, IfOk, IfErr, OnOk, Some, All, MatchResult, if◌then◌else◌};
 ghost use Rattle.std.specs.BTreeMap.{is_at};
 ghost use Rattle.std.specs.Map.{lookup, values_of};
 ghost use Rattle.std.specs.Ordering.{nat_cmp};
 ghost use Rattle.std.specs.Io.KnownBytes.{IsAtEnd};
-ghost use Rattle.survey_link.specs.Link.{Rises};
+ghost use Rattle.survey_link.specs.Link.{CountsFault};
 ghost use Rattle.healpix_nested.specs.Cells.{cell_count, lies_under};
 ghost use Rattle.tile_pixels.specs.Stored.{numbers_from};
 ghost use Rattle.tile_pixels.specs.Tile.{HasShape};
 ghost use Rattle.leaf_probe.specs.Probe.{IsProbe};
+ghost use Rattle.leaf_probe.specs.Status.{read_failed};
 ghost use Rattle.leaf_probe.specs.Merging.{IsLevel, steps_after};
 ghost use Rattle.leaf_probe.specs.Records.{record_length, reading_status};
 ghost use Rattle.leaf_probe.specs.Reading.{StandsFor, HasStatusIn, reading_statuses, ReadsPieces, empty_readings};
@@ -99,8 +100,7 @@ pub fn read_leaves<S: Source>(
     ensures reads { MatchResult result
         (λ _. ReadsPieces 1 (S.left source.old) (S.left source.new) (S.readings source.old) (S.readings source.new))
         (λ fault. ReadsPieces (empty_readings fault) (S.left source.old) (S.left source.new) (S.readings source.old) (S.readings source.new)) }
-    ensures failed { IsErrOf result ProbeFault.Read → Rises (S.faults source.old) (S.faults source.new) }
-    ensures never_falls { S.faults source.old ≤ S.faults source.new }
+    ensures faults { CountsFault (read_failed result) (S.faults source.old) (S.faults source.new) }
     ensures steps_never_fall { steps.old ≤ steps.new }
 {
     let mut raw = vec![in alloc; 0u8; 2 * 4usize.pow(u32::from(asked.n))]?;

@@ -1,7 +1,7 @@
 //! Bytes that are written and flushed.
-ghost use Rattle.std.specs.Prelude.{◌≡◌, ◌≤◌, OnOk, OnErr};
+ghost use Rattle.std.specs.Prelude.{◌≡◌, is_err, OnOk, OnErr};
 ghost use Rattle.std.specs.Io.KnownBytes.{Appends};
-ghost use Rattle.survey_link.specs.Link.{Rises, AppendsPrefix};
+ghost use Rattle.survey_link.specs.Link.{CountsFault, AppendsPrefix};
 
 use survey_link::{Failed, Sink, write_whole};
 
@@ -14,8 +14,7 @@ pub fn write_out<K: Sink>(sink: &mut K, bytes: &[u8]) -> Result<(), Failed>
     ensures whole { OnOk result (Appends (K.held sink.old) (K.held sink.new) bytes.now) }
     ensures part { OnErr result (AppendsPrefix (K.held sink.old) (K.held sink.new) bytes.now) }
     ensures flushed { OnOk result (K.flushed sink.new ≡ K.held sink.new) }
-    ensures failed { OnErr result (Rises (K.faults sink.old) (K.faults sink.new)) }
-    ensures never_falls { K.faults sink.old ≤ K.faults sink.new }
+    ensures faults { CountsFault (is_err result) (K.faults sink.old) (K.faults sink.new) }
 {
     write_whole(sink, bytes)?;
     sink.flush()

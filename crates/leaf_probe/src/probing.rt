@@ -2,9 +2,10 @@
 ghost use Rattle.std.specs.Prelude.{◌≡◌, ◌≢◌, ℕ, ◌≤◌, List, Some, IfErr, IfOk, OnOk, IsErrOf, All};
 ghost use Rattle.std.specs.Map.{values_of};
 ghost use Rattle.std.specs.Io.KnownBytes.{Appends, IsAtEnd};
-ghost use Rattle.survey_link.specs.Link.{Rises, AppendsPrefix};
+ghost use Rattle.survey_link.specs.Link.{CountsFault, AppendsPrefix};
 ghost use Rattle.leaf_probe.specs.declared.fault.ProbeFault.TheVariants.{Write};
 ghost use Rattle.leaf_probe.specs.Probe.{IsProbe};
+ghost use Rattle.leaf_probe.specs.Status.{read_failed, write_failed};
 ghost use Rattle.healpix_nested.specs.Cells.{cell_count};
 ghost use Rattle.pyramid_model.specs.Shape.{LeafMap};
 ghost use Rattle.tile_pixels.specs.Tile.{tile_of, HasShape};
@@ -55,10 +56,8 @@ pub fn probe<S: Source, K: Sink>(
     ensures reads { ReadsToTheEnd (S.left source.old) (S.left source.new) (S.readings source.old) (S.readings source.new) }
     ensures end { OnOk result (IsAtEnd (S.left source.new)) }
     ensures out_of_range { cell_count asked.now.order ≤ asked.now.npix → (result ≡ Err ProbeFault.OutOfRange) × (source.new ≡ source.old) }
-    ensures read { IsErrOf result ProbeFault.Read → Rises (S.faults source.old) (S.faults source.new) }
-    ensures write { IsErrOf result ProbeFault.Write → Rises (K.faults sink.old) (K.faults sink.new) }
-    ensures read_never_falls { S.faults source.old ≤ S.faults source.new }
-    ensures write_never_falls { K.faults sink.old ≤ K.faults sink.new }
+    ensures read { CountsFault (read_failed result) (S.faults source.old) (S.faults source.new) }
+    ensures write { CountsFault (write_failed result) (K.faults sink.old) (K.faults sink.new) }
     ensures steps_never_fall { steps.old ≤ steps.new }
 {
     if asked.npix >= cells(asked.order) {

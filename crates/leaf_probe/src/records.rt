@@ -1,10 +1,11 @@
 //! The leaf records that `probe` reads.
-ghost use Rattle.std.specs.Prelude.{◌≡◌, ℕ, ◌*◌, ◌^◌, ◌<◌, ◌≤◌, List, length, take, is_some, nat_lt, if◌then◌else◌, IfOk, IfErr, IfSome, IfNone, OnErr, Some, [], IsErrOf, MatchOption, MatchResult};
+ghost use Rattle.std.specs.Prelude.{◌≡◌, ℕ, ◌*◌, ◌^◌, ◌<◌, ◌≤◌, List, length, take, is_err, is_some, nat_lt, if◌then◌else◌, IfOk, IfErr, IfSome, IfNone, Some, [], MatchOption, MatchResult};
 ghost use Rattle.std.specs.Io.KnownBytes.{Consumes, IsAtEnd};
-ghost use Rattle.survey_link.specs.Link.{Rises};
+ghost use Rattle.survey_link.specs.Link.{CountsFault};
 ghost use Rattle.healpix_nested.specs.Cells.{cell_count};
 ghost use Rattle.tile_pixels.specs.Stored.{numbers_from};
 ghost use Rattle.leaf_probe.specs.Probe.{probe_depth};
+ghost use Rattle.leaf_probe.specs.Status.{read_failed};
 ghost use Rattle.leaf_probe.specs.Reading.{TakesRecord, StopsRecord, HasStatusIn, record_statuses, ReadsPieces, empty_readings};
 
 use crate::fault::ProbeFault;
@@ -24,8 +25,7 @@ fn read_full<S: Source>(source: &mut S, buf: &mut [u8]) -> Result<usize, Failed>
     ensures reads { MatchResult result
         (λ m. ReadsPieces (if nat_lt m (length buf.old) then 1 else 0) (S.left source.old) (S.left source.new) (S.readings source.old) (S.readings source.new))
         (λ _. ReadsPieces 1 (S.left source.old) (S.left source.new) (S.readings source.old) (S.readings source.new)) }
-    ensures failed { OnErr result (Rises (S.faults source.old) (S.faults source.new)) }
-    ensures never_falls { S.faults source.old ≤ S.faults source.new }
+    ensures faults { CountsFault (is_err result) (S.faults source.old) (S.faults source.new) }
 {
     let mut filled = 0;
     while filled < buf.len() {
@@ -68,8 +68,7 @@ pub fn next_record<S: Source>(
     ensures reads { MatchResult result
         (λ next. ReadsPieces (if is_some next then 0 else 1) (S.left source.old) (S.left source.new) (S.readings source.old) (S.readings source.new))
         (λ fault. ReadsPieces (empty_readings fault) (S.left source.old) (S.left source.new) (S.readings source.old) (S.readings source.new)) }
-    ensures failed { IsErrOf result ProbeFault.Read → Rises (S.faults source.old) (S.faults source.new) }
-    ensures never_falls { S.faults source.old ≤ S.faults source.new }
+    ensures faults { CountsFault (read_failed result) (S.faults source.old) (S.faults source.new) }
 {
     let mut head = [0; 8];
     let count = read_full(source, &mut head)?;

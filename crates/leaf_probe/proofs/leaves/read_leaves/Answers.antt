@@ -78,7 +78,7 @@ loop-count-preserved g c = record {
   sizes = c.in_ok-keep-in-Some.ensures.sizes;
   room = search rules;
   reads = reads_then 0 _ _ _ _ _ _ c.loop-count.invariant.reads (rw c.in-Some.is at c.in_ok-next_record.ensures.reads);
-  never_falls = omega arith;
+  faults = c.in_ok-next_record.ensures.faults ∙ c.loop-count.invariant.faults;
   steps = omega arith;
 }
 

@@ -18,6 +18,6 @@ invariant-loop-count g l = record {
   sizes : All (λ tile. length tile.numbers ≡ 4 ^ l.asked.n) (values_of l.leaves.entries);
   room : l.raw.len ≡ 2 * 4 ^ l.asked.n;
   reads : ReadsPieces 0 (g.S.Source.left l.initial.source) (g.S.Source.left l.source) (g.S.Source.readings l.initial.source) (g.S.Source.readings l.source);
-  never_falls : g.S.Source.faults l.initial.source ≤ g.S.Source.faults l.source;
+  faults : g.S.Source.faults l.source ≡ g.S.Source.faults l.initial.source;
   steps : l.initial.steps ≤ l.steps;
 }

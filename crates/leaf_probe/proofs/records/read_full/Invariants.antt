@@ -9,7 +9,7 @@ invariant-loop-filled g l = record {
   within : l.filled ≤ length l.buf;
   taken : Consumes (g.S.Source.left l.initial.source) (g.S.Source.left l.source) (take l.filled l.buf);
   reads : ReadsPieces 0 (g.S.Source.left l.initial.source) (g.S.Source.left l.source) (g.S.Source.readings l.initial.source) (g.S.Source.readings l.source);
-  faults : g.S.Source.faults l.initial.source ≤ g.S.Source.faults l.source;
+  faults : g.S.Source.faults l.source ≡ g.S.Source.faults l.initial.source;
 }
 
 -- what is left to fill
