@@ -137,13 +137,13 @@ refused_first f xs i x OutOfMemory h e none told = tt
 
 -- after one leaf more of a shelf that stays as it is
 module _ (here files : Option ShelfFiles) (same : here ≡ files) (d : Description) (xs : List ℕ) (i x : ℕ) (h : i < length xs) (e : x ≡ get_or xs i x) where
-  pub tiles_more : (tiles next : LeafTiles) → IfSome files (λ fs. tiles ≡ filter_map (leaf_tile fs d) (take i xs)) → IfSome here (λ fs. next ≡ tiles ++ cons_option (leaf_tile fs d x) [])
-      → IfSome files (λ fs. next ≡ filter_map (leaf_tile fs d) (take (i + 1) xs))
-  tiles_more tiles next before added = go files before (subst (λ o. IfSome o (λ fs. next ≡ tiles ++ cons_option (leaf_tile fs d x) [])) same added)
+  pub tiles_more : (tiles next : LeafTiles) (tile : Option (ℕ × PixelTile)) → IfSome files (λ fs. tiles ≡ filter_map (leaf_tile fs d) (take i xs)) → IfSome here (λ fs. tile ≡ leaf_tile fs d x)
+      → next ≡ tiles ++ cons_option tile [] → IfSome files (λ fs. next ≡ filter_map (leaf_tile fs d) (take (i + 1) xs))
+  tiles_more tiles next tile before read added = go files before (subst (λ o. IfSome o (λ fs. tile ≡ leaf_tile fs d x)) same read)
     where
-      go : (o : Option ShelfFiles) → IfSome o (λ fs. tiles ≡ filter_map (leaf_tile fs d) (take i xs)) → IfSome o (λ fs. next ≡ tiles ++ cons_option (leaf_tile fs d x) []) → IfSome o (λ fs. next ≡ filter_map (leaf_tile fs d) (take (i + 1) xs))
-      go None before added = tt
-      go (Some fs) before added = added ∙ ap (λ ts. ts ++ cons_option (leaf_tile fs d x) []) before ∙ sym (filter_map_more (leaf_tile fs d) xs i x h e)
+      go : (o : Option ShelfFiles) → IfSome o (λ fs. tiles ≡ filter_map (leaf_tile fs d) (take i xs)) → IfSome o (λ fs. tile ≡ leaf_tile fs d x) → IfSome o (λ fs. next ≡ filter_map (leaf_tile fs d) (take (i + 1) xs))
+      go None before read = tt
+      go (Some fs) before read = added ∙ ap (λ ts. ts ++ cons_option tile []) before ∙ ap (λ t. filter_map (leaf_tile fs d) (take i xs) ++ cons_option t []) read ∙ sym (filter_map_more (leaf_tile fs d) xs i x h e)
 
   pub sound_more : IfSome files (λ fs. filter_map (leaf_refusal fs d) (take i xs) ≡ []) → IfSome here (λ fs. leaf_refusal fs d x ≡ None) → IfSome files (λ fs. filter_map (leaf_refusal fs d) (take (i + 1) xs) ≡ [])
   sound_more before sound = go files before (subst (λ o. IfSome o (λ fs. leaf_refusal fs d x ≡ None)) same sound)
@@ -159,6 +159,10 @@ module _ (here files : Option ShelfFiles) (same : here ≡ files) (d : Descripti
       go : (o : Option ShelfFiles) → IfSome o (λ fs. filter_map (leaf_refusal fs d) (take i xs) ≡ []) → IfSome o (λ fs. IsRefusedBy (leaf_refusal fs d x) refusal) → IfSome o (λ fs. IsRefusedBy (slice_get (filter_map (leaf_refusal fs d) xs) 0) refusal)
       go None before told = tt
       go (Some fs) before told = refused_first (leaf_refusal fs d) xs i x refusal h e before told
+
+pub one_at_most : {Y : Type 0} (o : Option Y) → length (cons_option o []) ≤ 1
+one_at_most None = omega arith
+one_at_most (Some y) = omega arith
 
 -- the next leaf is above those before
 pub lower_next : (leaves : List ℕ) (i k : ℕ) (leaf : ℕ) (keys : List ℕ) → IsStrictlyIncreasing leaves → leaf ≡ get_or leaves i 0 → i + 1 ≤ k → k < length leaves → All (λ key. key < leaf + 1) keys → All (λ key. key < get_or leaves k 0) keys

@@ -1,4 +1,5 @@
--- What a refusal of a lower call is for the call that loads a shelf.
+-- What a refusal of a lower call is for the call that loads a shelf, and which refusal says that the shelf failed.
+use Rattle.std.specs.Prelude.{Bool, true, false, Result, Err}
 use Rattle.survey_link.specs.declared.faults.LinkFault.{LinkFault}
 use Rattle.survey_link.specs.declared.faults.LinkFault.TheVariants.{Failed, OutOfMemory as NoMemory}
 use Rattle.survey_conf.specs.declared.fault.ConfRefusal.{ConfRefusal}
@@ -13,3 +14,8 @@ of_link NoMemory = OutOfMemory
 abbrev pub of_conf : ConfRefusal → LoadRefusal
 of_conf (Fault fault) = Conf fault
 of_conf NoRoom = OutOfMemory
+
+-- a call was refused since the shelf failed
+abbrev pub at_shelf : {A : Type 0} → Result A LoadRefusal → Bool
+at_shelf (Err ShelfFault) = true
+at_shelf _ = false

@@ -1,7 +1,8 @@
 //! The description of a shelf's survey.
-ghost use Rattle.std.specs.Prelude.{◌≡◌, ◌≤◌, Ok, IfOk, IfErr, OnOk, IfSome, IsErrOf, None};
+ghost use Rattle.std.specs.Prelude.{◌≡◌, Ok, IfOk, IfErr, OnOk, IfSome, None};
 ghost use Rattle.std.specs.Result.{result_err};
-ghost use Rattle.survey_link.specs.Link.{Rises};
+ghost use Rattle.survey_link.specs.Link.{CountsFault};
+ghost use Rattle.shelf_io.specs.Refusals.{at_shelf};
 ghost use Rattle.survey_conf.specs.Description.{description_of};
 ghost use Rattle.survey_conf.specs.Faults.{fault_of, IsRefusedBy as IsConfRefusal};
 ghost use Rattle.shelf_io.specs.Opening.{conf_on, IsRefusedBy};
@@ -20,8 +21,8 @@ const CONF: &str = "survey.conf";
 ///
 /// # Errors
 ///
-/// `NoConf` if and only if it has none; `Conf` with the first fault of its text; `ShelfFault` only where the shelf's count of
-/// faults rose; `OutOfMemory`.
+/// `NoConf` if and only if it has none; `Conf` with the first fault of its text; `ShelfFault` if and only if the shelf's
+/// count of faults rose; `OutOfMemory`.
 pub(crate) fn read_conf<R: Log, H: Shelf>(
     rt: &R,
     alloc: Global,
@@ -31,8 +32,7 @@ pub(crate) fn read_conf<R: Log, H: Shelf>(
     ensures refused { IfErr result (λ refusal. IfSome (H.files shelf.old) (λ files.
         IsRefusedBy (result_err (conf_on files)) refusal)) }
     ensures kept { H.files shelf.new ≡ H.files shelf.old }
-    ensures failed { IsErrOf result LoadRefusal.ShelfFault → Rises (H.faults shelf.old) (H.faults shelf.new) }
-    ensures never_falls { H.faults shelf.old ≤ H.faults shelf.new }
+    ensures faults { CountsFault (at_shelf result) (H.faults shelf.old) (H.faults shelf.new) }
 {
     match shelf.get(alloc, CONF)? {
         Some(text) => Ok(described(rt, alloc, &text)?),

@@ -1,10 +1,11 @@
 //! From a generation to a shelf.
-ghost use Rattle.std.specs.Prelude.{◌≡◌, ◌+◌, ◌≤◌, length, All, IsSome, IfOk, OnOk, OnErr, IsErrOf, false};
+ghost use Rattle.std.specs.Prelude.{◌≡◌, ◌+◌, ◌≤◌, length, All, IsSome, IfOk, OnOk, OnErr, false};
 ghost use Rattle.std.specs.FinMap.{get, len};
 ghost use Rattle.fits_header.specs.Cards.{whole_blocks};
 ghost use Rattle.fits_tile.specs.TileFile.{data_len};
 ghost use Rattle.tile_path.specs.Spelling.{IsPath, spelling};
-ghost use Rattle.survey_link.specs.Link.{Rises};
+ghost use Rattle.survey_link.specs.Link.{CountsFault};
+ghost use Rattle.survey_link.specs.Shelf.{shelf_failed};
 ghost use Rattle.generation.specs.Files.{paths_in, files_in};
 ghost use Rattle.shelf_io.specs.Survey.{Replaces, OthersStay};
 ghost use Rattle.shelf_io.specs.Writing.{without_paths, with_path, with_paths};
@@ -30,8 +31,8 @@ use tile_path::Path;
 ///
 /// # Errors
 ///
-/// `LinkFault::Failed` only where the shelf's count of faults rose; `LinkFault::OutOfMemory`. Of the paths that a survey can
-/// have some may then be as they were, some as the generation has them, and one may hold anything; all other paths stay.
+/// `LinkFault::Failed` if and only if the shelf's count of faults rose; `LinkFault::OutOfMemory`. Of the paths that a survey
+/// can have some may then be as they were, some as the generation has them, and one may hold anything; all other paths stay.
 pub fn export<R: Clock + Log, H: Shelf>(
     rt: &R,
     alloc: Global,
@@ -41,8 +42,7 @@ pub fn export<R: Clock + Log, H: Shelf>(
     ensures count { IfOk result (λ count. count ≡ len (files_in generation.now)) }
     ensures replaced { OnOk result (Replaces (files_in generation.now) (H.files shelf.old) (H.files shelf.new)) }
     ensures refused { OnErr result (OthersStay (H.files shelf.old) (H.files shelf.new)) }
-    ensures failed { IsErrOf result LinkFault.Failed → Rises (H.faults shelf.old) (H.faults shelf.new) }
-    ensures never_falls { H.faults shelf.old ≤ H.faults shelf.new }
+    ensures faults { CountsFault (shelf_failed result) (H.faults shelf.old) (H.faults shelf.new) }
 {
     let strays = shelf_strays(alloc, shelf, generation)?;
     remove_all(rt, alloc, shelf, &strays)?;
@@ -62,8 +62,7 @@ fn remove_all<R: Log, H: Shelf>(
     requires { All IsPath paths.now }
     ensures removed { OnOk result (H.files shelf.new ≡ without_paths paths.now (H.files shelf.old)) }
     ensures others { OthersStay (H.files shelf.old) (H.files shelf.new) }
-    ensures failed { IsErrOf result LinkFault.Failed → Rises (H.faults shelf.old) (H.faults shelf.new) }
-    ensures never_falls { H.faults shelf.old ≤ H.faults shelf.new }
+    ensures faults { CountsFault (shelf_failed result) (H.faults shelf.old) (H.faults shelf.new) }
 {
     say_strays(rt, paths);
     for path in paths {
@@ -86,8 +85,7 @@ fn write_all<R: Clock + Log, H: Shelf>(
         ≡ with_paths (files_in generation.now) (paths_in generation.now) (H.files shelf.old)) }
     ensures there { OnOk result (All (λ path. IsSome (get (files_in generation.now) (spelling path))) (paths_in generation.now)) }
     ensures others { OthersStay (H.files shelf.old) (H.files shelf.new) }
-    ensures failed { IsErrOf result LinkFault.Failed → Rises (H.faults shelf.old) (H.faults shelf.new) }
-    ensures never_falls { H.faults shelf.old ≤ H.faults shelf.new }
+    ensures faults { CountsFault (shelf_failed result) (H.faults shelf.old) (H.faults shelf.new) }
 {
     let mut room = buffer(alloc, generation.room())?;
     let mut progress = Progress::begin(rt, "files compared and written", generation.file_count());
@@ -116,8 +114,7 @@ fn settle_file<H: Shelf>(
     ensures written { OnOk result (H.files shelf.new ≡ with_path (files_in generation.now) path.now (H.files shelf.old)) }
     ensures right { IfOk result (λ written. written ≡ false → H.files shelf.new ≡ H.files shelf.old) }
     ensures others { OthersStay (H.files shelf.old) (H.files shelf.new) }
-    ensures failed { IsErrOf result LinkFault.Failed → Rises (H.faults shelf.old) (H.faults shelf.new) }
-    ensures never_falls { H.faults shelf.old ≤ H.faults shelf.new }
+    ensures faults { CountsFault (shelf_failed result) (H.faults shelf.old) (H.faults shelf.new) }
 {
     let mut differences = Differences::new();
     if has_file(alloc, shelf, generation, path, room, &mut differences)? {
@@ -140,8 +137,7 @@ fn write_file<H: Shelf>(
     requires there { IsSome (get (files_in generation.now) (spelling path.now)) }
     ensures written { OnOk result (H.files shelf.new ≡ with_path (files_in generation.now) path.now (H.files shelf.old)) }
     ensures others { OthersStay (H.files shelf.old) (H.files shelf.new) }
-    ensures failed { IsErrOf result LinkFault.Failed → Rises (H.faults shelf.old) (H.faults shelf.new) }
-    ensures never_falls { H.faults shelf.old ≤ H.faults shelf.new }
+    ensures faults { CountsFault (shelf_failed result) (H.faults shelf.old) (H.faults shelf.new) }
 {
     let text = spelled(alloc, path)?;
     match generation.file(path, room).unwrap() {

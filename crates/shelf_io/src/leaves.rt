@@ -1,12 +1,13 @@
 //! The leaf tiles of a shelf.
-ghost use Rattle.std.specs.Prelude.{◌≡◌, ℕ, ◌+◌, ◌<◌, ◌≤◌, ◌++◌, [], length, All, IfOk, IfErr, OnOk, OnErr, ◌∷◌, IfSome, IsErrOf, Option, None, slice_get, option_map};
+ghost use Rattle.std.specs.Prelude.{◌≡◌, ℕ, ◌+◌, ◌<◌, ◌≤◌, ◌++◌, [], length, All, IfOk, IfErr, OnOk, OnErr, ◌∷◌, IfSome, Option, None, slice_get, option_map};
 ghost use Rattle.std.specs.List.{filter_map, cons_option};
 ghost use Rattle.std.specs.Map.{keys_of};
 ghost use Rattle.std.specs.List.Sorted.{IsStrictlyIncreasing};
 ghost use Rattle.healpix_nested.specs.Cells.{cell_count};
 ghost use Rattle.dirty_plan.specs.Dirty.{steps_after};
 ghost use Rattle.tile_pixels.specs.Tile.{PixelTile, HasShape};
-ghost use Rattle.survey_link.specs.Link.{Rises};
+ghost use Rattle.survey_link.specs.Link.{CountsFault};
+ghost use Rattle.shelf_io.specs.Refusals.{at_shelf};
 ghost use Rattle.leaf_store.specs.Store.{IsAscending};
 ghost use Rattle.edit_journal.specs.Leaves.{FitsLeaves};
 ghost use Rattle.shelf_io.specs.Opening.{leaf_tile, leaf_refusal, IsRefusedBy};
@@ -32,7 +33,8 @@ use tile_pixels::Tile;
 ///
 /// # Errors
 ///
-/// `Tile` for the first leaf whose file is refused; `ShelfFault` only where the shelf's count of faults rose; `OutOfMemory`.
+/// `Tile` for the first leaf whose file is refused; `ShelfFault` if and only if the shelf's count of faults rose;
+/// `OutOfMemory`.
 pub(crate) fn read_leaves<R: Clock + Log, H: Shelf>(
     rt: &R,
     alloc: Global,
@@ -52,8 +54,7 @@ pub(crate) fn read_leaves<R: Clock + Log, H: Shelf>(
     ensures refused { IfErr result (λ refusal. IfSome (H.files shelf.old) (λ files.
         IsRefusedBy (slice_get (filter_map (leaf_refusal files conf.now) leaves.now) 0) refusal)) }
     ensures kept { H.files shelf.new ≡ H.files shelf.old }
-    ensures failed { IsErrOf result LoadRefusal.ShelfFault → Rises (H.faults shelf.old) (H.faults shelf.new) }
-    ensures never_falls { H.faults shelf.old ≤ H.faults shelf.new }
+    ensures faults { CountsFault (at_shelf result) (H.faults shelf.old) (H.faults shelf.new) }
     ensures counted { IfOk result (λ tiles. steps.new ≡ steps_after steps.old (length tiles)) }
     ensures steps { IfOk result (λ tiles. steps.new ≤ steps.old + length tiles) }
     ensures steps_at_most { steps.new ≤ steps.old + length leaves.now }
@@ -64,43 +65,32 @@ pub(crate) fn read_leaves<R: Clock + Log, H: Shelf>(
     let mut tiles = Store::new(alloc);
     let mut progress = Progress::begin(rt, "leaves read", leaves.len() as u64);
     for leaf in leaves {
-        add_leaf(rt, alloc, shelf, conf, *leaf, steps, &mut tiles)?;
+        let tile = read_leaf(rt, alloc, shelf, conf, *leaf, steps)?;
+        add_leaf(alloc, conf, *leaf, tile, &mut tiles)?;
         progress.part_done(rt);
     }
     Ok(tiles)
 }
 
-// Adds the tile of a leaf to those of leaves with lower numbers, where the leaf has a file.
-fn add_leaf<R: Log, H: Shelf>(
-    rt: &R,
+// Adds the tile of a leaf, where it has one, to those of leaves with lower numbers.
+fn add_leaf(
     alloc: Global,
-    shelf: &mut H,
     conf: &Conf,
     leaf: u64,
-    steps: &mut Steps,
+    tile: Option<Tile>,
     tiles: &mut Store<Tile>,
-) -> Result<(), LoadRefusal>
+) -> Result<(), AllocError>
     requires cell { leaf < cell_count conf.now.shape.top }
     requires lower { All (λ key. key < leaf) (keys_of tiles.old) }
     requires fits { FitsLeaves conf.now.shape tiles.old }
+    requires shape { IfSome tile (λ t. HasShape t conf.now.shape.depth conf.now.shape.n) }
     ensures fits { OnOk result (FitsLeaves conf.now.shape tiles.new) }
     ensures higher { OnOk result (All (λ key. key < leaf + 1) (keys_of tiles.new)) }
-    ensures added { OnOk result (IfSome (H.files shelf.old) (λ files.
-        tiles.new ≡ tiles.old ++ cons_option (leaf_tile files conf.now leaf) [])) }
-    ensures sound { OnOk result (IfSome (H.files shelf.old) (λ files. leaf_refusal files conf.now leaf ≡ None)) }
-    ensures refused { IfErr result (λ refusal. IfSome (H.files shelf.old) (λ files.
-        IsRefusedBy (leaf_refusal files conf.now leaf) refusal)) }
-    ensures kept { H.files shelf.new ≡ H.files shelf.old }
-    ensures failed { IsErrOf result LoadRefusal.ShelfFault → Rises (H.faults shelf.old) (H.faults shelf.new) }
-    ensures never_falls { H.faults shelf.old ≤ H.faults shelf.new }
-    ensures count { length tiles.new ≤ length tiles.old + 1 }
-    ensures counted { OnOk result ((count : ℕ) → steps.old ≡ steps_after count (length tiles.old) → steps.new ≡ steps_after count (length tiles.new)) }
-    ensures steps { OnOk result (steps.new + length tiles.old ≤ steps.old + length tiles.new) }
-    ensures steps_at_most { steps.new ≤ steps.old + 1 }
-    ensures steps_never_fall { steps.old ≤ steps.new }
+    ensures added { OnOk result (tiles.new ≡ tiles.old ++ cons_option (option_map {U = ℕ × PixelTile} (λ t. (leaf, t)) tile) []) }
+    ensures count { OnOk result (length tiles.new ≡ length tiles.old + length (cons_option tile [])) }
 {
-    match read_leaf(rt, alloc, shelf, conf, leaf, steps)? {
-        Some(tile) => Ok(put_tile(alloc, leaf, tile, tiles)?),
+    match tile {
+        Some(tile) => put_tile(alloc, leaf, tile, tiles),
         None => Ok(()),
     }
 }
@@ -133,8 +123,7 @@ fn read_leaf<R: Log, H: Shelf>(
     ensures refused { IfErr result (λ refusal. IfSome (H.files shelf.old) (λ files.
         IsRefusedBy (leaf_refusal files conf.now leaf) refusal)) }
     ensures kept { H.files shelf.new ≡ H.files shelf.old }
-    ensures failed { IsErrOf result LoadRefusal.ShelfFault → Rises (H.faults shelf.old) (H.faults shelf.new) }
-    ensures never_falls { H.faults shelf.old ≤ H.faults shelf.new }
+    ensures faults { CountsFault (at_shelf result) (H.faults shelf.old) (H.faults shelf.new) }
     ensures counted { IfOk result (λ tile. steps.new ≡ steps_after steps.old (length (cons_option tile []))) }
     ensures steps { IfOk result (λ tile. steps.new ≤ steps.old + length (cons_option tile [])) }
     ensures steps_at_most { steps.new ≤ steps.old + 1 }

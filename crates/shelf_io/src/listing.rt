@@ -1,7 +1,8 @@
 //! Which leaves a shelf has files of.
-ghost use Rattle.std.specs.Prelude.{◌≡◌, ℕ, ◌<◌, ◌≤◌, ◌↔◌, map, string_bytes, All, IfOk, IfErr, IfSome, IsErrOf, Some, None};
+ghost use Rattle.std.specs.Prelude.{◌≡◌, ℕ, ◌<◌, ◌≤◌, ◌↔◌, map, string_bytes, All, IfOk, IfErr, IfSome, Some, None};
 ghost use Rattle.std.specs.List.Sorted.{IsStrictlyIncreasing};
-ghost use Rattle.survey_link.specs.Link.{Rises};
+ghost use Rattle.survey_link.specs.Link.{CountsFault};
+ghost use Rattle.shelf_io.specs.Refusals.{at_shelf};
 ghost use Rattle.healpix_nested.specs.Cells.{cell_count};
 ghost use Rattle.shelf_io.specs.Opening.{leaf_path, leaves_on, IsRefusedBy};
 ghost use Rattle.shelf_io.specs.Listed.{leaf_of, leaves_among};
@@ -66,7 +67,7 @@ fn leaf_of(path: Path, top: u8) -> Option<u64>
 ///
 /// # Errors
 ///
-/// `ShelfFault` only where the shelf's count of faults rose; `OutOfMemory`.
+/// `ShelfFault` if and only if the shelf's count of faults rose; `OutOfMemory`.
 pub(crate) fn shelf_leaves<R: Log, H: Shelf>(
     rt: &R,
     alloc: Global,
@@ -79,8 +80,7 @@ pub(crate) fn shelf_leaves<R: Log, H: Shelf>(
     ensures cells { IfOk result (λ leaves. All (λ leaf. leaf < cell_count top) leaves.items) }
     ensures refused { IfErr result (IsRefusedBy None) }
     ensures kept { H.files shelf.new ≡ H.files shelf.old }
-    ensures failed { IsErrOf result LoadRefusal.ShelfFault → Rises (H.faults shelf.old) (H.faults shelf.new) }
-    ensures never_falls { H.faults shelf.old ≤ H.faults shelf.new }
+    ensures faults { CountsFault (at_shelf result) (H.faults shelf.old) (H.faults shelf.new) }
 {
     let paths = shelf.list(alloc)?;
     say_no_leaves(rt, &paths, top);

@@ -1,8 +1,9 @@
 //! From a shelf to a generation.
-ghost use Rattle.std.specs.Prelude.{◌≡◌, ◌+◌, ◌≤◌, [], length, IfOk, IfErr, OnErr, OnOk, IfSome, IsErrOf, Ok};
+ghost use Rattle.std.specs.Prelude.{◌≡◌, ◌+◌, ◌≤◌, [], length, IfOk, IfErr, OnErr, OnOk, IfSome, Ok};
 ghost use Rattle.std.specs.Result.{result_err};
 ghost use Rattle.std.specs.Arc.{arc_value};
-ghost use Rattle.survey_link.specs.Link.{Rises};
+ghost use Rattle.survey_link.specs.Link.{CountsFault};
+ghost use Rattle.shelf_io.specs.Refusals.{at_shelf};
 ghost use Rattle.dirty_plan.specs.Dirty.{steps_after};
 ghost use Rattle.edit_journal.specs.Leaves.{charge_of, FitsLeaves};
 ghost use Rattle.edit_journal.specs.Faults.{most_charge};
@@ -36,7 +37,7 @@ use tile_pixels::Tile;
 ///
 /// The first of these: `NoConf` if and only if there is no `survey.conf`; `Conf` as `Conf::read` answers; `TooMany` if and
 /// only if the charge of all leaves that have a file exceeds 2^29 bytes; `Tile` for the leaf of the lowest number whose file
-/// `decode` refuses. `ShelfFault` only where the shelf's count of faults rose. `OutOfMemory`.
+/// `decode` refuses. `ShelfFault` if and only if the shelf's count of faults rose. `OutOfMemory`.
 pub fn load<R: Threads + Sync + Clock + Log, H: Shelf, G: Gate + Sync>(
     rt: &R,
     alloc: Global,
@@ -50,9 +51,8 @@ pub fn load<R: Threads + Sync + Clock + Log, H: Shelf, G: Gate + Sync>(
     ensures charge { IfOk result (λ made. charge_of made.leaves [] ≤ most_charge) }
     ensures refused { IfErr result (λ refusal. IfSome (H.files shelf.old) (λ files.
         IsRefusedBy (result_err (opening files)) refusal)) }
-    ensures failed { IsErrOf result LoadRefusal.ShelfFault → Rises (H.faults shelf.old) (H.faults shelf.new) }
+    ensures faults { CountsFault (at_shelf result) (H.faults shelf.old) (H.faults shelf.new) }
     ensures kept { H.files shelf.new ≡ H.files shelf.old }
-    ensures never_falls { H.faults shelf.old ≤ H.faults shelf.new }
     ensures counted { IfOk result (λ made. steps.new ≡ steps_after steps.old
         (length made.leaves + tiles_above made.conf.shape (leaf_map made.leaves))) }
     ensures steps { IfOk result (λ made. steps.new ≤ steps.old
@@ -85,9 +85,8 @@ fn read_survey<R: Clock + Log, H: Shelf>(
     ensures charge { IfOk result (λ survey. charge_of survey.leaves [] ≤ most_charge) }
     ensures refused { IfErr result (λ refusal. IfSome (H.files shelf.old) (λ files.
         IsRefusedBy (result_err (opening files)) refusal)) }
-    ensures failed { IsErrOf result LoadRefusal.ShelfFault → Rises (H.faults shelf.old) (H.faults shelf.new) }
+    ensures faults { CountsFault (at_shelf result) (H.faults shelf.old) (H.faults shelf.new) }
     ensures kept { H.files shelf.new ≡ H.files shelf.old }
-    ensures never_falls { H.faults shelf.old ≤ H.faults shelf.new }
     ensures counted { IfOk result (λ survey. steps.new ≡ steps_after steps.old (length survey.leaves)) }
     ensures steps { IfOk result (λ survey. steps.new ≤ steps.old + length survey.leaves) }
     ensures steps_told { IfSome (H.files shelf.old) (λ files. steps.new ≤ steps.old + leaf_count files) }

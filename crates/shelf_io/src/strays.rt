@@ -1,7 +1,8 @@
 //! What a shelf has of a survey's files that a generation doesn't have.
-ghost use Rattle.std.specs.Prelude.{◌≡◌, ◌≤◌, length, map, string_bytes, All, IsSome, IsNone, IfOk, IfSome, IsErrOf, None};
+ghost use Rattle.std.specs.Prelude.{◌≡◌, ◌≤◌, length, map, string_bytes, All, IsSome, IsNone, IfOk, IfSome, None};
 ghost use Rattle.std.specs.FinMap.{get, keys};
-ghost use Rattle.survey_link.specs.Link.{Rises};
+ghost use Rattle.survey_link.specs.Link.{CountsFault};
+ghost use Rattle.survey_link.specs.Shelf.{shelf_failed};
 ghost use Rattle.tile_path.specs.Spelling.{IsPath, spelling};
 ghost use Rattle.generation.specs.Files.{files_in};
 ghost use Rattle.shelf_io.specs.Listed.{AreStrays};
@@ -16,7 +17,7 @@ use tile_path::Path;
 ///
 /// # Errors
 ///
-/// `LinkFault::Failed` only where the shelf's count of faults rose; `LinkFault::OutOfMemory`.
+/// `LinkFault::Failed` if and only if the shelf's count of faults rose; `LinkFault::OutOfMemory`.
 pub(crate) fn shelf_strays<H: Shelf>(
     alloc: Global,
     shelf: &mut H,
@@ -26,8 +27,7 @@ pub(crate) fn shelf_strays<H: Shelf>(
     ensures strays { IfOk result (λ strays. IfSome (H.files shelf.old) (λ files.
         AreStrays (files_in generation.now) (keys files) strays.items)) }
     ensures kept { H.files shelf.new ≡ H.files shelf.old }
-    ensures failed { IsErrOf result LinkFault.Failed → Rises (H.faults shelf.old) (H.faults shelf.new) }
-    ensures never_falls { H.faults shelf.old ≤ H.faults shelf.new }
+    ensures faults { CountsFault (shelf_failed result) (H.faults shelf.old) (H.faults shelf.new) }
 {
     let paths = shelf.list(alloc)?;
     let mut front = buffer(alloc, FRONT_LEN)?;

@@ -1,9 +1,10 @@
 //! Whether a shelf holds a generation.
-ghost use Rattle.std.specs.Prelude.{◌≡◌, ◌≤◌, ◌++◌, length, fold, IfOk, IfSome, IsErrOf, Some};
+ghost use Rattle.std.specs.Prelude.{◌≡◌, ◌≤◌, ◌++◌, length, fold, IfOk, IfSome, Some};
 ghost use Rattle.std.specs.Option.{option_eq};
 ghost use Rattle.std.specs.Str.{bytes_eq};
 ghost use Rattle.std.specs.FinMap.{get};
-ghost use Rattle.survey_link.specs.Link.{Rises};
+ghost use Rattle.survey_link.specs.Link.{CountsFault};
+ghost use Rattle.survey_link.specs.Shelf.{shelf_failed};
 ghost use Rattle.tile_path.specs.Spelling.{IsPath, spelling};
 ghost use Rattle.generation.specs.Files.{paths_in, files_in};
 ghost use Rattle.shelf_io.specs.Comparing.{agrees_at, first_after as spec_first_after};
@@ -29,7 +30,7 @@ use tile_path::Path;
 ///
 /// # Errors
 ///
-/// `LinkFault::Failed` only where the shelf's count of faults rose; `LinkFault::OutOfMemory`.
+/// `LinkFault::Failed` if and only if the shelf's count of faults rose; `LinkFault::OutOfMemory`.
 pub fn verify<R: Clock + Log, H: Shelf>(
     rt: &R,
     alloc: Global,
@@ -40,8 +41,7 @@ pub fn verify<R: Clock + Log, H: Shelf>(
         IsVerdict (files_in generation.now) files verdict)) }
     ensures count { IfOk result (CountsFiles (files_in generation.now)) }
     ensures kept { H.files shelf.new ≡ H.files shelf.old }
-    ensures failed { IsErrOf result LinkFault.Failed → Rises (H.faults shelf.old) (H.faults shelf.new) }
-    ensures never_falls { H.faults shelf.old ≤ H.faults shelf.new }
+    ensures faults { CountsFault (shelf_failed result) (H.faults shelf.old) (H.faults shelf.new) }
 {
     let count = generation.file_count();
     let strays = shelf_strays(alloc, shelf, generation)?;
@@ -76,8 +76,7 @@ fn first_difference<R: Clock + Log, H: Shelf>(
     ensures first { IfOk result (λ path. IfSome (H.files shelf.old) (λ files.
         path ≡ fold (spec_first_after (files_in generation.now) files) first (paths_in generation.now))) }
     ensures kept { H.files shelf.new ≡ H.files shelf.old }
-    ensures failed { IsErrOf result LinkFault.Failed → Rises (H.faults shelf.old) (H.faults shelf.new) }
-    ensures never_falls { H.faults shelf.old ≤ H.faults shelf.new }
+    ensures faults { CountsFault (shelf_failed result) (H.faults shelf.old) (H.faults shelf.new) }
 {
     let mut front = buffer(alloc, FRONT_LEN)?;
     let mut progress = Progress::begin(rt, "files compared", generation.file_count());
@@ -103,8 +102,7 @@ pub(crate) fn has_file<H: Shelf>(
     ensures agrees { IfOk result (λ agrees. IfSome (H.files shelf.old) (λ files.
         agrees ≡ agrees_at (files_in generation.now) files path.now)) }
     ensures kept { H.files shelf.new ≡ H.files shelf.old }
-    ensures failed { IsErrOf result LinkFault.Failed → Rises (H.faults shelf.old) (H.faults shelf.new) }
-    ensures never_falls { H.faults shelf.old ≤ H.faults shelf.new }
+    ensures faults { CountsFault (shelf_failed result) (H.faults shelf.old) (H.faults shelf.new) }
 {
     let text = spelled(alloc, path)?;
     match shelf.get(alloc, &text)? {

@@ -1,4 +1,4 @@
-use Rattle.std.proofs.Common.{◌≡◌, ◌∙◌, ap, subst, sym, arith}
+use Rattle.std.proofs.Common.{◌≡◌, ◌∙◌, ap, subst, sym}
 use Rattle.tile_path.specs.Spelling.{IsPath, spelling}
 use Rattle.survey_link.specs.Shelf.{without_file}
 use Rattle.shelf_io.specs.Survey.{OthersStay}
@@ -15,5 +15,5 @@ loop-path-preserved g c =
     record {
       left = left_next c.args.paths.now c.loop-path.path-index c.path-item.result start old (g.H.Shelf.files c.remove.new.self) c.loop-path-test.true c.path-item.is c.loop-path.invariant.left removed;
       others = others_trans start old (g.H.Shelf.files c.remove.new.self) c.loop-path.invariant.others (subst (OthersStay old) (sym removed) (others_removed c.path-item.result old is));
-      faults = omega (arith, c.remove.ensures.never_falls, c.loop-path.invariant.faults);
+      faults = c.in_ok-remove.ensures.faults ∙ c.loop-path.invariant.faults;
     }

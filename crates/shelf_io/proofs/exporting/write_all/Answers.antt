@@ -22,7 +22,7 @@ loop-i-preserved g c =
           (subst (λ o. IfSome o (λ path. IsSome (get survey (spelling path)))) c.unwrap-path.ensures c.path.ensures.there)
           (let P : ℕ → Type 0 = λ n. All (λ path. IsSome (get survey (spelling path))) (drop n paths) in subst P same c.loop-i.invariant.there);
       others = others_trans start old (g.H.Shelf.files c.settle_file.new.shelf) c.loop-i.invariant.others c.settle_file.ensures.others;
-      faults = omega (arith, c.settle_file.ensures.never_falls, c.loop-i.invariant.faults);
+      faults = c.in_ok-settle_file.ensures.faults ∙ c.loop-i.invariant.faults;
       below = omega (arith, c.loop-i.invariant.below);
       room = c.loop-i.invariant.room;
     }

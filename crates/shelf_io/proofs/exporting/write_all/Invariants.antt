@@ -14,7 +14,7 @@ invariant-loop-i g l = record {
   written : g.H.Shelf.files l.shelf ≡ with_paths (files_in l.generation) (drop l.i (paths_in l.generation)) (g.H.Shelf.files l.fn.shelf);
   there : All (λ path. IsSome (get (files_in l.generation) (spelling path))) (drop l.i (paths_in l.generation));
   others : OthersStay (g.H.Shelf.files l.fn.shelf) (g.H.Shelf.files l.shelf);
-  faults : g.H.Shelf.faults l.fn.shelf ≤ g.H.Shelf.faults l.shelf;
+  faults : g.H.Shelf.faults l.shelf ≡ g.H.Shelf.faults l.fn.shelf;
   below : l.i ≤ length (paths_in l.generation);
   room : 2880 + whole_blocks (data_len l.generation.conf.shape) ≤ vec_len l.room;
 }

@@ -10,7 +10,7 @@ use Rattle.shelf_io.proofs.leaves.read_leaves.Given as goal
 abbrev pub invariant-loop-leaf : goal.invariant-loop-leaf
 invariant-loop-leaf g l = record {
   kept : g.H.Shelf.files l.shelf ≡ g.H.Shelf.files l.fn.shelf;
-  faults : g.H.Shelf.faults l.fn.shelf ≤ g.H.Shelf.faults l.shelf;
+  faults : g.H.Shelf.faults l.shelf ≡ g.H.Shelf.faults l.fn.shelf;
   fits : FitsLeaves l.conf.shape l.tiles;
   lower : (k : ℕ) → l.leaf-index ≤ k → k < length l.leaves → All (λ key. key < slice_index l.leaves k) (keys_of l.tiles);
   tiles : IfSome (g.H.Shelf.files l.fn.shelf) (λ files. l.tiles ≡ filter_map (leaf_tile files l.conf) (take l.leaf-index l.leaves));

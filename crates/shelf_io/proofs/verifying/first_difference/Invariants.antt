@@ -10,6 +10,6 @@ invariant-loop-i g l = record {
   is_path : IfSome l.first IsPath;
   first : IfSome (g.H.Shelf.files l.fn.shelf) (λ files. l.first ≡ fold (first_after (files_in l.generation) files) l.fn.first (take l.i (paths_in l.generation)));
   kept : g.H.Shelf.files l.shelf ≡ g.H.Shelf.files l.fn.shelf;
-  faults : g.H.Shelf.faults l.fn.shelf ≤ g.H.Shelf.faults l.shelf;
+  faults : g.H.Shelf.faults l.shelf ≡ g.H.Shelf.faults l.fn.shelf;
   room : 2880 ≤ vec_len l.front;
 }
