@@ -7,9 +7,9 @@ use Rattle.parent_rule.specs.Combined.{combined}
 use Rattle.leaf_store.specs.Store.{value_at}
 use Rattle.pyramid_model.specs.Shape.{PyramidShape, LeafMap}
 use Rattle.pyramid_model.specs.Value.{value}
+use Rattle.tile_pixels.specs.declared.form.TileForm.{TileForm}
 use Rattle.tile_pixels.specs.Stored.{stored_at}
 use Rattle.tile_pixels.specs.Tile.{PixelTile, pixel_in}
-use Rattle.allsky_mosaic.specs.declared.form.TileForm.{TileForm}
 use Rattle.allsky_mosaic.specs.Mosaic.{place_pixel, side_of}
 use Rattle.allsky_mosaic.specs.Tiles.{IsSurvey}
 

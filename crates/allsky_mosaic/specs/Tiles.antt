@@ -5,10 +5,10 @@ use Rattle.healpix_nested.specs.Cells.{cell_count}
 use Rattle.parent_rule.specs.Depth.{PixelDepth, is_bitpix}
 use Rattle.leaf_store.specs.Store.{value_at}
 use Rattle.pyramid_model.specs.Shape.{PyramidShape, LeafMap}
+use Rattle.tile_pixels.specs.declared.form.TileForm.{TileForm}
 use Rattle.tile_pixels.specs.Stored.{numbers_from}
 use Rattle.tile_pixels.specs.Tile.{PixelTile, HasShape}
 use Rattle.tile_pixels.specs.Merge.{Shows}
-use Rattle.allsky_mosaic.specs.declared.form.TileForm.{TileForm}
 use Rattle.allsky_mosaic.specs.Mosaic.{mosaic, mosaic_count}
 
 -- each is of a cell of order 3, and of that depth and size

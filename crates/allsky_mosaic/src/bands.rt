@@ -5,11 +5,10 @@ ghost use Rattle.allsky_mosaic.specs.Mosaic.{side_of, place_pixel};
 ghost use Rattle.allsky_mosaic.specs.Tiles.{AreOfForm, IsSurvey};
 ghost use Rattle.allsky_mosaic.specs.Cells.{ShowCells, AreBands, band_number};
 
-use crate::form::TileForm;
 use crate::square::{blank_lines, side, write_tile};
 use leaf_store::Store;
 use std::alloc::{AllocError, Global};
-use tile_pixels::Tile;
+use tile_pixels::{Tile, TileForm};
 
 /// How many places stand side by side.
 pub const COLUMNS: u64 = 27;

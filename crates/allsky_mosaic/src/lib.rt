@@ -5,7 +5,6 @@
 #![tactic(auto)]
 
 mod bands;
-mod form;
 mod making;
 mod patching;
 mod square;

@@ -6,12 +6,11 @@ ghost use Rattle.allsky_mosaic.specs.Tiles.{AreOfForm, AreOfOrder3, IsSurvey, Is
 ghost use Rattle.allsky_mosaic.specs.Cells.{AreBands};
 
 use crate::bands::{ROWS, band};
-use crate::form::TileForm;
 use leaf_store::Store;
 use parent_rule::Depth;
 use std::alloc::{AllocError, Global};
 use std::thread::{Threads, available_parallelism, for_each_mut};
-use tile_pixels::Tile;
+use tile_pixels::{Tile, TileForm};
 
 // Tiles have at least this many pixels where they are halved or copied by more than one thread: it takes many times as long as
 // to start the threads.

@@ -7,12 +7,11 @@ ghost use Rattle.allsky_mosaic.specs.Patch.{WasMosaic};
 ghost use Rattle.allsky_mosaic.specs.Cells.{IsBlank, ShowCells, ShowsPlace, band_number, number_in_place};
 
 use crate::bands::{COLUMNS, ROWS, write_cell};
-use crate::form::TileForm;
 use crate::square::{blank_lines, side, write_square};
 use leaf_store::Store;
 use parent_rule::Depth;
 use std::alloc::{AllocError, Global};
-use tile_pixels::Tile;
+use tile_pixels::{Tile, TileForm};
 
 /// The mosaic of the tiles of order 3, as `whole` makes it, by the mosaic that there was before some of them changed: the
 /// squares of the touched cells are made anew, and all others are copied. `touched` has each cell whose tile has changed, in
