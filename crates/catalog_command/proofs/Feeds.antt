@@ -9,7 +9,7 @@ use Rattle.std.proofs.lemmas.List.Splits.{length-slice_split}
 use Rattle.std.proofs.lemmas.List.Sums.{position_or_len_is, fails_before_first}
 use Rattle.catalog_command.specs.Lines.{line_feed, most_bytes, parts}
 use Rattle.catalog_command.specs.Unread.{place_of_feed}
-use Rattle.catalog_command.proofs.Splitting.{uncut, cut_at}
+use Rattle.hips_catalog.proofs.Splitting.{uncut, cut_at}
 
 abbrev is_feed : ℕ → Bool
 is_feed byte = byte == line_feed

@@ -1,4 +1,3 @@
-pub mod Splitting
 pub mod Feeds
 pub mod Inputs
 pub mod Judged
