@@ -33,7 +33,7 @@ use Rattle.hips_http.specs.Paths.{call_of}
 use Rattle.hips_http.specs.Verdict.{Change, put, delete, batch, verdict}
 use Rattle.hips_http.specs.Replies.{Answer, head_of, sent_body, leave_bytes, file_answer, found_answer, not_found, edited, accepted_answer}
 use Rattle.hips_http.specs.Answers.{Asking, Point, put_of, batch_of, refusal_of, Refuses, Changes, Answers}
-use Rattle.hips_http.specs.SessionRun.{room_of, AreRequests, GoOn, closes, IsOutput, AreAnswered, Exchange, input_of, Ends, KeepsStates, first_point}
+use Rattle.hips_http.specs.SessionRun.{room_of, AreRequests, GoOn, closes, IsOutput, AreAnswered, Exchange, input_of, Ends, KeepsStates, CountsFaults, first_point}
 use Rattle.hips_http.specs.Fulfilled.{IsSoundCall, IsSound, LastCloses, IsSoundInput, judging_place, IsAcceptedAt, IsAccepted, IsAcceptedCall, AreAccepted, fulfils, IsFulfilled}
 use Rattle.hips_http.specs.Laws.{Connection, IsFaultless, EachAccepted, IsUnbroken, FulfilsAll, NeverBegins}
 use Rattle.hips_http.proofs.OneKind.{one_kind}
@@ -208,16 +208,16 @@ module _ (one : NextIsOne) (heads : NextHeadIsOne) where
       record { how = inr same.end_same; all_written = same.written_same }
 
 -- neither source nor sink failed, so it isn't by a fault of theirs that the connection ended
-no_fault : (room : ℕ) (requests : List Asking) (rest : List ℕ) (outputs : List (List ℕ)) (exchange : Exchange) (ended : SessionEnd) → IsUnbroken exchange → Ends ended room requests rest outputs exchange
+no_fault : (exchange : Exchange) (ended : SessionEnd) → IsUnbroken exchange → CountsFaults ended exchange.source_faults exchange.source_faults_then exchange.sink_faults exchange.sink_faults_then
     → IsFaultless ended ⊎ (ended ≡ end.OutOfMemory)
-no_fault room requests rest outputs exchange end.Closed unbroken ends = inl tt
-no_fault room requests rest outputs exchange end.Asked unbroken ends = inl tt
-no_fault room requests rest outputs exchange (end.Refused code) unbroken ends = inl tt
-no_fault room requests rest outputs exchange end.Cut unbroken ends = inl tt
-no_fault room requests rest outputs exchange end.Spent unbroken ends = inl tt
-no_fault room requests rest outputs exchange end.ReadFault unbroken ends = absurd (unbroken.source ends.1)
-no_fault room requests rest outputs exchange end.WriteFault unbroken ends = absurd (unbroken.sink ends.0)
-no_fault room requests rest outputs exchange end.OutOfMemory unbroken ends = inr refl
+no_fault exchange end.Closed unbroken faults = inl tt
+no_fault exchange end.Asked unbroken faults = inl tt
+no_fault exchange (end.Refused code) unbroken faults = inl tt
+no_fault exchange end.Cut unbroken faults = inl tt
+no_fault exchange end.Spent unbroken faults = inl tt
+no_fault exchange end.ReadFault unbroken faults = absurd (unbroken.source faults.read)
+no_fault exchange end.WriteFault unbroken faults = absurd (unbroken.sink faults.write)
+no_fault exchange end.OutOfMemory unbroken faults = inr refl
 
 module _ (one : NextIsOne) (heads : NextHeadIsOne) (differ : SpellingsDiffer) (conf : Description) (opening : LeafTiles) (states : List SurveyState) (c : Connection conf opening states)
     (requests : List Asking) (sound : IsSoundInput conf (input_of c.exchange) requests) (accepts : EachAccepted c) where
@@ -252,7 +252,7 @@ never_begins conf opening states c is =
 pub completeness : NextIsOne → NextHeadIsOne → SpellingsDiffer → (conf : Description) (opening : LeafTiles) (states : List SurveyState) (c : Connection conf opening states) (requests : List Asking)
     → IsSoundInput conf (input_of c.exchange) requests → EachAccepted c → IsUnbroken c.exchange → FulfilsAll c requests ⊎ NeverBegins c
 completeness one heads differ conf opening states c requests sound accepts unbroken =
-    elim (no_fault (room_of conf) c.run.requests c.run.rest c.run.outputs c.exchange c.end unbroken c.run.ended) [
+    elim (no_fault c.exchange c.end unbroken c.run.faults) [
       | inl f ↦ inl (fulfilled one heads differ conf opening states c requests sound accepts f)
       | inr none ↦ inr (never_begins conf opening states c none)
     ]

@@ -1,24 +1,23 @@
 -- One request after its head: its call was answered, or the connection ended with it.
-use Rattle.std.proofs.Common.{◌≡◌, inl, inr, ℕ, ◌+◌, ◌≤◌, ◌||◌, ◌==◌, Bool, true, Option, Ok, Err, refl, ap, ◌∙◌, arith}
+use Rattle.std.proofs.Common.{◌≡◌, inl, inr, ℕ, ◌+◌, ◌||◌, ◌==◌, Bool, true, Option, Ok, Err, refl, ap, ◌∙◌, arith}
 use Rattle.std.specs.Io.KnownBytes.{Appends}
 use Rattle.http_frame.specs.declared.request.Request.{Request}
 use Rattle.tile_path.specs.declared.path.Path.{Path}
 use Rattle.hips_http.specs.declared.call.Call.{Call}
 use Rattle.hips_http.specs.declared.call.Call.TheVariants as call
 use Rattle.hips_http.specs.declared.served.SessionEnd.{SessionEnd}
-use Rattle.hips_http.specs.declared.served.SessionEnd.TheVariants.{ReadFault, WriteFault}
 use Rattle.hips_http.specs.Replies.{leave_bytes}
 use Rattle.hips_http.specs.Moment.{Input, Output, Moment, moment, NeverFalls}
 use Rattle.hips_http.specs.SessionRun.{room_of, most_requests, FlushesAll}
 use Rattle.hips_http.specs.Progress.{is_text, ReadsCall, ServesCall, ServesOne}
 use Rattle.hips_http.proofs.Flushed.{hands_leave, hands_same}
-use Rattle.hips_http.proofs.Steps.{served_one, breaks_one, halts_one, is_write_fault, replied_part, halted_part, rises_from, halts_by_read}
+use Rattle.hips_http.proofs.Steps.{served_one, breaks_one, halts_one, write_failed, replied_part, halted_part, faults_from}
 
 -- `old` is the moment before, `input` and `output` are those after the head and the leave, and `new` is the moment after the call
 module _ (count top : ℕ) (old : Moment) (input : Input) (output : Output) (asked : Request) (wanted : Call) (room_is : old.input.frame.room ≡ room_of old.board.conf)
     (read : ReadsCall top old.input input asked wanted) (new : Moment) (leave : Appends old.output.held output.held (leave_bytes asked)) (top_is : top ≡ old.board.conf.shape.top) (close : Bool)
     (close_is : close ≡ (asked.close || (count + 1 == most_requests))) (flushes : FlushesAll old.output.held output.held old.output.flushed output.flushed)
-    (source : old.input.faults ≤ input.faults) (sink : old.output.faults ≤ output.faults) (same_room : input.frame.room ≡ old.input.frame.room) where
+    (source : input.faults ≡ old.input.faults) (sink : output.faults ≡ old.output.faults) (same_room : input.frame.room ≡ old.input.frame.room) where
   abbrev mid : Moment
   mid = moment input output old.board old.steps old.memory_faults
 
@@ -40,20 +39,20 @@ module _ (count top : ℕ) (old : Moment) (input : Input) (output : Output) (ask
         left = replied_part count top old input output asked wanted room_is read new leave top_is close close_is r.0 r.1;
         turn = r.1.takes.turn;
         hands = record { flushed = s.hands.flushed; flushes = tt; breaks = λ is. absurd (cc) };
-        faults = record { read_fault = λ is. absurd (cc); write_fault = λ is. absurd (cc); memory = tt };
+        faults = (s.faults.0 ∙ source, s.faults.1 ∙ sink);
         never_falls = never_falls_on s.never_falls;
       }
 
   pub call_stopped : (ended : SessionEnd) → ServesCall asked wanted close mid new (Err ended) → ServesOne count old new (Err ended)
   call_stopped ended s = record {
     ok = tt;
-    stops = elim (is_write_fault ended) [
+    stops = elim (write_failed ended) [
       | inl is ↦
           let r = s.broken (ap (λ (e : SessionEnd). Err e) is) in
           record { how = inl (is, breaks_one count top old input output asked wanted room_is read new leave top_is close close_is r.0 r.1 r.2) }
       | inr other ↦ halts_one count top old input output asked wanted room_is read new leave ended (s.halted other)
     ];
-    left = elim (is_write_fault ended) [
+    left = elim (write_failed ended) [
       | inl is ↦ let r = s.broken (ap (λ (e : SessionEnd). Err e) is) in replied_part count top old input output asked wanted room_is read new leave top_is close close_is r.0 r.1
       | inr other ↦ halted_part count top old input output asked wanted room_is read new leave ended (s.halted other)
     ];
@@ -66,15 +65,7 @@ module _ (count top : ℕ) (old : Moment) (input : Input) (output : Output) (ask
         hands_leave old.output.held output.held old.output.flushed output.flushed new.output.flushed (leave_bytes asked) leave flushes s.hands.stays,
       );
     };
-    faults = record {
-      read_fault = λ is.
-          let is_read : ended ≡ ReadFault = cc in
-          rises_from _ _ _ source (halts_by_read asked mid new ended (s.halted (λ wrote. cc)) is_read);
-      write_fault = λ is.
-          let wrote : ended ≡ WriteFault = cc in
-          rises_from _ _ _ sink (s.hands.write_fault (ap (λ (e : SessionEnd). Err e) wrote));
-      memory = s.hands.memory;
-    };
+    faults = (faults_from ended _ _ _ _ _ _ source sink s.faults.0, s.faults.1);
     never_falls = never_falls_on s.never_falls;
   }
 

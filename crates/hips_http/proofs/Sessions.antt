@@ -1,12 +1,11 @@
 -- Whole connections, from their requests.
 use Rattle.std.proofs.Common.{◌≡◌, ◌⊎◌, inl, inr, ℕ, suc, ◌+◌, ◌<◌, ◌≤◌, true, false, List, [], ◌∷◌, ◌++◌, length, Option, Some, None, Ok, Err, refl, sym, ap, ◌∙◌, subst, arith, append_assoc, length-append}
-use Rattle.std.specs.Prelude.{IfSome, IsSomeAnd, All}
+use Rattle.std.specs.Prelude.{◌≢◌, IfSome, IsSomeAnd, All}
 use Rattle.std.specs.List.{concat}
 use Rattle.std.specs.Io.KnownBytes.{Appends, prepend_known}
 use Rattle.std.proofs.lemmas.List.{append-nil}
 use Rattle.std.proofs.lemmas.List.Elements.{All-push}
 use Rattle.survey_conf.specs.Description.{Description}
-use Rattle.survey_link.specs.Link.{Rises}
 use Rattle.edit_journal.specs.Leaves.{LeafTiles}
 use Rattle.http_frame.specs.Next.{IsWhole}
 use Rattle.http_frame.specs.declared.stop.Turn.TheVariants.{AtHead}
@@ -23,10 +22,10 @@ use Rattle.hips_http.specs.Replies.{Answer, output_of, refusal_bytes}
 use Rattle.hips_http.specs.Answers.{Asking, Point, Asked, asked_put, asked_delete, asked_batch, Changes, Answers}
 use Rattle.hips_http.specs.Moment.{Input, Output, Moment, moment, unread_of, NeverFalls}
 use Rattle.hips_http.specs.SessionRun.{Exchange, AreRequests, AreAnswered, IsOutput, closes, room_of, most_requests, first_point, GoOn, EndsWith, BreaksOff, BreaksInRefusal, BreaksInLeave, input_seen, Ends, AllFlushed, KeepsStates, Flushes, FlushesAll, Goes}
-use Rattle.hips_http.specs.Progress.{IsAt, Serving, IsServedOne, BreaksOne, StopsOne, EndsOne, IsBegunAt, LeavesPart, Progress, Going, HasFlushed, memory_faults_after, ServesOne, ServesAll}
+use Rattle.hips_http.specs.Progress.{IsAt, Serving, IsServedOne, BreaksOne, StopsOne, EndsOne, IsBegunAt, LeavesPart, Progress, Going, HasFlushed, memory_faults_after, FaultsAt, FaultsOne, ServesOne, ServesAll}
 use Rattle.hips_http.proofs.Runs.{answered_more, answered_push, requests_push}
 use Rattle.hips_http.proofs.Truncated.{requests_front}
-use Rattle.hips_http.proofs.Steps.{appends_trans, split_of, rises_from}
+use Rattle.hips_http.proofs.Steps.{appends_trans, split_of, faults_from}
 use Rattle.hips_http.proofs.Flushed.{HandsMore, hands_all, hands_all_on, has_handed_all, hands_before}
 use Rattle.hips_http.proofs.Whole.{appends_nothing, begins_same}
 use Rattle.hips_http.proofs.InOrder.{FlushesReplies, ServedAfter}
@@ -226,11 +225,11 @@ told_as first input output read rest out passed = record {
 
 -- the requests were answered by `now`, and these are the ends then
 module _ (count : ℕ) (first now : Moment) (input : Input) (output : Output) (p : Progress count first now) (bytes read rest : List ℕ) (bytes_are : bytes ≡ read ++ rest) (left_is : input.left ≡ Some rest) (flushed : ℕ) where
-  served_by : (ended : SessionEnd) (out passed : List ℕ) → Appends first.output.held output.held out → Flushes first.output.held first.output.flushed output.flushed passed
+  served_by : (ended : SessionEnd) → FaultsAt ended first (moment input output now.board now.steps now.memory_faults) → (out passed : List ℕ) → Appends first.output.held output.held out → Flushes first.output.held first.output.flushed output.flushed passed
       → KeepsStates ended first.board.history now.board.history → (r : List ℕ) → AreRequests (room_of now.board.conf) (input_seen ended (told_as first input output read rest out passed)) p.requests r
       → Ends ended (room_of now.board.conf) p.requests r p.outputs (told_as first input output read rest out passed) → AllFlushed ended (told_as first input output read rest out passed)
       → FlushesReplies flushed p.outputs passed → ServedAfter flushed first (moment input output now.board now.steps now.memory_faults) ended bytes
-  served_by ended out passed appended on keeps r are ends all_on replies = record {
+  served_by ended f out passed appended on keeps r are ends all_on replies = record {
     served = record {
       read = read;
       rest = rest;
@@ -256,6 +255,7 @@ module _ (count : ℕ) (first now : Moment) (input : Input) (output : Output) (p
         memory_faults_is = p.at.memory_faults_is;
         ended = ends;
         flushed = all_on;
+        faults = f;
       };
       steps_are = p.at.steps_are;
     };
@@ -302,46 +302,46 @@ module _ (count : ℕ) (first now : Moment) (input : Input) (output : Output) (p
   flushed_by {passed} more is = flushes_all count first now p p.outputs [] passed more (sym (append-nil p.outputs)) is
 
   unanswered_at : (ended : SessionEnd) (r : List ℕ) → AreRequests (room_of now.board.conf) bytes p.requests r → EndsOne ended (room_of now.board.conf) r input.left now.output.held output.held → LeavesPart r input.left
-      → (ended ≡ end.ReadFault → Rises first.input.faults input.faults) → (ended ≡ end.WriteFault → Rises first.output.faults output.faults)
+      → FaultsAt ended first (moment input output now.board now.steps now.memory_faults)
       → (¬ (ended ≡ end.WriteFault) → FlushesAll now.output.held output.held now.output.flushed output.flushed) → (ended ≡ end.WriteFault → HandsMore now.output.held now.output.flushed output.flushed)
       → ServedAfter count first (moment input output now.board now.steps now.memory_faults) ended bytes
-  unanswered_at end.Closed r are ends part reads writes all more =
+  unanswered_at end.Closed r are ends part faults all more =
       let f = front_part (room_of now.board.conf) bytes p.requests r are input.left part in
-      served_by count first now input output p bytes f.gone f.rest f.all_is f.left_is count end.Closed (concat p.outputs) (concat p.outputs) (appends_end first.output.held now.output.held output.held (concat p.outputs) written ends.1)
+      served_by count first now input output p bytes f.gone f.rest f.all_is f.left_is count end.Closed faults (concat p.outputs) (concat p.outputs) (appends_end first.output.held now.output.held output.held (concat p.outputs) written ends.1)
       (hands_all first.output.held output.held first.output.flushed output.flushed (concat p.outputs) (appends_end first.output.held now.output.held output.held (concat p.outputs) written ends.1) (hands_all_on p.outputs first.output.held now.output.held output.held first.output.flushed now.output.flushed output.flushed before (all (λ is. cc)))) tt r
       (whole_input count first now input output p bytes f.gone f.rest f.all_is f.left_is count r are) (goes, ends.0, refl) refl (flushed_by [] (sym (append-nil (concat p.outputs))))
-  unanswered_at (end.Refused code) r are ends part reads writes all more =
+  unanswered_at (end.Refused code) r are ends part faults all more =
       let f = front_part (room_of now.board.conf) bytes p.requests r are input.left part in
-      served_by count first now input output p bytes f.gone f.rest f.all_is f.left_is count (end.Refused code) (concat p.outputs ++ refusal_bytes code) (concat p.outputs ++ refusal_bytes code)
+      served_by count first now input output p bytes f.gone f.rest f.all_is f.left_is count (end.Refused code) faults (concat p.outputs ++ refusal_bytes code) (concat p.outputs ++ refusal_bytes code)
       (appends_trans first.output.held now.output.held output.held (concat p.outputs) (refusal_bytes code) written ends.1)
       (hands_all first.output.held output.held first.output.flushed output.flushed (concat p.outputs ++ refusal_bytes code) (appends_trans first.output.held now.output.held output.held (concat p.outputs) (refusal_bytes code) written ends.1) (hands_all_on p.outputs first.output.held now.output.held output.held first.output.flushed now.output.flushed output.flushed before (all (λ is. cc)))) tt r
       (whole_input count first now input output p bytes f.gone f.rest f.all_is f.left_is count r are) (goes, ends.0, refl) refl (flushed_by (refusal_bytes code) refl)
-  unanswered_at end.Cut r are ends part reads writes all more =
+  unanswered_at end.Cut r are ends part faults all more =
       let f = front_part (room_of now.board.conf) bytes p.requests r are input.left part in
-      served_by count first now input output p bytes f.gone f.rest f.all_is f.left_is count end.Cut (concat p.outputs ++ ends.0) (concat p.outputs ++ ends.0)
+      served_by count first now input output p bytes f.gone f.rest f.all_is f.left_is count end.Cut faults (concat p.outputs ++ ends.0) (concat p.outputs ++ ends.0)
       (appends_trans first.output.held now.output.held output.held (concat p.outputs) ends.0 written ends.2)
       (hands_all first.output.held output.held first.output.flushed output.flushed (concat p.outputs ++ ends.0) (appends_trans first.output.held now.output.held output.held (concat p.outputs) ends.0 written ends.2) (hands_all_on p.outputs first.output.held now.output.held output.held first.output.flushed now.output.flushed output.flushed before (all (λ is. cc)))) tt r
       (whole_input count first now input output p bytes f.gone f.rest f.all_is f.left_is count r are) (goes, (ends.0, ends.1, refl)) refl (flushed_by ends.0 refl)
-  unanswered_at end.ReadFault r are ends part reads writes all more =
+  unanswered_at end.ReadFault r are ends part faults all more =
       let t = there_of _ input.left ends in
       let h = t.holds in
       let f = requests_front (room_of now.board.conf) bytes p.requests h.read t.bytes (subst (λ (b : List ℕ). AreRequests (room_of now.board.conf) bytes p.requests b) h.all_is are) in
-      served_by count first now input output p bytes f.front t.bytes f.all_is t.is count end.ReadFault (concat p.outputs ++ h.extra) (concat p.outputs ++ h.extra)
+      served_by count first now input output p bytes f.front t.bytes f.all_is t.is count end.ReadFault faults (concat p.outputs ++ h.extra) (concat p.outputs ++ h.extra)
       (appends_trans first.output.held now.output.held output.held (concat p.outputs) h.extra written h.appended)
-      (hands_all first.output.held output.held first.output.flushed output.flushed (concat p.outputs ++ h.extra) (appends_trans first.output.held now.output.held output.held (concat p.outputs) h.extra written h.appended) (hands_all_on p.outputs first.output.held now.output.held output.held first.output.flushed now.output.flushed output.flushed before (all (λ is. cc)))) tt h.read f.holds (goes, reads refl, (h.extra, h.ends, refl)) refl (flushed_by h.extra refl)
-  unanswered_at end.WriteFault r are ends part reads writes all more =
+      (hands_all first.output.held output.held first.output.flushed output.flushed (concat p.outputs ++ h.extra) (appends_trans first.output.held now.output.held output.held (concat p.outputs) h.extra written h.appended) (hands_all_on p.outputs first.output.held now.output.held output.held first.output.flushed now.output.flushed output.flushed before (all (λ is. cc)))) tt h.read f.holds (goes, (h.extra, h.ends, refl)) refl (flushed_by h.extra refl)
+  unanswered_at end.WriteFault r are ends part faults all more =
       let f = front_part (room_of now.board.conf) bytes p.requests r are input.left part in
       let k = ends.2 in
       let out = concat p.outputs ++ k.part in
       let on = hands_before p.outputs first.output.held now.output.held first.output.flushed now.output.flushed output.flushed written before (more refl) in
       let broken : BreaksOff p.outputs ends.0 out on.passed = record { part = k.part; left = k.left; begun_is = k.begun_is; out_is = refl; more = on.more; handed_is = on.passed_is } in
-      served_by count first now input output p bytes f.gone f.rest f.all_is f.left_is count end.WriteFault out on.passed
+      served_by count first now input output p bytes f.gone f.rest f.all_is f.left_is count end.WriteFault faults out on.passed
       (appends_trans first.output.held now.output.held output.held (concat p.outputs) k.part written k.appended) on.on tt r
       (whole_input count first now input output p bytes f.gone f.rest f.all_is f.left_is count r are)
-      (writes refl, inr (goes, begun_ends (room_of now.board.conf) r p.outputs ends.0 out on.passed ends.1 broken)) tt (flushed_by on.more on.passed_is)
-  unanswered_at end.Asked r are ends part reads writes all more = absurd ends
-  unanswered_at end.Spent r are ends part reads writes all more = absurd ends
-  unanswered_at end.OutOfMemory r are ends part reads writes all more = absurd ends
+      (inr (goes, begun_ends (room_of now.board.conf) r p.outputs ends.0 out on.passed ends.1 broken)) tt (flushed_by on.more on.passed_is)
+  unanswered_at end.Asked r are ends part faults all more = absurd ends
+  unanswered_at end.Spent r are ends part faults all more = absurd ends
+  unanswered_at end.OutOfMemory r are ends part faults all more = absurd ends
 
 -- ---- what is true of it always
 
@@ -374,9 +374,9 @@ module _ (count : ℕ) (first now new : Moment) (few : count < most_requests) (g
   ends_with requests last is = record { before = g.progress.requests; is = is; went_on = record { none_closes = g.none_closes; few = (let c = g.progress.count_is in omega (arith, c)) } }
 
   -- in the reply to a request that was answered
-  broken_served : BreaksOne count now new → IfSome (unread_of now.input) (λ all. LeavesPart all new.input.left) → Rises first.output.faults new.output.faults
+  broken_served : BreaksOne count now new → IfSome (unread_of now.input) (λ all. LeavesPart all new.input.left) → FaultsAt end.WriteFault first new
       → HandsMore now.output.held now.output.flushed new.output.flushed → Ended count first new end.WriteFault
-  broken_served s part rises more =
+  broken_served s part faults more =
       let p = g.progress in
       let pushed = push count first now new p s.request s.answer s.serving s.memory_faults_is in
       let next = pushed.next in
@@ -388,24 +388,22 @@ module _ (count : ℕ) (first now new : Moment) (few : count < most_requests) (g
             let k = s.broken in
             let out = concat p.outputs ++ k.part in
             let on = hands_before p.outputs first.output.held now.output.held first.output.flushed now.output.flushed new.output.flushed g.written_is g.handed_is more in
-            served_by (count + 1) first new new.input new.output next bytes f.gone f.rest f.all_is f.left_is count end.WriteFault out on.passed
+            served_by (count + 1) first new new.input new.output next bytes f.gone f.rest f.all_is f.left_is count end.WriteFault faults out on.passed
             (appends_trans first.output.held now.output.held new.output.held (concat p.outputs) k.part g.written_is k.appended) on.on tt after.bytes
-            (whole_input (count + 1) first new new.input new.output next bytes f.gone f.rest f.all_is f.left_is count after.bytes after.holds) (
-              rises,
-              inl (record {
-                last = s.request;
-                ends = ends_with next.requests s.request pushed.requests_are;
-                before = p.outputs;
-                begun = output_of (closes count s.request) s.request.asked s.answer;
-                outputs_are = pushed.outputs_are;
-                broken = record { part = k.part; left = k.left; begun_is = k.begun_is; out_is = refl; more = on.more; handed_is = on.passed_is };
-              }),
-            ) tt (flushes_all count first now p next.outputs (output_of (closes count s.request) s.request.asked s.answer ∷ []) on.passed on.more pushed.outputs_are on.passed_is));
+            (whole_input (count + 1) first new new.input new.output next bytes f.gone f.rest f.all_is f.left_is count after.bytes after.holds)
+            (inl (record {
+              last = s.request;
+              ends = ends_with next.requests s.request pushed.requests_are;
+              before = p.outputs;
+              begun = output_of (closes count s.request) s.request.asked s.answer;
+              outputs_are = pushed.outputs_are;
+              broken = record { part = k.part; left = k.left; begun_is = k.begun_is; out_is = refl; more = on.more; handed_is = on.passed_is };
+            })) tt (flushes_all count first now p next.outputs (output_of (closes count s.request) s.request.asked s.answer ∷ []) on.passed on.more pushed.outputs_are on.passed_is));
       }
 
   -- a request that asked to close was answered
-  asked_served : IsServedOne count now new true → IfSome (unread_of now.input) (λ all. LeavesPart all new.input.left) → new.output.flushed ≡ new.output.held → Ended count first new end.Asked
-  asked_served s part on =
+  asked_served : IsServedOne count now new true → IfSome (unread_of now.input) (λ all. LeavesPart all new.input.left) → new.output.flushed ≡ new.output.held → FaultsAt end.Asked first new → Ended count first new end.Asked
+  asked_served s part on faults =
       let p = g.progress in
       let pushed = push count first now new p s.request s.answer s.serving s.memory_faults_is in
       let next = pushed.next in
@@ -417,7 +415,7 @@ module _ (count : ℕ) (first now new : Moment) (few : count < most_requests) (g
         served = known (ServedAfter count first new end.Asked) first.input.left (λ bytes is.
             let after = taken_at (count + 1) first new next bytes is in
             let f = front_at part bytes is in
-            served_by (count + 1) first new new.input new.output next bytes f.gone f.rest f.all_is f.left_is count end.Asked (concat next.outputs) (concat next.outputs) written
+            served_by (count + 1) first new new.input new.output next bytes f.gone f.rest f.all_is f.left_is count end.Asked faults (concat next.outputs) (concat next.outputs) written
             (hands_all first.output.held new.output.held first.output.flushed new.output.flushed (concat next.outputs) written (inl on)) tt after.bytes
             (whole_input (count + 1) first new new.input new.output next bytes f.gone f.rest f.all_is f.left_is count after.bytes after.holds)
             ((s.request, ends_with next.requests s.request pushed.requests_are, sym s.closed_is), refl) refl
@@ -426,11 +424,11 @@ module _ (count : ℕ) (first now new : Moment) (few : count < most_requests) (g
 
   -- no request was answered in its place, or its reply wasn't written
   stopped_served : (ended : SessionEnd) → StopsOne count now new ended → IfSome (unread_of now.input) (λ all. LeavesPart all new.input.left)
-      → (ended ≡ end.ReadFault → Rises first.input.faults new.input.faults) → (ended ≡ end.WriteFault → Rises first.output.faults new.output.faults)
+      → FaultsAt ended first new
       → (¬ (ended ≡ end.WriteFault) → FlushesAll now.output.held new.output.held now.output.flushed new.output.flushed) → (ended ≡ end.WriteFault → HandsMore now.output.held now.output.flushed new.output.flushed)
       → Ended count first new ended
-  stopped_served ended s part reads writes all more = elim s.how [
-    | inl broke ↦ subst (λ (e : SessionEnd). Ended count first new e) (sym broke.0) (broken_served broke.1 part (writes broke.0) (more broke.0))
+  stopped_served ended s part faults all more = elim s.how [
+    | inl broke ↦ subst (λ (e : SessionEnd). Ended count first new e) (sym broke.0) (broken_served broke.1 part (subst (λ (e : SessionEnd). FaultsAt e first new) broke.0 faults) (more broke.0))
     | inr none ↦
         let p = g.progress in
         let told : IfSome first.input.left (ServedAfter count first (moment new.input new.output now.board now.steps now.memory_faults) ended)
@@ -438,7 +436,7 @@ module _ (count : ℕ) (first now new : Moment) (few : count < most_requests) (g
         let before = taken_at count first now p bytes is in
         unanswered_at count first now new.input new.output p bytes g.none_closes g.written_is g.handed_is few ended before.bytes before.holds
         (told_at (λ unread. EndsOne ended (room_of now.board.conf) unread new.input.left now.output.held new.output.held) (unread_of now.input) before.bytes before.is none.1)
-        (told_at (λ unread. LeavesPart unread new.input.left) (unread_of now.input) before.bytes before.is part) reads writes all more) in
+        (told_at (λ unread. LeavesPart unread new.input.left) (unread_of now.input) before.bytes before.is part) faults all more) in
         record {
           goes = subst (λ (board : BoardContent). Goes first.board board) (sym none.0.board) (goes_of count first now (omega arith) p);
           served = subst (λ (board : BoardContent). IfSome first.input.left (ServedAfter count first (moment new.input new.output board new.steps new.memory_faults) ended)) (sym none.0.board)
@@ -448,8 +446,8 @@ module _ (count : ℕ) (first now new : Moment) (few : count < most_requests) (g
   ]
 
 -- as many requests were answered as may be
-spent_served : (count : ℕ) (first now : Moment) → count ≡ most_requests → Going count first now → Ended count first now end.Spent
-spent_served count first now all g =
+spent_served : (count : ℕ) (first now : Moment) → count ≡ most_requests → Going count first now → FaultsAt end.Spent first now → Ended count first now end.Spent
+spent_served count first now all g faults =
     let p = g.progress in
     record {
       goes = goes_of count first now (omega (arith, all)) p;
@@ -457,7 +455,7 @@ spent_served count first now all g =
           let before = taken_at count first now p bytes is in
           let s = split_of before.bytes now.input.frame.held now.input.left before.is in
           let f = front_part (room_of now.board.conf) bytes p.requests before.bytes before.holds now.input.left (record { gone = now.input.frame.held; rest = s.rest; left_is = s.left_is; all_is = s.all_is }) in
-          served_by count first now now.input now.output p bytes f.gone f.rest f.all_is f.left_is count end.Spent (concat p.outputs) (concat p.outputs) g.written_is
+          served_by count first now now.input now.output p bytes f.gone f.rest f.all_is f.left_is count end.Spent faults (concat p.outputs) (concat p.outputs) g.written_is
           (hands_all first.output.held now.output.held first.output.flushed now.output.flushed (concat p.outputs) g.written_is
           (has_handed_all p.outputs first.output.held now.output.held first.output.flushed now.output.flushed g.handed_is)) tt before.bytes
           (whole_input count first now now.input now.output p bytes f.gone f.rest f.all_is f.left_is count before.bytes before.holds)
@@ -473,8 +471,8 @@ pub record IsLoop (count top : ℕ) (first now : Moment) : Type 0 where
   pub same_room : now.input.frame.room ≡ first.input.frame.room
   pub top_is : top ≡ now.board.conf.shape.top
   pub few_wants : now.memory_faults ≤ count
-  pub source : first.input.faults ≤ now.input.faults
-  pub sink : first.output.faults ≤ now.output.faults
+  pub source : now.input.faults ≡ first.input.faults
+  pub sink : now.output.faults ≡ first.output.faults
   pub steps_rise : first.steps ≤ now.steps
 
 -- a board that holds nothing
@@ -490,8 +488,8 @@ begins_loop top first none legal owned none_wanted empty turn room_is top_is = r
   same_room = refl;
   top_is = top_is;
   few_wants = omega (arith, none_wanted);
-  source = omega arith;
-  sink = omega arith;
+  source = refl;
+  sink = refl;
   steps_rise = omega arith;
 }
 
@@ -501,8 +499,8 @@ pub record Finishes (count : ℕ) (first last : Moment) (ended : SessionEnd) : T
   pub served : IfSome first.input.left (ServedAfter count first last ended)
 
 module _ (count top : ℕ) (first now new : Moment) (l : IsLoop count top first now) (never_falls : NeverFalls now new) where
-  pub loop_goes_on : IsServedOne count now new false → new.output.flushed ≡ new.output.held → new.input.frame.turn ≡ AtHead → IsLoop (count + 1) top first new
-  loop_goes_on s on turn =
+  pub loop_goes_on : IsServedOne count now new false → FaultsOne now new (Ok false) → new.output.flushed ≡ new.output.held → new.input.frame.turn ≡ AtHead → IsLoop (count + 1) top first new
+  loop_goes_on s faults on turn =
       let conf : new.board.conf ≡ now.board.conf = s.serving.serves.conf in
       record {
         going = goes_on count first now new l.going s on;
@@ -511,62 +509,60 @@ module _ (count top : ℕ) (first now new : Moment) (l : IsLoop count top first 
         same_room = never_falls.room ∙ l.same_room;
         top_is = l.top_is ∙ sym (ap (λ (c : Description). c.shape.top) conf);
         few_wants = omega (arith, l.few_wants, never_falls.memory_faults);
-        source = omega (arith, l.source, never_falls.source);
-        sink = omega (arith, l.sink, never_falls.sink);
+        source = faults.0 ∙ l.source;
+        sink = faults.1 ∙ l.sink;
         steps_rise = omega (arith, l.steps_rise, never_falls.steps);
       }
 
   -- what came of all, where it ended here
-  all_of : (ended : SessionEnd) → count < most_requests → Ended count first new ended → (ended ≡ end.ReadFault → Rises now.input.faults new.input.faults)
-      → (ended ≡ end.WriteFault → Rises now.output.faults new.output.faults) → (ended ≡ end.OutOfMemory → ⊥)
+  all_of : (ended : SessionEnd) → count < most_requests → (FaultsAt ended first new → Ended count first new ended) → FaultsAt ended now new × (ended ≢ end.OutOfMemory)
       → (¬ (ended ≡ end.WriteFault) → FlushesAll first.output.held new.output.held first.output.flushed new.output.flushed) → Finishes count first new ended
-  all_of ended few e reads writes memory on = record {
-    serves = record {
-      goes = e.goes;
-      memory_faults = omega (arith, few, l.few_wants, never_falls.memory_faults);
-      read_fault = λ is. rises_from _ _ _ l.source (reads is);
-      write_fault = λ is. rises_from _ _ _ l.sink (writes is);
-      memory = memory;
-      flushed = on;
-      source_never_falls = omega (arith, l.source, never_falls.source);
-      sink_never_falls = omega (arith, l.sink, never_falls.sink);
-      steps_never_fall = omega (arith, l.steps_rise, never_falls.steps);
-      room = never_falls.room ∙ l.same_room;
-    };
-    served = e.served;
-  }
+  all_of ended few so faults on =
+      let from = faults_from ended _ _ _ _ _ _ l.source l.sink faults.0 in
+      let e = so from in record {
+        serves = record {
+          goes = e.goes;
+          memory_faults = omega (arith, few, l.few_wants, never_falls.memory_faults);
+          faults = from;
+          memory = faults.1;
+          flushed = on;
+          source_never_falls = omega (arith, l.source, never_falls.source);
+          sink_never_falls = omega (arith, l.sink, never_falls.sink);
+          steps_never_fall = omega (arith, l.steps_rise, never_falls.steps);
+          room = never_falls.room ∙ l.same_room;
+        };
+        served = e.served;
+      }
 
   -- the request asked to close
   pub asked_all : count < most_requests → ServesOne count now new (Ok true) → Finishes count first new end.Asked
   asked_all few s =
-      all_of end.Asked few (asked_served count first now new few l.going s.ok s.left s.hands.flushed) (λ h. absurd (cc)) (λ h. absurd (cc)) (λ h. cc) (λ _. inl s.hands.flushed)
+      all_of end.Asked few (asked_served count first now new few l.going s.ok s.left s.hands.flushed)
+      (record { read = s.faults.0; write = s.faults.1 }, λ is. cc) (λ _. inl s.hands.flushed)
 
   -- the connection ended
   pub stopped_all : (ended : SessionEnd) → count < most_requests → ServesOne count now new (Err ended) → Finishes count first new ended
   stopped_all ended few s =
-      let reads : ended ≡ end.ReadFault → Rises now.input.faults new.input.faults = λ is. s.faults.read_fault (ap (λ (e : SessionEnd). Err e) is) in
-      let writes : ended ≡ end.WriteFault → Rises now.output.faults new.output.faults = λ is. s.faults.write_fault (ap (λ (e : SessionEnd). Err e) is) in
       let more : ended ≡ end.WriteFault → HandsMore now.output.held now.output.flushed new.output.flushed
       = λ is. let m = s.hands.breaks (ap (λ (e : SessionEnd). Err e) is) in record { more = m.0; on = m.1 } in
       all_of ended few
-      (stopped_served count first now new few l.going ended s.stops s.left (λ is. rises_from _ _ _ l.source (reads is)) (λ is. rises_from _ _ _ l.sink (writes is)) s.hands.flushes more)
-      reads writes s.faults.memory
+      (λ from. stopped_served count first now new few l.going ended s.stops s.left from s.hands.flushes more) s.faults
       (λ going. hands_all_on l.going.progress.outputs first.output.held now.output.held new.output.held first.output.flushed now.output.flushed new.output.flushed l.going.handed_is (s.hands.flushes going))
 
 -- as many requests were answered as may be
 pub spent_all : (count top : ℕ) (first now : Moment) → IsLoop count top first now → count ≡ most_requests → Finishes count first now end.Spent
 spent_all count top first now l all =
-    let e = spent_served count first now all l.going in
+    let faults : FaultsAt end.Spent first now = record { read = l.source; write = l.sink } in
+    let e = spent_served count first now all l.going faults in
     record {
       serves = record {
         goes = e.goes;
         memory_faults = omega (arith, all, l.few_wants);
-        read_fault = λ h. absurd (cc);
-        write_fault = λ h. absurd (cc);
-        memory = λ h. cc;
+        faults = faults;
+        memory = λ is. cc;
         flushed = λ _. has_handed_all l.going.progress.outputs first.output.held now.output.held first.output.flushed now.output.flushed l.going.handed_is;
-        source_never_falls = l.source;
-        sink_never_falls = l.sink;
+        source_never_falls = omega (arith, l.source);
+        sink_never_falls = omega (arith, l.sink);
         steps_never_fall = l.steps_rise;
         room = l.same_room;
       };

@@ -1,15 +1,16 @@
 -- One request, from its parts.
-use Rattle.std.proofs.Common.{◌≡◌, ◌⊎◌, inl, inr, ℕ, zero, suc, ◌+◌, ◌-◌, ◌<◌, ◌≤◌, ◌||◌, ◌==◌, Bool, true, false, List, [], ◌∷◌, ◌++◌, length, take, drop, Option, Some, None, refl, sym, ap, ◌∙◌, subst, arith, append_assoc}
-use Rattle.std.specs.Prelude.{IfSome, IsSomeAnd, if◌then◌else◌}
+use Rattle.std.proofs.Common.{◌≡◌, ◌⊎◌, inl, inr, ℕ, zero, suc, ◌+◌, ◌-◌, ◌<◌, ◌≤◌, ◌||◌, ◌==◌, Bool, true, false, List, [], ◌∷◌, ◌++◌, length, take, drop, Option, Some, None, Err, refl, sym, ap, ◌∙◌, subst, arith, append_assoc}
+use Rattle.std.specs.Prelude.{◌≢◌, IfSome, IsSomeAnd, if◌then◌else◌}
 use Rattle.std.specs.Io.KnownBytes.{Appends, prepend_known}
 use Rattle.std.proofs.lemmas.List.{take-append-drop}
-use Rattle.survey_link.specs.Link.{AppendsPrefix, Rises}
+use Rattle.survey_link.specs.Link.{AppendsPrefix, CountsFault}
 use Rattle.survey_conf.specs.Description.{Description}
 use Rattle.hips_http.specs.declared.call.Call.{Call}
 use Rattle.hips_http.specs.Paths.{IsOfKind}
 use Rattle.http_frame.specs.declared.request.Request.{Request}
 use Rattle.http_frame.specs.declared.stop.Stop.{Stop}
 use Rattle.http_frame.specs.declared.stop.Stop.TheVariants.{End, Cut, ReadFault, Refuse}
+use Rattle.http_frame.specs.Fill.{read_failed}
 use Rattle.http_frame.specs.Frame.{FrameState, unread, StopsHead, StopsBody, KeepsUnread}
 use Rattle.http_frame.specs.Next.{IsFound, IsWhole, IsRefusedNext, IsCut}
 use Rattle.http_frame.specs.Reply.{is_reply_code, continue_bytes}
@@ -18,7 +19,7 @@ use Rattle.hips_http.specs.declared.served.SessionEnd.TheVariants as end
 use Rattle.hips_http.specs.Replies.{Answer, leave_bytes, refusal_bytes}
 use Rattle.hips_http.specs.declared.open_connection.OpenConnection.{OpenConnection}
 use Rattle.hips_http.specs.Moment.{Input, Output, Moment, moment, unread_of, SameEnds}
-use Rattle.hips_http.specs.SessionRun.{IsCutInput, room_of, most_requests}
+use Rattle.hips_http.specs.SessionRun.{IsCutInput, room_of, most_requests, is_read_fault, is_write_fault, CountsFaults}
 use Rattle.hips_http.specs.Progress.{EndsAt, EndsOne, Breaks, ReadsPart, body_end, ReadsCall, Replied, Halts, Serves, Serving, IsServedOne, BreaksOne, StopsOne, LeavesPart, reply_of}
 use Rattle.hips_http.proofs.Whole.{appends_nothing}
 use Rattle.hips_http.proofs.Truncated.{found_front}
@@ -111,8 +112,8 @@ begun_part : (room : ℕ) (held extra : List ℕ) → extra ≡ [] → (0 < leng
 begun_part room [] extra none cut = inl (refl, none)
 begun_part room (b ∷ bs) extra none cut = inr (record { cut = inl (cut (omega arith), none) })
 
-module _ (old new : FrameState) (left left' : Option (List ℕ)) (faults faults' : ℕ) (w w' : Option (List ℕ)) where
-  pub head_ends : (stop : Stop) (ended : SessionEnd) → StopsHead old new left faults faults' stop → KeepsUnread old new left left' → EndsAt stop w w' ended
+module _ (old new : FrameState) (left left' : Option (List ℕ)) (w w' : Option (List ℕ)) where
+  pub head_ends : (stop : Stop) (ended : SessionEnd) → StopsHead old new left stop → KeepsUnread old new left left' → EndsAt stop w w' ended
       → IfSome (unread old left) (λ all. EndsOne ended old.room all left' w w')
   head_ends End ended why kept ends =
       rw ends.0 (if_some_map _ _ (unread old left) (λ all is. (is, appends_same w w' ends.1)) why)
@@ -125,7 +126,7 @@ module _ (old new : FrameState) (left left' : Option (List ℕ)) (faults faults'
         read = new.held;
         all_is = s.all_is;
         extra = [];
-        ends = begun_part old.room new.held [] refl (λ some. record { some = some; short = why.1.short; none = why.1.none });
+        ends = begun_part old.room new.held [] refl (λ some. record { some = some; short = why.short; none = why.none });
         appended = appends_same w w' ends.1;
       })) kept)
   head_ends (Refuse code) ended why kept ends =
@@ -143,9 +144,9 @@ leave_breaks room (Some all) (Some after) left asked path w w' head waits part =
     (continue_bytes, inr (record { asked = asked; path = path; after = after; head = head; waits = waits; begun_is = refl }), breaks_of w w' continue_bytes part)
 
 -- the body isn't whole
-module _ (room : ℕ) (asked : Request) (path : Option (List ℕ)) (mid new : FrameState) (left left' : Option (List ℕ)) (faults faults' : ℕ) (w w' : Option (List ℕ)) where
+module _ (room : ℕ) (asked : Request) (path : Option (List ℕ)) (mid new : FrameState) (left left' : Option (List ℕ)) (w w' : Option (List ℕ)) where
   pub body_ends : (o : Option (List ℕ)) (m : Option (List ℕ)) → m ≡ unread mid left → IfSome o (λ all. IsSomeAnd m (λ rest. IsFound room all asked path rest)) → (stop : Stop)
-      → StopsBody asked.length mid new left faults faults' stop → KeepsUnread mid new left left' → Appends w w' (leave_bytes asked)
+      → StopsBody asked.length mid new left stop → KeepsUnread mid new left left' → Appends w w' (leave_bytes asked)
       → IfSome o (λ all. EndsOne (body_end stop) room all left' w w')
   body_ends None m same head stop why kept sent = tt
   body_ends (Some all) None same head stop why kept sent = absurd head
@@ -160,22 +161,22 @@ module _ (room : ℕ) (asked : Request) (path : Option (List ℕ)) (mid new : Fr
         read = f.front;
         all_is = f.all_is;
         extra = leave_bytes asked;
-        ends = inr (record { cut = inr (record { asked = asked; path = path; after = new.held; head = f.holds; short = why.1 }, refl) });
+        ends = inr (record { cut = inr (record { asked = asked; path = path; after = new.held; head = f.holds; short = why }, refl) });
         appended = sent;
       })
   body_ends (Some all) (Some after) same head End why kept sent = absurd why
   body_ends (Some all) (Some after) same head (Refuse code) why kept sent = absurd why
 
 -- an end is a failed writing or another
-pub is_write_fault : (ended : SessionEnd) → (ended ≡ end.WriteFault) ⊎ (¬ (ended ≡ end.WriteFault))
-is_write_fault end.Closed = inr (λ h. cc)
-is_write_fault end.Asked = inr (λ h. cc)
-is_write_fault (end.Refused code) = inr (λ h. cc)
-is_write_fault end.Cut = inr (λ h. cc)
-is_write_fault end.Spent = inr (λ h. cc)
-is_write_fault end.ReadFault = inr (λ h. cc)
-is_write_fault end.WriteFault = inl refl
-is_write_fault end.OutOfMemory = inr (λ h. cc)
+pub write_failed : (ended : SessionEnd) → (ended ≡ end.WriteFault) ⊎ (¬ (ended ≡ end.WriteFault))
+write_failed end.Closed = inr (λ h. cc)
+write_failed end.Asked = inr (λ h. cc)
+write_failed (end.Refused code) = inr (λ h. cc)
+write_failed end.Cut = inr (λ h. cc)
+write_failed end.Spent = inr (λ h. cc)
+write_failed end.ReadFault = inr (λ h. cc)
+write_failed end.WriteFault = inl refl
+write_failed end.OutOfMemory = inr (λ h. cc)
 
 -- ---- what the source has left
 
@@ -214,17 +215,22 @@ part_by_kept room (Some all) (Some after) asked path held left head kept = some_
 pub head_part : (top : ℕ) (old new : Input) (asked : Request) (wanted : Call) → ReadsCall top old new asked wanted → IfSome (unread_of old) (λ all. LeavesPart all new.left)
 head_part top old new asked wanted read = part_by_head old.frame.room (unread_of old) (unread_of new) asked new.frame.path new.frame.held new.left refl read.head.next
 
-pub rises_from : (first old new : ℕ) → first ≤ old → Rises old new → Rises first new
-rises_from first old new h r = omega arith
+-- ---- the counts of faults
 
-pub halts_by_read : (asked : Request) (old new : Moment) (ended : SessionEnd) → Halts asked old new ended → ended ≡ end.ReadFault → Rises old.input.faults new.input.faults
-halts_by_read asked old new ended h is = by_stop h.stop (sym is ∙ h.end_is) h.leaves.why
-  where
-    by_stop : (stop : Stop) → end.ReadFault ≡ body_end stop → StopsBody asked.length old.input.frame new.input.frame old.input.left old.input.faults new.input.faults stop → Rises old.input.faults new.input.faults
-    by_stop End is why = absurd (cc)
-    by_stop Cut is why = absurd (cc)
-    by_stop ReadFault is why = why.0
-    by_stop (Refuse code) is why = absurd (cc)
+-- nothing failed before
+pub faults_from : (ended : SessionEnd) (first old new first' old' new' : ℕ) → old ≡ first → old' ≡ first' → CountsFaults ended old new old' new' → CountsFaults ended first new first' new'
+faults_from ended first old new first' old' new' source sink f = record {
+  read = subst (λ (n : ℕ). CountsFault (is_read_fault ended) n new) source f.read;
+  write = subst (λ (n : ℕ). CountsFault (is_write_fault ended) n new') sink f.write;
+}
+
+-- no head or no body was read, and nothing else failed
+pub stop_counts : (stop : Stop) (source source' sink : ℕ) → CountsFault (read_failed {T = Unit {0}} (Err stop)) source source'
+    → CountsFaults (body_end stop) source source' sink sink × (body_end stop ≢ end.OutOfMemory)
+stop_counts End source source' sink counts = (record { read = counts; write = refl }, λ is. cc)
+stop_counts Cut source source' sink counts = (record { read = counts; write = refl }, λ is. cc)
+stop_counts ReadFault source source' sink counts = (record { read = counts; write = refl }, λ is. cc)
+stop_counts (Refuse code) source source' sink counts = (record { read = counts; write = refl }, λ is. cc)
 
 -- ---- the parts together: `old` is the moment before, `input` and `output` are those after the head and the leave, and `new` is
 -- the moment after the reply
@@ -285,7 +291,7 @@ module _ (count top : ℕ) (old : Moment) (input : Input) (output : Output) (ask
       pub halts_one : StopsOne count old new ended
       halts_one =
           let ends : IfSome (unread_of old.input) (λ all. EndsOne (body_end h.stop) old.input.frame.room all new.input.left old.output.held new.output.held) =
-          body_ends old.input.frame.room asked input.frame.path input.frame new.input.frame input.left new.input.left input.faults new.input.faults old.output.held new.output.held
+          body_ends old.input.frame.room asked input.frame.path input.frame new.input.frame input.left new.input.left old.output.held new.output.held
           (unread_of old.input) (unread_of input) refl read.head.next h.stop h.leaves.why h.leaves.kept (appends_kept old.output.held output.held new.output.held (leave_bytes asked) leave h.written_is) in
           let room : IfSome (unread_of old.input) (λ all. EndsOne (body_end h.stop) (room_of old.board.conf) all new.input.left old.output.held new.output.held)
           = subst (λ (n : ℕ). IfSome (unread_of old.input) (λ all. EndsOne (body_end h.stop) n all new.input.left old.output.held new.output.held)) room_is ends in
@@ -301,22 +307,16 @@ module _ (count top : ℕ) (old : Moment) (input : Input) (output : Output) (ask
 
 -- no head was read
 pub head_stops : (count : ℕ) (old : Moment) (input : Input) (output : Output) (stop : Stop) (ended : SessionEnd)
-    → old.input.frame.room ≡ room_of old.board.conf → StopsHead old.input.frame input.frame old.input.left old.input.faults input.faults stop
+    → old.input.frame.room ≡ room_of old.board.conf → StopsHead old.input.frame input.frame old.input.left stop
     → KeepsUnread old.input.frame input.frame old.input.left input.left → EndsAt stop old.output.held output.held ended
     → StopsOne count old (moment input output old.board old.steps old.memory_faults) ended
 head_stops count old input output stop ended room_is why kept ends = record {
   how = inr (
     record { board = refl; steps_are = refl; wants_are = refl },
     subst (λ (n : ℕ). IfSome (unread_of old.input) (λ all. EndsOne ended n all input.left old.output.held output.held)) room_is
-        (head_ends old.input.frame input.frame old.input.left input.left old.input.faults input.faults old.output.held output.held stop ended why kept ends),
+        (head_ends old.input.frame input.frame old.input.left input.left old.output.held output.held stop ended why kept ends),
   );
 }
-
-pub stops_by_read : (fo fm : FrameState) (l0 : Option (List ℕ)) (faults faults' : ℕ) (stop : Stop) → stop ≡ ReadFault → StopsHead fo fm l0 faults faults' stop → Rises faults faults'
-stops_by_read fo fm l0 faults faults' ReadFault is why = why.0
-stops_by_read fo fm l0 faults faults' End is why = absurd (cc)
-stops_by_read fo fm l0 faults faults' Cut is why = absurd (cc)
-stops_by_read fo fm l0 faults faults' (Refuse code) is why = absurd (cc)
 
 -- no body ends a connection by a failed writing
 pub body_reads : (stop : Stop) → body_end stop ≡ end.WriteFault → ⊥

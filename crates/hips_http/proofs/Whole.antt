@@ -50,6 +50,7 @@ no_memory_served old new (Some input) connection steps legal is left_is =
         memory_faults_is = refl;
         ended = (refl, refl, refl);
         flushed = refl;
+        faults = record { read = refl; write = refl };
       };
       steps_are = λ _. grind arith;
     }

@@ -1,10 +1,10 @@
 -- What one call of the server does to a board, a source and a sink, from the bytes that were unread to those that are unread
 -- then: the parts of which a connection's run is made.
-use Rattle.std.specs.Prelude.{◌≡◌, ◌≢◌, ◌⊎◌, ℕ, ◌+◌, ◌<◌, ◌≤◌, ◌==◌, Bool, true, false, List, [], ◌++◌, length, slice_get, All, Option, Some, None, Result, Err, OnOk, OnErr, IfOk, IfErr, IfSome, IsSome, IsSomeAnd, if◌then◌else◌}
+use Rattle.std.specs.Prelude.{◌≡◌, ◌≢◌, ◌⊎◌, ℕ, ◌+◌, ◌<◌, ◌≤◌, ◌==◌, Bool, true, false, List, [], ◌++◌, length, slice_get, All, Option, Some, None, Result, Ok, Err, is_err, OnOk, OnErr, IfOk, IfErr, IfSome, IsSome, IsSomeAnd, if◌then◌else◌}
 use Rattle.std.specs.List.{concat}
 use Rattle.std.specs.Io.KnownBytes.{Appends}
 use Rattle.healpix_nested.specs.Cells.{cell_count}
-use Rattle.survey_link.specs.Link.{AppendsPrefix, Rises}
+use Rattle.survey_link.specs.Link.{AppendsPrefix, CountsFault}
 use Rattle.survey_link.specs.declared.faults.Failed.{Failed}
 use Rattle.http_frame.specs.declared.request.Request.{Request}
 use Rattle.http_frame.specs.declared.stop.Stop.{Stop}
@@ -24,7 +24,7 @@ use Rattle.hips_http.specs.Paths.{IsPathOf, IsOfKind, call_of}
 use Rattle.http_frame.specs.Next.{IsFound, IsWhole, IsRefusedNext}
 use Rattle.hips_http.specs.Replies.{Answer, head_of, sent_body, output_of, refusal_bytes}
 use Rattle.hips_http.specs.Moment.{Input, Output, Moment, unread_of, connection_at, NeverFalls}
-use Rattle.hips_http.specs.SessionRun.{closes, room_of, most_requests, IsCutInput, AreRequests, AreAnswered, first_point, Flushes, FlushesAll, IsServed, Goes}
+use Rattle.hips_http.specs.SessionRun.{closes, room_of, most_requests, IsCutInput, AreRequests, AreAnswered, first_point, Flushes, FlushesAll, IsServed, Goes, CountsFaults}
 use Rattle.hips_http.specs.Answers.{Asking, Point, Answers, cost_of}
 
 -- the state at the place is the one that is held
@@ -79,7 +79,7 @@ pub record Sends (old new : Output) (bytes : List ℕ) (result : Result (Unit {0
 pub record FlushesReply (old new : Output) (result : Result (Unit {0}) Failed) : Type 0 where
   pub flushed : OnOk result (new.flushed ≡ new.held)
   pub stays : OnErr result (new.flushed ≡ old.flushed)
-  pub failed : OnErr result (Rises old.faults new.faults)
+  pub faults : CountsFault (is_err result) old.faults new.faults
   pub never_falls : old.faults ≤ new.faults
 
 -- a board sees the newest state, unless one is held
@@ -129,7 +129,7 @@ pub record TakesBody (count : ℕ) (old new : Input) (body : List ℕ) : Type 0 
 
 -- no body was read
 pub record LeavesNoBody (count : ℕ) (old new : Input) (stop : Stop) : Type 0 where
-  pub why : StopsBody count old.frame new.frame old.left old.faults new.faults stop
+  pub why : StopsBody count old.frame new.frame old.left stop
   pub kept : KeepsUnread old.frame new.frame old.left new.left
 
 -- a body was read, and the call is answered
@@ -231,11 +231,14 @@ pub record FlushesOne (old new : Output) (result : Result Bool SessionEnd) : Typ
   pub flushes : IfErr result (λ end. ¬ (end ≡ WriteFault) → FlushesAll old.held new.held old.flushed new.flushed)
   pub breaks : result ≡ Err WriteFault → (more : List ℕ) × Flushes old.held old.flushed new.flushed more
 
--- source or sink failed only where its count of faults rose, and no end is out of memory
-pub record FaultsOne (old new : Moment) (result : Result Bool SessionEnd) : Type 0 where
-  pub read_fault : result ≡ Err ReadFault → Rises old.input.faults new.input.faults
-  pub write_fault : result ≡ Err WriteFault → Rises old.output.faults new.output.faults
-  pub memory : IfErr result (λ end. end ≢ OutOfMemory)
+-- a connection ended so, and the counts of faults of source and sink show it
+abbrev pub FaultsAt : SessionEnd → Moment → Moment → Type 0
+FaultsAt end old new = CountsFaults end old.input.faults new.input.faults old.output.faults new.output.faults
+
+-- neither source nor sink failed, or the connection ended by that, and not out of memory
+abbrev pub FaultsOne : {T : Type 0} → Moment → Moment → Result T SessionEnd → Type 0
+FaultsOne old new (Ok _) = (new.input.faults ≡ old.input.faults) × (new.output.faults ≡ old.output.faults)
+FaultsOne old new (Err end) = FaultsAt end old new × (end ≢ OutOfMemory)
 
 -- what came of the next request, where `count` others came before it; `Ok` says whether it asked to close
 pub record ServesOne (count : ℕ) (old new : Moment) (result : Result Bool SessionEnd) : Type 0 where
@@ -274,8 +277,6 @@ pub record FlushesCall (old new : Output) (result : Result (Unit {0}) SessionEnd
   pub flushed : OnOk result (new.flushed ≡ new.held)
   pub stays : OnErr result (new.flushed ≡ old.flushed)
   pub unwritten : IfErr result (λ end. ¬ (end ≡ WriteFault) → new.held ≡ old.held)
-  pub write_fault : result ≡ Err WriteFault → Rises old.faults new.faults
-  pub memory : IfErr result (λ end. end ≢ OutOfMemory)
 
 -- what came of a call: it was answered, and its reply was written; or a writing failed in the reply; or the body isn't whole
 pub record ServesCall (asked : Request) (wanted : Call) (close : Bool) (old new : Moment) (result : Result (Unit {0}) SessionEnd) : Type 0 where
@@ -283,6 +284,7 @@ pub record ServesCall (asked : Request) (wanted : Call) (close : Bool) (old new 
   pub broken : result ≡ Err WriteFault → (answer : Answer) × Replied asked wanted old new answer × AppendsPrefix old.output.held new.output.held (reply_of close asked answer)
   pub halted : IfErr result (λ end. ¬ (end ≡ WriteFault) → Halts asked old new end)
   pub hands : FlushesCall old.output new.output result
+  pub faults : FaultsOne old new result
   pub never_falls : NeverFalls old new
 
 -- ---- many requests
@@ -325,8 +327,7 @@ IsServedTo first last end bytes =
 pub record ServesAll (first last : Moment) (end : SessionEnd) : Type 0 where
   pub goes : Goes first.board last.board
   pub memory_faults : last.memory_faults ≤ most_requests
-  pub read_fault : end ≡ ReadFault → Rises first.input.faults last.input.faults
-  pub write_fault : end ≡ WriteFault → Rises first.output.faults last.output.faults
+  pub faults : FaultsAt end first last
   pub memory : end ≢ OutOfMemory
   pub flushed : ¬ (end ≡ WriteFault) → FlushesAll first.output.held last.output.held first.output.flushed last.output.flushed
   pub source_never_falls : first.input.faults ≤ last.input.faults

@@ -6,7 +6,7 @@ use Rattle.fits_header.specs.Cards.{whole_blocks}
 use Rattle.fits_tile.specs.TileFile.{data_len}
 use Rattle.survey_conf.specs.Description.{Description}
 use Rattle.survey_link.specs.Door.{Connection}
-use Rattle.survey_link.specs.Link.{Rises}
+use Rattle.survey_link.specs.Link.{CountsFault}
 use Rattle.edit_journal.specs.Leaves.{LeafTiles}
 use Rattle.http_frame.specs.declared.request.Request.{Request}
 use Rattle.http_frame.specs.Next.{IsCut, IsCutInBody, IsFound, IsRefusedNext, IsWhole}
@@ -138,14 +138,25 @@ Ends (Refused code) room requests rest outputs exchange =
 Ends Cut room requests rest outputs exchange =
     GoOn requests × ((extra : List ℕ) × IsCutInput room rest extra × (exchange.written ≡ concat outputs ++ extra))
 Ends ReadFault room requests rest outputs exchange =
-    GoOn requests × Rises exchange.source_faults exchange.source_faults_then
-    × ((extra : List ℕ) × (((rest ≡ []) × (extra ≡ [])) ⊎ IsCutInput room rest extra) × (exchange.written ≡ concat outputs ++ extra))
-Ends WriteFault room requests rest outputs exchange =
-    Rises exchange.sink_faults exchange.sink_faults_then
-    × (BreaksInReply requests outputs exchange.written exchange.flushed
-    ⊎ (GoOn requests
-    × (BreaksInRefusal room rest outputs exchange.written exchange.flushed ⊎ BreaksInLeave room rest outputs exchange.written exchange.flushed)))
+    GoOn requests × ((extra : List ℕ) × (((rest ≡ []) × (extra ≡ [])) ⊎ IsCutInput room rest extra) × (exchange.written ≡ concat outputs ++ extra))
+Ends WriteFault room requests rest outputs exchange = BreaksInReply requests outputs exchange.written exchange.flushed
+    ⊎ (GoOn requests × (BreaksInRefusal room rest outputs exchange.written exchange.flushed ⊎ BreaksInLeave room rest outputs exchange.written exchange.flushed))
 Ends OutOfMemory room requests rest outputs exchange = (requests ≡ []) × (exchange.read ≡ []) × (exchange.written ≡ [])
+
+-- the source failed
+abbrev pub is_read_fault : SessionEnd → Bool
+is_read_fault ReadFault = true
+is_read_fault _ = false
+
+-- the sink failed
+abbrev pub is_write_fault : SessionEnd → Bool
+is_write_fault WriteFault = true
+is_write_fault _ = false
+
+-- the source's count of faults rose if and only if the source failed, and the sink's if and only if the sink did
+pub record CountsFaults (end : SessionEnd) (source source_then sink sink_then : ℕ) : Type 0 where
+  pub read : CountsFault (is_read_fault end) source source_then
+  pub write : CountsFault (is_write_fault end) sink sink_then
 
 -- all that was written was flushed, unless a writing failed: then all but what was begun then, as said there
 abbrev pub AllFlushed : SessionEnd → Exchange → Type 0
@@ -178,6 +189,7 @@ pub record SessionRun (conf : Description) (opening : LeafTiles) (states : List 
   pub memory_faults_is : memory_faults ≡ last.memory_faults
   pub ended : Ends end (room_of conf) requests rest outputs exchange
   pub flushed : AllFlushed end exchange
+  pub faults : CountsFaults end exchange.source_faults exchange.source_faults_then exchange.sink_faults exchange.sink_faults_then
 
 -- ---- a call
 

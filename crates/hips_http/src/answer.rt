@@ -1,5 +1,7 @@
 //! Calls that are answered by a text, or without a body.
 ghost use Rattle.std.specs.Prelude.{◌≡◌, ◌≤◌, ◌<◌, true, ℕ, List, Option, OnOk, OnErr, IfOk, IfErr};
+ghost use Rattle.survey_link.specs.Link.{CountsFault};
+ghost use Rattle.http_frame.specs.Fill.{read_failed};
 ghost use Rattle.http_frame.specs.declared.stop.Turn.TheVariants.{AtBody};
 ghost use Rattle.http_frame.specs.Frame.{IsShort};
 ghost use Rattle.hips_http.specs.declared.call.Call.TheVariants as call;
@@ -43,6 +45,7 @@ pub(crate) fn reply_to<
     requires leaf { HasLeaf (B.content board.old).conf.shape.top due.now.call }
     ensures replied { IfOk result (RepliesTo due.now.request due.now.call (input_at S.Source frame.old src.old) (input_at S.Source frame.new src.new) (B.content board.old) (B.content board.new) steps.old steps.new) }
     ensures stop { IfErr result (LeavesNoBody due.now.request.length (input_at S.Source frame.old src.old) (input_at S.Source frame.new src.new)) }
+    ensures faults { CountsFault (read_failed result) (S.faults src.old) (S.faults src.new) }
     ensures needed { ReadsWhere S.Source (IsShort due.now.request.length) frame.old.held src.old src.new }
     ensures unchanged { OnErr result (B.content board.new ≡ B.content board.old) }
     ensures no_steps { OnErr result (steps.new ≡ steps.old) }
@@ -66,6 +69,7 @@ pub(crate) fn pass_body<S: Source>(frame: &mut Frame, src: &mut S, count: u64) -
     requires { frame.old.turn ≡ AtBody count }
     ensures read { OnOk result ((body : List ℕ) × TakesBody count (input_at S.Source frame.old src.old) (input_at S.Source frame.new src.new) body) }
     ensures stop { IfErr result (LeavesNoBody count (input_at S.Source frame.old src.old) (input_at S.Source frame.new src.new)) }
+    ensures faults { CountsFault (read_failed result) (S.faults src.old) (S.faults src.new) }
     ensures needed { ReadsWhere S.Source (IsShort count) frame.old.held src.old src.new }
     ensures never_falls { S.faults src.old ≤ S.faults src.new }
     ensures room { frame.new.room ≡ frame.old.room }

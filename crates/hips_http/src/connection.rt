@@ -1,15 +1,15 @@
 //! One connection, whole.
 ghost use Rattle.std.specs.Prelude.{◌≡◌, ◌≤◌, ◌↔◌, ℕ, List, [], None, IfSome, IsSome, IsNone};
-ghost use Rattle.survey_link.specs.Link.{Rises};
+ghost use Rattle.survey_link.specs.Link.{CountsFault};
 ghost use Rattle.http_frame.specs.Readings.{ReadsWhile};
 ghost use Rattle.survey_core.specs.History.{IsHistory};
 ghost use Rattle.reader_pin.specs.Board.{IsOwned};
 ghost use Rattle.http_frame.specs.declared.stop.Turn.TheVariants.{AtHead};
-ghost use Rattle.hips_http.specs.SessionRun.{IsServed, Goes, FlushesAll, room_of, most_requests};
+ghost use Rattle.hips_http.specs.SessionRun.{IsServed, Goes, FlushesAll, room_of, most_requests, is_read_fault, is_write_fault};
 ghost use Rattle.hips_http.specs.Moment.{connection_of, input_at, output_at, moment, moment_of, SameEnds, ReadsWhere};
 ghost use Rattle.hips_http.specs.Progress.{ServesAll, IsServedTo};
 ghost use Rattle.hips_http.specs.Readings.{NeedsNext, FollowsReplies};
-ghost use Rattle.hips_http.specs.declared.served.SessionEnd.TheVariants.{ReadFault, WriteFault, OutOfMemory};
+ghost use Rattle.hips_http.specs.declared.served.SessionEnd.TheVariants.{WriteFault, OutOfMemory};
 
 use crate::open_connection::{Means, OpenConnection};
 use crate::served::{Served, SessionEnd};
@@ -31,6 +31,8 @@ use survey_link::{Gate, Sink, Source};
 /// It ends with `OutOfMemory` if there is no memory for its buffers, before anything is read or written. From then on only
 /// PUT, DELETE, POST batch and POST publish may run out of memory, and they answer code 503; `memory_faults` is the number of
 /// these replies. An event whose reply couldn't be written stays in the history.
+///
+/// The source's count of faults rises if and only if it ends with `ReadFault`, the sink's if and only if with `WriteFault`.
 pub fn session<
     R: Threads + Sync + Clock + Log,
     B: ChangedWith<R>,
@@ -48,8 +50,8 @@ pub fn session<
 ) -> Served
     ensures goes { Goes (B.content board.old) (B.content board.new) }
     ensures memory_faults { result.memory_faults ≤ most_requests }
-    ensures read_fault { result.end ≡ ReadFault → Rises (S.faults src.old) (S.faults src.new) }
-    ensures write_fault { result.end ≡ WriteFault → Rises (K.faults sink.old) (K.faults sink.new) }
+    ensures read_fault { CountsFault (is_read_fault result.end) (S.faults src.old) (S.faults src.new) }
+    ensures write_fault { CountsFault (is_write_fault result.end) (K.faults sink.old) (K.faults sink.new) }
     // Unless writing failed all that is held was flushed, also what was held back before; or nothing was written.
     ensures flushed { ¬ (result.end ≡ WriteFault) → FlushesAll (K.held sink.old) (K.held sink.new) (K.flushed sink.old) (K.flushed sink.new) }
     ensures source_never_falls { S.faults src.old ≤ S.faults src.new }
@@ -91,8 +93,8 @@ pub fn session_in<
     requires room { IfSome frame.old (λ frame. frame.room ≡ room_of (B.content board.old).conf) }
     ensures goes { Goes (B.content board.old) (B.content board.new) }
     ensures memory_faults { result.memory_faults ≤ most_requests }
-    ensures read_fault { result.end ≡ ReadFault → Rises (S.faults src.old) (S.faults src.new) }
-    ensures write_fault { result.end ≡ WriteFault → Rises (K.faults sink.old) (K.faults sink.new) }
+    ensures read_fault { CountsFault (is_read_fault result.end) (S.faults src.old) (S.faults src.new) }
+    ensures write_fault { CountsFault (is_write_fault result.end) (K.faults sink.old) (K.faults sink.new) }
     // Unless writing failed all that is held was flushed, also what was held back before; or nothing was written.
     ensures flushed { ¬ (result.end ≡ WriteFault) → FlushesAll (K.held sink.old) (K.held sink.new) (K.flushed sink.old) (K.flushed sink.new) }
     ensures source_never_falls { S.faults src.old ≤ S.faults src.new }

@@ -1,20 +1,20 @@
 //! One request: its head, its body, and the reply.
-ghost use Rattle.std.specs.Prelude.{◌≡◌, ◌≢◌, ◌||◌, ◌==◌, ◌≤◌, ◌+◌, ◌<◌, true, ℕ, List, Err, OnOk, OnErr, IfOk, IfErr, IsSome, ◌++◌};
+ghost use Rattle.std.specs.Prelude.{◌≡◌, ◌≢◌, ◌||◌, ◌==◌, ◌≤◌, ◌+◌, ◌<◌, true, ℕ, List, Err, is_err, OnOk, OnErr, IfOk, IfErr, IsSome, ◌++◌};
 ghost use Rattle.hips_http.specs.declared.call.Call.TheVariants as call;
 ghost use Rattle.std.specs.Io.KnownBytes.{Appends};
-ghost use Rattle.survey_link.specs.Link.{AppendsPrefix, Rises};
+ghost use Rattle.survey_link.specs.Link.{AppendsPrefix, CountsFault};
 ghost use Rattle.http_frame.specs.Frame.{StopsHead, KeepsUnread, IsShort};
+ghost use Rattle.http_frame.specs.Fill.{read_failed};
 ghost use Rattle.http_frame.specs.Next.{NeedsMore, IsFound};
 ghost use Rattle.http_frame.specs.Readings.{ReadsWhile};
 ghost use Rattle.http_frame.specs.declared.stop.Turn.TheVariants.{AtHead, AtBody};
-ghost use Rattle.http_frame.specs.declared.stop.Stop.TheVariants as Stopped;
 ghost use Rattle.http_frame.specs.Reply.{is_reply_code, continue_bytes};
-ghost use Rattle.hips_http.specs.declared.served.SessionEnd.TheVariants.{ReadFault, WriteFault, OutOfMemory};
+ghost use Rattle.hips_http.specs.declared.served.SessionEnd.TheVariants.{WriteFault, OutOfMemory};
 ghost use Rattle.hips_http.specs.Replies.{leave_bytes};
 ghost use Rattle.hips_http.specs.Paths.{IsPathOf};
 ghost use Rattle.hips_http.specs.Moment.{input_at, moment_of, SameEnds, ReadsWhere};
 ghost use Rattle.hips_http.specs.Progress.{ReadsCall, HasLeaf, HasFile, EndsAt, is_text, body_end, memory_faults_after, ServesCall, ServesOne};
-ghost use Rattle.hips_http.specs.SessionRun.{FlushesAll, room_of, most_requests};
+ghost use Rattle.hips_http.specs.SessionRun.{FlushesAll, room_of, most_requests, is_read_fault, is_write_fault};
 ghost use Rattle.hips_http.specs.Readings.{NeedsRest, HoldsBehind};
 
 use crate::answer::{pass_body, reply_to};
@@ -45,7 +45,8 @@ pub(crate) fn next_call<S: Source>(
     requires turn { frame.old.turn ≡ AtHead }
     requires top { top ≤ 11 }
     ensures read { IfOk result (λ next. ReadsCall top (input_at S.Source frame.old src.old) (input_at S.Source frame.new src.new) next.0 next.1) }
-    ensures stop { IfErr result (StopsHead frame.old frame.new (S.left src.old) (S.faults src.old) (S.faults src.new)) }
+    ensures stop { IfErr result (StopsHead frame.old frame.new (S.left src.old)) }
+    ensures faults { CountsFault (read_failed result) (S.faults src.old) (S.faults src.new) }
     ensures kept { OnErr result (KeepsUnread frame.old frame.new (S.left src.old) (S.left src.new)) }
     ensures turn { IfOk result (λ next. frame.new.turn ≡ AtBody next.0.length) }
     ensures needed { (came : List ℕ) × ReadsWhile S.left S.readings NeedsMore frame.old.held src.old src.new came
@@ -67,11 +68,11 @@ pub(crate) fn next_call<S: Source>(
 /// Ends a connection where no request follows: a head that is refused is answered first.
 pub(crate) fn end_at<R: Clock + Log, K: Sink>(rt: &R, sink: &mut K, stop: Stop) -> SessionEnd
     ensures ends { EndsAt stop (K.held sink.old) (K.held sink.new) result }
-    ensures read_fault { result ≡ ReadFault → stop ≡ Stopped.ReadFault }
+    ensures read_fault { is_read_fault result ≡ is_read_fault (body_end stop) }
     ensures flushed { ¬ (result ≡ WriteFault) → FlushesAll (K.held sink.old) (K.held sink.new) (K.flushed sink.old) (K.flushed sink.new) }
     ensures stays { result ≡ WriteFault → K.flushed sink.new ≡ K.flushed sink.old }
     ensures memory { result ≢ OutOfMemory }
-    ensures failed { result ≡ WriteFault → Rises (K.faults sink.old) (K.faults sink.new) }
+    ensures faults { CountsFault (is_write_fault result) (K.faults sink.old) (K.faults sink.new) }
     ensures never_falls { K.faults sink.old ≤ K.faults sink.new }
 {
     match stop {
@@ -108,7 +109,7 @@ pub(crate) fn grant<K: Sink>(sink: &mut K, request: &Request) -> Result<(), Fail
     ensures flushed { OnOk result (FlushesAll (K.held sink.old) (K.held sink.new) (K.flushed sink.old) (K.flushed sink.new)) }
     ensures stays { OnErr result (K.flushed sink.new ≡ K.flushed sink.old) }
     ensures waits { OnErr result (request.now.expects ≡ true) }
-    ensures failed { OnErr result (Rises (K.faults sink.old) (K.faults sink.new)) }
+    ensures faults { CountsFault (is_err result) (K.faults sink.old) (K.faults sink.new) }
     ensures never_falls { K.faults sink.old ≤ K.faults sink.new }
 {
     if request.expects {
@@ -119,8 +120,7 @@ pub(crate) fn grant<K: Sink>(sink: &mut K, request: &Request) -> Result<(), Fail
 
 // How a connection ends where a body isn't whole.
 fn body_end(stop: Stop) -> SessionEnd
-    ensures end { result ≡ body_end stop }
-    ensures memory { result ≢ OutOfMemory }
+    ensures { result ≡ body_end stop }
 {
     match stop {
         Stop::ReadFault => SessionEnd::ReadFault,

@@ -28,7 +28,7 @@ loop-count-preserved g c =
     let e = c.in-Ok-false.ensures in
     let s = rw c.in-Ok-false.field-0-test at e.serves in (
       same_ends first now new i.0 e.same,
-      loop_goes_on c.loop-count.count c.args.top (at first) (at now) (at new) i.1 s.never_falls s.ok s.hands.flushed s.turn,
+      loop_goes_on c.loop-count.count c.args.top (at first) (at now) (at new) i.1 s.never_falls s.ok s.faults s.hands.flushed s.turn,
       λ some.
           let so = i.2 some in
           let took = e.reads (has_read_left g.S.Source.left g.S.Source.readings first.frame.now.room c.loop-count.count now.frame.now.held first.src.now now.src.now so some) in

@@ -5,24 +5,19 @@ use Rattle.survey_core.specs.State.{survey_state}
 use Rattle.hips_http.specs.Replies.{file_answer}
 use Rattle.hips_http.proofs.FileLemmas.{file_found, shown_serves}
 use Rattle.hips_http.proofs.Points.{wants_found}
-use Rattle.hips_http.proofs.Steps.{body_reads}
+use Rattle.hips_http.proofs.Steps.{stop_counts, body_reads}
 use Rattle.hips_http.proofs.step.serve_file.Goals as goal
 
 pub returns-in-Err-clause-serves : goal.returns-in-Err-clause-serves
 returns-in-Err-clause-serves g c =
-    let ended = c.body_end.ensures.end in
+    let ended = c.body_end.ensures in
     let e = c.in-Err.ensures in
     record {
       ok = tt;
       broken = λ is. let wrote : c.body_end.result ≡ WriteFault = cc in absurd (body_reads c.in-Err.stop (sym ended ∙ wrote));
       halted = λ _. record { stop = c.in-Err.stop; leaves = e.stop; end_is = ended; untouched = record { board = refl; steps_are = refl; wants_are = refl }; written_is = refl };
-      hands = record {
-        flushed = tt;
-        stays = refl;
-        unwritten = λ _. refl;
-        write_fault = λ is. let wrote : c.body_end.result ≡ WriteFault = cc in absurd (body_reads c.in-Err.stop (sym ended ∙ wrote));
-        memory = c.body_end.ensures.memory;
-      };
+      hands = record { flushed = tt; stays = refl; unwritten = λ _. refl };
+      faults = rw ended (stop_counts c.in-Err.stop _ _ _ e.faults);
       never_falls = record { source = e.never_falls; sink = omega arith; steps = omega arith; memory_faults = omega arith; room = e.room };
     }
 
@@ -42,7 +37,8 @@ returns-in-Ok-send_path-clause-serves g c =
       ok = (answer, record { body = t.0; takes = t.1; serves = serves; memory_faults_is = memory_faults }, e.sends.whole);
       broken = λ is. absurd (cc);
       halted = tt;
-      hands = record { flushed = e.hands.flushed; stays = tt; unwritten = tt; write_fault = λ is. absurd (cc); memory = tt };
+      hands = record { flushed = e.hands.flushed; stays = tt; unwritten = tt };
+      faults = (c.in-Ok.ensures.faults, e.hands.faults);
       never_falls = record { source = c.in-Ok.ensures.never_falls; sink = e.hands.never_falls; steps = omega arith; memory_faults = omega arith; room = c.in-Ok.ensures.room };
     }
 
@@ -62,6 +58,7 @@ returns-in-Err-send_path-clause-serves g c =
       ok = tt;
       broken = λ _. (answer, record { body = t.0; takes = t.1; serves = serves; memory_faults_is = memory_faults }, e.sends.part);
       halted = λ other. absurd (other refl);
-      hands = record { flushed = tt; stays = e.hands.stays; unwritten = λ other. absurd (other refl); write_fault = λ _. e.hands.failed; memory = λ is. cc };
+      hands = record { flushed = tt; stays = e.hands.stays; unwritten = λ other. absurd (other refl) };
+      faults = (record { read = c.in-Ok.ensures.faults; write = e.hands.faults }, λ is. cc);
       never_falls = record { source = c.in-Ok.ensures.never_falls; sink = e.hands.never_falls; steps = omega arith; memory_faults = omega arith; room = c.in-Ok.ensures.room };
     }

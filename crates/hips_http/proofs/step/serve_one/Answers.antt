@@ -1,10 +1,10 @@
 use Rattle.std.proofs.Common.{◌≡◌, inr, [], refl, arith}
 use Rattle.hips_http.specs.declared.call.Call.TheVariants as call
-use Rattle.hips_http.specs.declared.served.SessionEnd.TheVariants.{ReadFault, WriteFault}
+use Rattle.hips_http.specs.declared.served.SessionEnd.TheVariants.{WriteFault}
 use Rattle.hips_http.specs.Moment.{input_at, output_at, moment_of}
 use Rattle.hips_http.proofs.OneRequest.{call_served, call_stopped, text_of}
 use Rattle.hips_http.proofs.ReadRequests.{head_reads, reads_request, reads_stopped}
-use Rattle.hips_http.proofs.Steps.{head_stops, stops_by_read, leave_stops, kept_part, head_part}
+use Rattle.hips_http.proofs.Steps.{head_stops, stop_counts, leave_stops, kept_part, head_part}
 use Rattle.hips_http.proofs.step.serve_one.Goals as goal
 
 pub returns-in-Err-clause-serves : goal.returns-in-Err-clause-serves
@@ -24,13 +24,7 @@ returns-in-Err-clause-serves g c =
         flushes = e.flushed;
         breaks = λ is. let ended : c.end_at.result ≡ WriteFault = cc in ([], inr (e.stays ended, refl));
       };
-      faults = record {
-        read_fault = λ is.
-            let ended : c.end_at.result ≡ ReadFault = cc in
-            stops_by_read connection.frame.now c.next_call.new.frame (g.S.Source.left connection.src.now) _ _ c.in-Err.stop (e.read_fault ended) c.in-Err.ensures.stop;
-        write_fault = λ is. let ended : c.end_at.result ≡ WriteFault = cc in e.failed ended;
-        memory = e.memory;
-      };
+      faults = (record { read = rw e.read_fault (stop_counts c.in-Err.stop _ _ 0 c.in-Err.ensures.faults).0.read; write = e.faults }, e.memory);
       never_falls = record { source = c.in-Err.ensures.never_falls; sink = e.never_falls; steps = omega arith; memory_faults = omega arith; room = c.in-Err.ensures.room };
     }
 
@@ -46,7 +40,7 @@ returns-in-Err-grant-clause-serves g c =
       left = head_part c.args.top old.input input c.in-Ok.next.0 c.in-Ok.next.1 c.in-Ok.ensures.read;
       turn = tt;
       hands = record { flushed = tt; flushes = λ other. absurd (other refl); breaks = λ _. ([], inr (e.stays, refl)) };
-      faults = record { read_fault = λ is. absurd (cc); write_fault = λ _. e.failed; memory = λ is. cc };
+      faults = (record { read = c.in-Ok.ensures.faults; write = e.faults }, λ is. cc);
       never_falls = record { source = c.in-Ok.ensures.never_falls; sink = e.never_falls; steps = omega arith; memory_faults = omega arith; room = c.in-Ok.ensures.room };
     }
 
@@ -55,7 +49,7 @@ returns-in-Ok-serve_file-clause-serves g c =
     let at = moment_of g.S.Source g.K.Sink g.B.Board.content in
     let leave = c.in-Ok-grant.ensures in
     call_served c.args.count c.args.top (at c.args.connection.now) (input_at g.S.Source c.next_call.new.frame c.next_call.new.src) (output_at g.K.Sink c.grant.new.sink) c.in-Ok.next.0 (call.File c.in-File.file)
-    c.requires.room (rw c.in-File.is at c.in-Ok.ensures.read) (at c.serve_file.new.connection) leave.whole c.requires.top c.closes.result c.closes.ensures leave.flushed c.in-Ok.ensures.never_falls leave.never_falls
+    c.requires.room (rw c.in-File.is at c.in-Ok.ensures.read) (at c.serve_file.new.connection) leave.whole c.requires.top c.closes.result c.closes.ensures leave.flushed c.in-Ok.ensures.faults leave.faults
     c.in-Ok.ensures.room c.in-Ok-serve_file.ensures.serves
 
 pub returns-in-Err-serve_file-clause-serves : goal.returns-in-Err-serve_file-clause-serves
@@ -63,7 +57,7 @@ returns-in-Err-serve_file-clause-serves g c =
     let at = moment_of g.S.Source g.K.Sink g.B.Board.content in
     let leave = c.in-Ok-grant.ensures in
     call_stopped c.args.count c.args.top (at c.args.connection.now) (input_at g.S.Source c.next_call.new.frame c.next_call.new.src) (output_at g.K.Sink c.grant.new.sink) c.in-Ok.next.0 (call.File c.in-File.file)
-    c.requires.room (rw c.in-File.is at c.in-Ok.ensures.read) (at c.serve_file.new.connection) leave.whole c.requires.top c.closes.result c.closes.ensures leave.flushed c.in-Ok.ensures.never_falls leave.never_falls
+    c.requires.room (rw c.in-File.is at c.in-Ok.ensures.read) (at c.serve_file.new.connection) leave.whole c.requires.top c.closes.result c.closes.ensures leave.flushed c.in-Ok.ensures.faults leave.faults
     c.in-Ok.ensures.room c.in-Err-serve_file.end c.in-Err-serve_file.ensures.serves
 
 pub serve_text-requires-clause-text : goal.serve_text-requires-clause-text
@@ -74,7 +68,7 @@ returns-in-Ok-serve_text-clause-serves g c =
     let at = moment_of g.S.Source g.K.Sink g.B.Board.content in
     let leave = c.in-Ok-grant.ensures in
     call_served c.args.count c.args.top (at c.args.connection.now) (input_at g.S.Source c.next_call.new.frame c.next_call.new.src) (output_at g.K.Sink c.grant.new.sink) c.in-Ok.next.0 c.in-Ok.next.1
-    c.requires.room c.in-Ok.ensures.read (at c.serve_text.new.connection) leave.whole c.requires.top c.closes.result c.closes.ensures leave.flushed c.in-Ok.ensures.never_falls leave.never_falls
+    c.requires.room c.in-Ok.ensures.read (at c.serve_text.new.connection) leave.whole c.requires.top c.closes.result c.closes.ensures leave.flushed c.in-Ok.ensures.faults leave.faults
     c.in-Ok.ensures.room c.in-Ok-serve_text.ensures.serves
 
 pub returns-in-Err-serve_text-clause-serves : goal.returns-in-Err-serve_text-clause-serves
@@ -82,7 +76,7 @@ returns-in-Err-serve_text-clause-serves g c =
     let at = moment_of g.S.Source g.K.Sink g.B.Board.content in
     let leave = c.in-Ok-grant.ensures in
     call_stopped c.args.count c.args.top (at c.args.connection.now) (input_at g.S.Source c.next_call.new.frame c.next_call.new.src) (output_at g.K.Sink c.grant.new.sink) c.in-Ok.next.0 c.in-Ok.next.1
-    c.requires.room c.in-Ok.ensures.read (at c.serve_text.new.connection) leave.whole c.requires.top c.closes.result c.closes.ensures leave.flushed c.in-Ok.ensures.never_falls leave.never_falls
+    c.requires.room c.in-Ok.ensures.read (at c.serve_text.new.connection) leave.whole c.requires.top c.closes.result c.closes.ensures leave.flushed c.in-Ok.ensures.faults leave.faults
     c.in-Ok.ensures.room c.in-Err-serve_text.end c.in-Err-serve_text.ensures.serves
 
 -- ---- what was read
