@@ -1,69 +1,21 @@
--- The answer to a read, by what a cache of past states gives.
+-- What a read leaves, and what it costs, by what a cache of past states gives.
 use Rattle.std.proofs.Common.{◌≡◌, ℕ, zero, suc, ◌+◌, ◌-◌, ◌≤◌, ◌<◌, true, false, cond, not, nat_eq, nat_lt, List, [], ◌∷◌, ◌++◌, map, length, take, drop, filter, fold, max, get_or, slice_get, Some, refl, sym, ap, ◌∙◌, subst, arith}
-use Rattle.std.specs.Prelude.{All, Contains, codes, decimal, ◌&&◌, ◌||◌}
+use Rattle.std.specs.Prelude.{All, Contains, ◌&&◌, ◌||◌}
 use Rattle.std.specs.List.{list_any}
 use Rattle.std.proofs.lemmas.Bool.Decides.{nat_tests}
 use Rattle.std.proofs.lemmas.List.{map-append}
 use Rattle.std.proofs.lemmas.List.Elements.{All-contains_itself, Contains-append_right}
-use Rattle.std.proofs.lemmas.List.Folds.{Any-from_list_any, list_any_at}
 use Rattle.survey_conf.specs.Description.{Description}
 use Rattle.dirty_plan.specs.Laws.{MoreTouchedIsMoreWork}
 use Rattle.edit_journal.specs.Edit.{LeafEdit, leaf_of}
 use Rattle.edit_journal.specs.Leaves.{LeafTiles}
 use Rattle.edit_journal.specs.Batches.{edits_of, ends}
 use Rattle.generation.specs.Steps.{touched}
-use Rattle.survey_core.specs.HistoryLaws.{end_within}
-use Rattle.past_frame.specs.Line.{line_feed}
 use Rattle.past_frame.specs.Record.{read}
 use Rattle.past_reads.specs.Costs.{held_after, greater, base, work_between, work_from, past_work}
-use Rattle.past_session.specs.Answers.{PastState, is_end, file_text, past_file, read_text, state_after}
+use Rattle.past_reads.specs.AnswerLaws.{end_true, end_false}
+use Rattle.past_session.specs.Answers.{PastState, state_after}
 use Rattle.past_session.specs.Costs.{is_last, record_cost}
-
--- ---- whether the first edits split no batch
-
-contains_from_any : (xs : List ℕ) (k : ℕ) → list_any (nat_eq k) xs ≡ true → Contains xs k
-contains_from_any xs k e =
-    let (i, x, lt, at, is) = Any-from_list_any (nat_eq k) xs e in
-    let same : x ≡ k = grind (arith, nat_tests) in
-    subst (Contains xs) same (i, lt, at)
-
-any_from_contains : (xs : List ℕ) (k : ℕ) → Contains xs k → list_any (nat_eq k) xs ≡ true
-any_from_contains xs k (i, lt, at) = list_any_at (nat_eq k) xs i k lt (grind (arith, nat_tests))
-
-pub end_true : (batches : List (List LeafEdit)) (k : ℕ) → Contains (ends batches) k → is_end batches k ≡ true
-end_true batches k there = any_from_contains (ends batches) k there
-
-pub end_false : (batches : List (List LeafEdit)) (k : ℕ) → (Contains (ends batches) k → ⊥) → is_end batches k ≡ false
-end_false batches k never =
-    elim (is_end batches k) as (λ b. is_end batches k ≡ b → b ≡ false) [
-      | true ↦ λ is. absurd (never (contains_from_any (ends batches) k is))
-      | false ↦ λ is. refl
-    ] refl
-
-pub never_beyond : (batches : List (List LeafEdit)) (k : ℕ) → length (edits_of batches) < k → Contains (ends batches) k → ⊥
-never_beyond batches k beyond there = absurd (omega (arith, beyond, end_within batches k there))
-
--- ---- the text
-
-module _ (d : Description) (opening : LeafTiles) (batches : List (List LeafEdit)) (k : ℕ) (path : List ℕ) where
-  pub found_text : Contains (ends batches) k → read_text d opening batches k path ≡ file_text (past_file d opening batches k path)
-  unfolding read_text
-  found_text there =
-      let within = end_within batches k there in
-      let known : nat_lt (length (edits_of batches)) k ≡ false = grind (arith, nat_tests, within) in
-      rw (known, end_true batches k there) refl
-
-  pub future_text : length (edits_of batches) < k → read_text d opening batches k path ≡ codes "future " ++ decimal (length (edits_of batches)) ++ line_feed ∷ []
-  unfolding read_text
-  future_text beyond =
-      let new : nat_lt (length (edits_of batches)) k ≡ true = grind (arith, nat_tests, beyond) in
-      rw new refl
-
-  pub split_text : k ≤ length (edits_of batches) → (Contains (ends batches) k → ⊥) → read_text d opening batches k path ≡ codes "split " ++ decimal k ++ line_feed ∷ []
-  unfolding read_text
-  split_text within never =
-      let known : nat_lt (length (edits_of batches)) k ≡ false = grind (arith, nat_tests, within) in
-      rw (known, end_false batches k never) refl
 
 -- ---- what it leaves
 

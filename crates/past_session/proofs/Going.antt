@@ -1,5 +1,5 @@
 -- What comes of the records of a session that were each read and answered before the next was read.
-use Rattle.std.proofs.Common.{◌≡◌, ℕ, ◌+◌, ◌≤◌, List, [], ◌∷◌, ◌++◌, length, Option, Some, None, refl, sym, ap, ◌∙◌, subst, arith, length-append, append_assoc}
+use Rattle.std.proofs.Common.{◌≡◌, ℕ, ◌+◌, ◌≤◌, false, List, [], ◌∷◌, ◌++◌, length, Option, Some, None, refl, sym, ap, ◌∙◌, subst, arith, length-append, append_assoc}
 use Rattle.std.specs.Io.KnownBytes.{Appends, Consumes}
 use Rattle.std.proofs.lemmas.List.{append-nil}
 use Rattle.survey_conf.specs.Description.{Description}
@@ -13,7 +13,8 @@ use Rattle.past_frame.specs.Record.{PastRecord, next_record, then_rest}
 use Rattle.past_frame.specs.Reading.{NeedsMore}
 use Rattle.past_session.specs.Answers.{PastState, state_after, answers, state_behind}
 use Rattle.past_session.specs.Costs.{record_cost, cost_from}
-use Rattle.past_session.specs.Order.{Moment, IsAsked, IsAnswered, Converses, NeverFalls}
+use Rattle.past_session.specs.Order.{Moment, IsAsked, IsAnswered, Converses, NeverFalls, Faults}
+use Rattle.past_session.proofs.Faulty.{faults_on}
 use Rattle.past_session.specs.Records.{room_of}
 use Rattle.past_session.specs.Run.{SinkBytes, sink_bytes, Flushes}
 use Rattle.past_session.specs.Session.{SessionContent}
@@ -125,6 +126,7 @@ module _ {S K : Type 0} (told_source : source.Ghosts S) (told_sink : sink.Ghosts
     pub converses : Converses told_source told_sink records old new
     pub conf : new.session.conf ≡ old.session.conf
     pub counts : NeverFalls told_source told_sink old new
+    pub faults : Faults told_source told_sink false false old new
 
   pub counts_on : (a b c : Moment S K) → NeverFalls told_source told_sink a b → NeverFalls told_source told_sink b c → NeverFalls told_source told_sink a c
   counts_on a b c first second = record {
@@ -140,14 +142,16 @@ module _ {S K : Type 0} (told_source : source.Ghosts S) (told_sink : sink.Ghosts
     converses = refl;
     conf = refl;
     counts = record { source = omega arith; sink = omega arith; steps = omega arith };
+    faults = record { source = refl; sink = refl };
   }
 
   pub loop_goes_on : (a b d : Moment S K) (count : ℕ) → IsLoop a b count → (asked : PastRecord) × (c : Moment S K) × IsAsked told_source told_sink asked b c × IsAnswered told_source told_sink asked c d
-      → NeverFalls told_source told_sink b d → IsLoop a d (count + 1)
-  loop_goes_on a b d count loop next counts = record {
+      → NeverFalls told_source told_sink b d → Faults told_source told_sink false false b d → IsLoop a d (count + 1)
+  loop_goes_on a b d count loop next counts faults = record {
     records = loop.records ++ next.0 ∷ [];
     count_is = omega (arith, length-append loop.records (next.0 ∷ []), loop.count_is);
     converses = converses_on loop.records next.0 a b next.1 d loop.converses next.2 next.3;
     conf = ap (λ (s : SessionContent). s.conf) (next.3.session) ∙ ap (λ (s : SessionContent). s.conf) next.2.read.session ∙ loop.conf;
     counts = counts_on a b d loop.counts counts;
+    faults = faults_on told_source told_sink false false a b d loop.faults faults;
   }

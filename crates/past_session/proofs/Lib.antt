@@ -1,8 +1,9 @@
-mod Inputs
-mod Going
-mod Runs
 mod Asked
-mod NoFile
 mod Content
+mod Faulty
+mod Going
+mod Inputs
 mod Next
+mod NoFile
+mod Runs
 mod Told

@@ -9,19 +9,20 @@ use Rattle.edit_journal.specs.Leaves.{LeafTiles}
 use Rattle.edit_journal.specs.Journal.{JournalContent}
 use Rattle.generation.specs.Generation.{GenerationContent}
 use Rattle.generation.specs.Files.{files_in}
-use Rattle.past_frame.specs.Line.{line_feed}
 use Rattle.past_frame.specs.Record.{read}
 use Rattle.past_reads.specs.Past.{PastContent, past_generation, TellsPastRefusal}
 use Rattle.past_reads.specs.Costs.{held_after, past_work}
 use Rattle.past_reads.specs.declared.refusal.PastRefusal.{PastRefusal}
 use Rattle.past_reads.specs.declared.refusal.PastRefusal.TheVariants.{TooNew, Split, OutOfMemory}
-use Rattle.past_session.specs.Answers.{file_text, past_file, refusal_text}
+use Rattle.past_reads.specs.Answers.{past_file}
+use Rattle.past_reads.specs.AnswerLaws.{never_refused, found_answer, refused_answer}
+use Rattle.past_session.specs.Answers.{file_text, refusal_text, read_text}
 use Rattle.past_session.specs.Run.{SinkBytes}
 use Rattle.past_session.specs.Session.{kept_content, IsKeptSession}
 use Rattle.past_session.specs.Steps.{answer_text, answer_cost, session_after, Sends, FailsToSend}
 use Rattle.past_session.specs.declared.ending.Halt.{Halt}
 use Rattle.past_session.specs.declared.ending.Halt.TheVariants as halt
-use Rattle.past_session.proofs.Asked.{found_text, future_text, split_text, never_beyond, read_cost}
+use Rattle.past_session.proofs.Asked.{read_cost}
 use Rattle.past_session.proofs.Content.{found_after, same_after}
 
 abbrev failed : Halt → Result (Unit {0}) Halt
@@ -41,7 +42,7 @@ module _ (d : Description) (journal : JournalContent) (past : PastContent) (k : 
       → file_text (get (files_in generation) path) ≡ answer_text (kept_content d journal past) (read k path)
   found_told generation is there =
       ap (λ (g : GenerationContent). file_text (get (files_in g) path)) is ∙ ap (λ (c : Description). file_text (past_file c journal.opening journal.batches k path)) kept.conf
-      ∙ sym (found_text d journal.opening journal.batches k path there)
+      ∙ sym (ap read_text (found_answer d journal.opening journal.batches k path there))
 
   pub found_sends : (generation : GenerationContent) (result : Result (Unit {0}) Halt) (sink sink' : SinkBytes) → generation ≡ past_generation past.conf journal.opening journal.batches k → Contains (ends journal.batches) k
       → OnOk result (Sends (file_text (get (files_in generation) path)) sink sink') → OnOk result (Sends (answer_text (kept_content d journal past) (read k path)) sink sink')
@@ -59,16 +60,7 @@ module _ (d : Description) (journal : JournalContent) (past : PastContent) (k : 
   found_then past' (Err why) is there = tt
 
   refused_told : (refusal : PastRefusal) → TellsPastRefusal journal.batches k refusal → (refusal ≡ OutOfMemory → ⊥) → refusal_text refusal ≡ answer_text (kept_content d journal past) (read k path)
-  refused_told (TooNew edits) tells some =
-      ap (λ n. codes "future " ++ decimal n ++ line_feed ∷ []) tells.1 ∙ sym (future_text d journal.opening journal.batches k path tells.0)
-  refused_told (Split told) tells some =
-      ap (λ n. codes "split " ++ decimal n ++ line_feed ∷ []) tells.2 ∙ sym (split_text d journal.opening journal.batches k path tells.0 tells.1)
-  refused_told OutOfMemory tells some = absurd (some refl)
-
-  never : (refusal : PastRefusal) → TellsPastRefusal journal.batches k refusal → (refusal ≡ OutOfMemory → ⊥) → Contains (ends journal.batches) k → ⊥
-  never (TooNew edits) tells some = never_beyond journal.batches k tells.0
-  never (Split told) tells some = tells.1
-  never OutOfMemory tells some = absurd (some refl)
+  refused_told refusal tells some = sym (ap read_text (refused_answer d journal.opening journal.batches k path refusal tells some))
 
   pub refused_sends : (refusal : PastRefusal) (result : Result (Unit {0}) Halt) (sink sink' : SinkBytes) → TellsPastRefusal journal.batches k refusal → (refusal ≡ OutOfMemory → result ≡ Err halt.OutOfMemory)
       → OnOk result (Sends (refusal_text refusal) sink sink') → OnOk result (Sends (answer_text (kept_content d journal past) (read k path)) sink sink')
@@ -84,7 +76,7 @@ module _ (d : Description) (journal : JournalContent) (past : PastContent) (k : 
   pub refused_then : (refusal : PastRefusal) (past' : PastContent) (result : Result (Unit {0}) Halt) → TellsPastRefusal journal.batches k refusal → (refusal ≡ OutOfMemory → result ≡ Err halt.OutOfMemory) → past' ≡ past
       → OnOk result (kept_content d journal past' ≡ session_after (kept_content d journal past) (read k path))
   refused_then refusal past' (Ok u) tells memory_faults same =
-      ap (kept_content d journal) same ∙ same_after d journal past k path (never refusal tells (λ is. wants_some u (memory_faults is)))
+      ap (kept_content d journal) same ∙ same_after d journal past k path (never_refused journal.batches k refusal tells (λ is. wants_some u (memory_faults is)))
   refused_then refusal past' (Err why) tells memory_faults same = tt
 
   module _ (law : MoreTouchedIsMoreWork) (steps steps' : ℕ) (most : steps' ≤ steps + past_work past.conf past.opening past.opened (edits_of journal.batches) past.held k) where

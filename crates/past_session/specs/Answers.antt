@@ -1,21 +1,18 @@
 -- What a session about past states writes, by its description, its opening leaves and its input alone: no generation is held.
 -- This project's profile.
-use Rattle.std.specs.Prelude.{ℕ, ◌+◌, Bool, nat_eq, nat_lt, List, [], ◌∷◌, ◌++◌, length, codes, decimal, Option, Some, None, if◌then◌else◌}
-use Rattle.std.specs.List.{list_any}
-use Rattle.std.specs.FinMap.{get}
+use Rattle.std.specs.Prelude.{ℕ, ◌+◌, List, [], ◌∷◌, ◌++◌, length, codes, decimal, Option, Some, None, Ok, Err, if◌then◌else◌}
 use Rattle.survey_conf.specs.Description.{Description}
 use Rattle.edit_journal.specs.Edit.{LeafEdit}
 use Rattle.edit_journal.specs.Leaves.{LeafTiles}
-use Rattle.edit_journal.specs.Batches.{edits_of, ends}
+use Rattle.edit_journal.specs.Batches.{edits_of}
 use Rattle.edit_journal.specs.Faults.{batch_fault, fault_number}
 use Rattle.edit_journal.specs.declared.fault.BatchFault.{BatchFault}
-use Rattle.generation.specs.Files.{leaf_map, files}
 use Rattle.survey_core.specs.BatchBody.{BatchEntries, batch_entries}
 use Rattle.survey_core.specs.Faults.{entry_fault_text}
 use Rattle.survey_core.specs.declared.fault.EntryFault.{EntryFault}
 use Rattle.past_frame.specs.Line.{line_feed}
 use Rattle.past_frame.specs.Record.{PastRecord, batch, read}
-use Rattle.past_reads.specs.Past.{past_leaves}
+use Rattle.past_reads.specs.Answers.{PastAnswer, is_end, past_answer}
 use Rattle.past_reads.specs.declared.refusal.PastRefusal.{PastRefusal}
 use Rattle.past_reads.specs.declared.refusal.PastRefusal.TheVariants.{TooNew, Split, OutOfMemory}
 use Rattle.past_session.specs.Records.{records_of, room_of}
@@ -63,18 +60,10 @@ batches_after batches (accepted edits) = batches ++ edits ∷ []
 
 -- ---- a read
 
--- the first k edits split no batch
-abbrev pub is_end : List (List LeafEdit) → ℕ → Bool
-is_end batches k = list_any (nat_eq k) (ends batches)
-
 -- the answer by the bytes of the file, where there is one
 abbrev pub file_text : Option (List ℕ) → List ℕ
 file_text None = codes "absent" ++ line_feed ∷ []
 file_text (Some bytes) = codes "file " ++ decimal (length bytes) ++ line_feed ∷ bytes
-
--- the bytes of the file at a path after the first k edits
-abbrev pub past_file : Description → LeafTiles → List (List LeafEdit) → ℕ → List ℕ → Option (List ℕ)
-past_file d opening batches k path = get (files d (leaf_map (past_leaves opening batches k))) path
 
 -- the answer where there is no generation of the first k edits
 abbrev pub refusal_text : PastRefusal → List ℕ
@@ -82,18 +71,16 @@ refusal_text (TooNew edits) = codes "future " ++ decimal edits ++ line_feed ∷ 
 refusal_text (Split k) = codes "split " ++ decimal k ++ line_feed ∷ []
 refusal_text OutOfMemory = []
 
-unfoldable pub read_text : Description → LeafTiles → List (List LeafEdit) → ℕ → List ℕ → List ℕ
-read_text d opening batches k path =
-    if nat_lt (length (edits_of batches)) k then codes "future " ++ decimal (length (edits_of batches)) ++ line_feed ∷ []
-    else (if is_end batches k then file_text (past_file d opening batches k path)
-    else codes "split " ++ decimal k ++ line_feed ∷ [])
+abbrev pub read_text : PastAnswer → List ℕ
+read_text (Ok file) = file_text file
+read_text (Err refusal) = refusal_text refusal
 
 -- ---- a record, and all
 
 -- the answer to a record
 abbrev pub record_text : Description → LeafTiles → PastState → PastRecord → List ℕ
 record_text d opening state (batch body) = batch_text (length (edits_of state.batches)) (batch_verdict d opening (edits_of state.batches) body)
-record_text d opening state (read k path) = read_text d opening state.batches k path
+record_text d opening state (read k path) = read_text (past_answer d opening state.batches k path)
 
 -- what it leaves
 abbrev pub state_after : Description → LeafTiles → PastState → PastRecord → PastState

@@ -5,8 +5,9 @@ use Rattle.edit_journal.specs.Leaves.{LeafTiles}
 use Rattle.edit_journal.specs.Batches.{edits_of}
 use Rattle.survey_core.specs.BatchBody.{batch_entries, tile_count}
 use Rattle.past_frame.specs.Record.{PastRecord, batch, read}
+use Rattle.past_reads.specs.Answers.{is_end}
 use Rattle.past_reads.specs.Costs.{work_between}
-use Rattle.past_session.specs.Answers.{PastState, first_state, is_end, state_after}
+use Rattle.past_session.specs.Answers.{PastState, first_state, state_after}
 
 abbrev pub is_last : Option ℕ → ℕ → Bool
 is_last None k = false

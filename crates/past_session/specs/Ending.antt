@@ -1,5 +1,5 @@
 -- How a session ends, by why a record wasn't read, or wasn't answered whole.
-use Rattle.std.specs.Prelude.{ℕ}
+use Rattle.std.specs.Prelude.{ℕ, Bool, true, false, Result, Err}
 use Rattle.past_frame.specs.declared.record.Stop.{Stop}
 use Rattle.past_frame.specs.declared.record.Stop.TheVariants as stop
 use Rattle.past_session.specs.declared.ending.Halt.{Halt}
@@ -17,3 +17,8 @@ end_of_stop stop.OutOfMemory at = OutOfMemory
 abbrev pub end_of_halt : Halt → PastEnd
 end_of_halt halt.WriteFault = WriteFault
 end_of_halt halt.OutOfMemory = OutOfMemory
+
+-- the sink failed in an answer
+abbrev pub send_failed : Result (Unit {0}) Halt → Bool
+send_failed (Err halt.WriteFault) = true
+send_failed _ = false

@@ -1,11 +1,12 @@
 -- In which order a session reads and answers: one record after another, and each answer is flushed before the next record is
 -- read. This is so whichever call fails, and no body can know which will: where a reading does, all answers before it are
 -- flushed, and where a writing does, nothing was read behind the record that it answers.
-use Rattle.std.specs.Prelude.{◌≡◌, ◌⊎◌, ℕ, ◌+◌, ◌<◌, ◌≤◌, List, [], ◌∷◌, ◌++◌, length}
+use Rattle.std.specs.Prelude.{◌≡◌, ◌⊎◌, ℕ, ◌+◌, ◌<◌, ◌≤◌, Bool, List, [], ◌∷◌, ◌++◌, length}
 use Rattle.std.specs.Io.KnownBytes.{IsAtEnd}
 use Rattle.survey_conf.specs.Description.{Description}
 use Rattle.edit_journal.specs.Leaves.{LeafTiles}
 use Rattle.survey_link.specs.Inbox.{held}
+use Rattle.survey_link.specs.Link.{CountsFault}
 use Rattle.survey_link.specs.declared.source.Source as source
 use Rattle.survey_link.specs.declared.sink.Sink as sink
 use Rattle.http_frame.specs.Readings.{ReadsWhile}
@@ -52,6 +53,11 @@ module _ {S K : Type 0} (told_source : source.Ghosts S) (told_sink : sink.Ghosts
     pub source : told_source.faults old.src ≤ told_source.faults new.src
     pub sink : told_sink.faults old.sink ≤ told_sink.faults new.sink
     pub steps : old.steps ≤ new.steps
+
+  -- the count of faults of an end that failed rose, and else stayed
+  pub record Faults (read write : Bool) (old new : Moment S K) : Type 0 where
+    pub source : CountsFault read (told_source.faults old.src) (told_source.faults new.src)
+    pub sink : CountsFault write (told_sink.faults old.sink) (told_sink.faults new.sink)
 
   -- these bytes came, each reading needed by the next record, and nothing else happened
   pub record IsRead (old new : Moment S K) (came : List ℕ) : Type 0 where

@@ -1,5 +1,5 @@
 -- What a session about past states does.
-use Rattle.std.specs.Prelude.{◌≡◌, ◌⊎◌, ℕ, ◌+◌, ◌≤◌, List, [], ◌∷◌, ◌++◌, take, Option, Some}
+use Rattle.std.specs.Prelude.{◌≡◌, ◌⊎◌, ℕ, ◌+◌, ◌≤◌, Bool, true, false, List, [], ◌∷◌, ◌++◌, take, Option, Some}
 use Rattle.std.specs.Io.KnownBytes.{Appends, Consumes}
 use Rattle.survey_link.specs.Link.{AppendsPrefix}
 use Rattle.survey_link.specs.declared.sink.Sink as sink
@@ -77,6 +77,16 @@ PastRun d opening input left' sink sink' steps steps' Done = RunsWhole d opening
 PastRun d opening input left' sink sink' steps steps' Cut = RunsWhole d opening input sink sink' steps steps' Cut
 PastRun d opening input left' sink sink' steps steps' (BadLine at) = RunsWhole d opening input sink sink' steps steps' (BadLine at)
 PastRun d opening input left' sink sink' steps steps' Spent = RunsWhole d opening input sink sink' steps steps' Spent
+
+-- the source failed
+abbrev pub is_read_fault : PastEnd → Bool
+is_read_fault ReadFault = true
+is_read_fault _ = false
+
+-- the sink failed
+abbrev pub is_write_fault : PastEnd → Bool
+is_write_fault WriteFault = true
+is_write_fault _ = false
 
 -- whatever the proof sees of the source, the session is one of the bytes that were read, as though the input ended behind
 -- them

@@ -1,8 +1,9 @@
 //! One record is answered.
-ghost use Rattle.std.specs.Prelude.{◌≡◌, ◌≤◌, ◌+◌, IfErr, OnOk, IsErrOf};
-ghost use Rattle.survey_link.specs.Link.{Rises};
+ghost use Rattle.std.specs.Prelude.{◌≡◌, ◌≤◌, ◌+◌, IfErr, OnOk};
+ghost use Rattle.survey_link.specs.Link.{CountsFault};
 ghost use Rattle.past_frame.specs.Record.{batch, read};
 ghost use Rattle.past_frame.specs.Reading.{record_of};
+ghost use Rattle.past_session.specs.Ending.{send_failed};
 ghost use Rattle.past_session.specs.Run.{sink_bytes};
 ghost use Rattle.past_session.specs.Steps.{answer_text, answer_cost, session_after, Sends, FailsToSend};
 
@@ -37,7 +38,7 @@ impl Session {
         ensures after { OnOk result (self.new ≡ session_after self.old (record_of asked text.now)) }
         ensures fails { IfErr result (FailsToSend (answer_text self.old (record_of asked text.now)) (sink_bytes K.Sink sink.old) (sink_bytes K.Sink sink.new)) }
         ensures steps { work.new.steps.now ≤ work.old.steps.now + answer_cost self.old (record_of asked text.now) }
-        ensures failed { IsErrOf result Halt.WriteFault → Rises (K.faults sink.old) (K.faults sink.new) }
+        ensures faults { CountsFault (send_failed result) (K.faults sink.old) (K.faults sink.new) }
         ensures never_falls { K.faults sink.old ≤ K.faults sink.new }
         ensures steps_never_fall { work.old.steps.now ≤ work.new.steps.now }
         ensures same { work.new.steps.ghost_name ≡ work.old.steps.ghost_name }
@@ -59,7 +60,7 @@ impl Session {
         ensures after { OnOk result (self.new ≡ session_after self.old (batch body.now)) }
         ensures fails { IfErr result (FailsToSend (answer_text self.old (batch body.now)) (sink_bytes K.Sink sink.old) (sink_bytes K.Sink sink.new)) }
         ensures steps { steps.new ≤ steps.old + answer_cost self.old (batch body.now) }
-        ensures failed { IsErrOf result Halt.WriteFault → Rises (K.faults sink.old) (K.faults sink.new) }
+        ensures faults { CountsFault (send_failed result) (K.faults sink.old) (K.faults sink.new) }
         ensures never_falls { K.faults sink.old ≤ K.faults sink.new }
         ensures steps_never_fall { steps.old ≤ steps.new }
     {
@@ -80,7 +81,7 @@ impl Session {
         ensures after { OnOk result (self.new ≡ session_after self.old (read k path.now)) }
         ensures fails { IfErr result (FailsToSend (answer_text self.old (read k path.now)) (sink_bytes K.Sink sink.old) (sink_bytes K.Sink sink.new)) }
         ensures steps { work.new.steps.now ≤ work.old.steps.now + answer_cost self.old (read k path.now) }
-        ensures failed { IsErrOf result Halt.WriteFault → Rises (K.faults sink.old) (K.faults sink.new) }
+        ensures faults { CountsFault (send_failed result) (K.faults sink.old) (K.faults sink.new) }
         ensures never_falls { K.faults sink.old ≤ K.faults sink.new }
         ensures steps_never_fall { work.old.steps.now ≤ work.new.steps.now }
         ensures same { work.new.steps.ghost_name ≡ work.old.steps.ghost_name }

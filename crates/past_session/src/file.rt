@@ -1,10 +1,11 @@
 //! Answers to reads.
-ghost use Rattle.std.specs.Prelude.{◌≡◌, ◌≤◌, None, Err, IfErr, OnOk, IsErrOf};
+ghost use Rattle.std.specs.Prelude.{◌≡◌, ◌≤◌, None, Err, IfErr, OnOk};
 ghost use Rattle.std.specs.FinMap.{get};
-ghost use Rattle.survey_link.specs.Link.{Rises};
+ghost use Rattle.survey_link.specs.Link.{CountsFault};
 ghost use Rattle.generation.specs.Files.{files_in};
 ghost use Rattle.tile_path.specs.Spelling.{spelling};
 ghost use Rattle.past_session.specs.Answers.{file_text, refusal_text};
+ghost use Rattle.past_session.specs.Ending.{send_failed};
 ghost use Rattle.past_session.specs.Run.{sink_bytes};
 ghost use Rattle.past_session.specs.Steps.{Sends, FailsToSend};
 
@@ -30,7 +31,7 @@ pub(crate) fn send_file<K: Sink>(
 ) -> Result<(), Halt>
     ensures sends { OnOk result (Sends (file_text (get (files_in generation.now) path.now)) (sink_bytes K.Sink sink.old) (sink_bytes K.Sink sink.new)) }
     ensures fails { IfErr result (FailsToSend (file_text (get (files_in generation.now) path.now)) (sink_bytes K.Sink sink.old) (sink_bytes K.Sink sink.new)) }
-    ensures failed { IsErrOf result Halt.WriteFault → Rises (K.faults sink.old) (K.faults sink.new) }
+    ensures faults { CountsFault (send_failed result) (K.faults sink.old) (K.faults sink.new) }
     ensures never_falls { K.faults sink.old ≤ K.faults sink.new }
 {
     match Path::read(path) {
@@ -52,7 +53,7 @@ fn send_known<K: Sink>(
 ) -> Result<(), Halt>
     ensures sends { OnOk result (Sends (file_text (get (files_in generation.now) (spelling path.now))) (sink_bytes K.Sink sink.old) (sink_bytes K.Sink sink.new)) }
     ensures fails { IfErr result (FailsToSend (file_text (get (files_in generation.now) (spelling path.now))) (sink_bytes K.Sink sink.old) (sink_bytes K.Sink sink.new)) }
-    ensures failed { IsErrOf result Halt.WriteFault → Rises (K.faults sink.old) (K.faults sink.new) }
+    ensures faults { CountsFault (send_failed result) (K.faults sink.old) (K.faults sink.new) }
     ensures never_falls { K.faults sink.old ≤ K.faults sink.new }
 {
     let mut front = [0u8; 2880];
@@ -72,7 +73,7 @@ fn send_known<K: Sink>(
 fn send_absent<K: Sink>(sink: &mut K) -> Result<(), Halt>
     ensures sends { OnOk result (Sends (file_text None) (sink_bytes K.Sink sink.old) (sink_bytes K.Sink sink.new)) }
     ensures fails { IfErr result (FailsToSend (file_text None) (sink_bytes K.Sink sink.old) (sink_bytes K.Sink sink.new)) }
-    ensures failed { IsErrOf result Halt.WriteFault → Rises (K.faults sink.old) (K.faults sink.new) }
+    ensures faults { CountsFault (send_failed result) (K.faults sink.old) (K.faults sink.new) }
     ensures never_falls { K.faults sink.old ≤ K.faults sink.new }
 {
     send_text(sink, b"absent\n")?;
@@ -92,7 +93,7 @@ pub(crate) fn send_refusal<K: Sink>(
     ensures sends { OnOk result (Sends (refusal_text refusal) (sink_bytes K.Sink sink.old) (sink_bytes K.Sink sink.new)) }
     ensures fails { IfErr result (FailsToSend (refusal_text refusal) (sink_bytes K.Sink sink.old) (sink_bytes K.Sink sink.new)) }
     ensures memory_faults { refusal ≡ PastRefusal.OutOfMemory → result ≡ Err Halt.OutOfMemory }
-    ensures failed { IsErrOf result Halt.WriteFault → Rises (K.faults sink.old) (K.faults sink.new) }
+    ensures faults { CountsFault (send_failed result) (K.faults sink.old) (K.faults sink.new) }
     ensures never_falls { K.faults sink.old ≤ K.faults sink.new }
 {
     match refusal {

@@ -1,6 +1,6 @@
 //! Answers are written.
-ghost use Rattle.std.specs.Prelude.{◌≡◌, ◌≤◌, ◌++◌, OnOk, OnErr};
-ghost use Rattle.survey_link.specs.Link.{Rises, AppendsPrefix};
+ghost use Rattle.std.specs.Prelude.{◌≡◌, ◌≤◌, ◌++◌, is_err, OnOk, OnErr};
+ghost use Rattle.survey_link.specs.Link.{CountsFault, AppendsPrefix};
 ghost use Rattle.past_session.specs.Run.{sink_bytes};
 ghost use Rattle.past_session.specs.Steps.{Sends};
 
@@ -21,7 +21,7 @@ pub(crate) fn send_parts<'a, K: Sink>(
     ensures sends { OnOk result (Sends (line.now ++ front.now ++ kept.now ++ zeros.now) (sink_bytes K.Sink sink.old) (sink_bytes K.Sink sink.new)) }
     ensures part { OnErr result (AppendsPrefix (K.held sink.old) (K.held sink.new) (line.now ++ front.now ++ kept.now ++ zeros.now)) }
     ensures stays { OnErr result (K.flushed sink.new ≡ K.flushed sink.old) }
-    ensures failed { OnErr result (Rises (K.faults sink.old) (K.faults sink.new)) }
+    ensures faults { CountsFault (is_err result) (K.faults sink.old) (K.faults sink.new) }
     ensures never_falls { K.faults sink.old ≤ K.faults sink.new }
 {
     write_all_parts(sink, [line, front, kept, zeros])?;
@@ -37,7 +37,7 @@ pub(crate) fn send_text<K: Sink>(sink: &mut K, text: &[u8]) -> Result<(), Failed
     ensures sends { OnOk result (Sends text.now (sink_bytes K.Sink sink.old) (sink_bytes K.Sink sink.new)) }
     ensures part { OnErr result (AppendsPrefix (K.held sink.old) (K.held sink.new) text.now) }
     ensures stays { OnErr result (K.flushed sink.new ≡ K.flushed sink.old) }
-    ensures failed { OnErr result (Rises (K.faults sink.old) (K.faults sink.new)) }
+    ensures faults { CountsFault (is_err result) (K.faults sink.old) (K.faults sink.new) }
     ensures never_falls { K.faults sink.old ≤ K.faults sink.new }
 {
     write_whole(sink, text)?;

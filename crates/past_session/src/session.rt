@@ -1,7 +1,7 @@
 //! A session, whole.
-ghost use Rattle.std.specs.Prelude.{◌≡◌, ◌≢◌, ◌≤◌, ◌^◌, ℕ, List, [], Some, Err, IfErr, OnOk, IfOk, IsErrOf};
+ghost use Rattle.std.specs.Prelude.{◌≡◌, ◌≢◌, ◌≤◌, ◌^◌, ℕ, List, [], Some, false, IfErr, OnOk, IfOk};
 ghost use Rattle.std.specs.Arc.{arc_value};
-ghost use Rattle.survey_link.specs.Link.{Rises};
+ghost use Rattle.survey_link.specs.Link.{CountsFault};
 ghost use Rattle.survey_link.specs.Inbox.{held};
 ghost use Rattle.edit_journal.specs.Leaves.{charge_of};
 ghost use Rattle.edit_journal.specs.Faults.{most_charge};
@@ -9,10 +9,10 @@ ghost use Rattle.past_frame.specs.Record.{PastRecord};
 ghost use Rattle.past_frame.specs.Reading.{record_of};
 ghost use Rattle.past_session.specs.Answers.{first_state};
 ghost use Rattle.past_session.specs.Records.{room_of};
-ghost use Rattle.past_session.specs.Run.{PastRun, RunsOver, FlushesAll, sink_bytes};
+ghost use Rattle.past_session.specs.Run.{PastRun, RunsOver, FlushesAll, is_read_fault, is_write_fault, sink_bytes};
 ghost use Rattle.past_session.specs.Session.{SessionContent};
-ghost use Rattle.past_session.specs.Order.{Moment, moment, first_moment, SameEnds, NeverFalls, IsAsked, IsAnswered, EndsAt, EndsBehindAll, InOrder};
-ghost use Rattle.past_session.specs.declared.ending.PastEnd.TheVariants.{ReadFault, WriteFault};
+ghost use Rattle.past_session.specs.Order.{Moment, moment, first_moment, SameEnds, NeverFalls, Faults, IsAsked, IsAnswered, EndsAt, EndsBehindAll, InOrder};
+ghost use Rattle.past_session.specs.declared.ending.PastEnd.TheVariants.{WriteFault};
 
 use crate::ending::{PastEnd, end_of};
 use crate::ends::{Ends, Input, Work};
@@ -43,7 +43,7 @@ const MOST_RECORDS: u64 = 65_536;
 ///
 /// It ends by the first of these in the input: `Done` between records, `Cut` within one, `BadLine` at one that has no line,
 /// `Spent` where it goes on after 65,536 records. `ReadFault` and `WriteFault` come only where the source's, the sink's count
-/// of faults rose; `OutOfMemory` may come at any record, before anything of its answer is written.
+/// of faults rose, which no other end raises; `OutOfMemory` may come at any record, before anything of its answer is written.
 pub fn past_session<R: Threads + Sync + Clock + Log, S: Source, K: Sink, G: Gate + Sync>(
     rt: &R,
     alloc: Global,
@@ -68,8 +68,8 @@ pub fn past_session<R: Threads + Sync + Clock + Log, S: Source, K: Sink, G: Gate
     ensures order { (session : SessionContent) × (held : List ℕ) × InOrder S.Source K.Sink (first_moment (arc_value opening).conf (arc_value opening).leaves src.old sink.old steps.old)
         (record { session = session; src = src.new; sink = sink.new; held = held; steps = steps.new }) result }
     ensures flushed { result ≢ WriteFault → FlushesAll (sink_bytes K.Sink sink.old) (sink_bytes K.Sink sink.new) }
-    ensures read_fault { result ≡ ReadFault → Rises (S.faults src.old) (S.faults src.new) }
-    ensures write_fault { result ≡ WriteFault → Rises (K.faults sink.old) (K.faults sink.new) }
+    ensures read_fault { CountsFault (is_read_fault result) (S.faults src.old) (S.faults src.new) }
+    ensures write_fault { CountsFault (is_write_fault result) (K.faults sink.old) (K.faults sink.new) }
     ensures source_never_falls { S.faults src.old ≤ S.faults src.new }
     ensures sink_never_falls { K.faults sink.old ≤ K.faults sink.new }
     ensures steps_never_fall { steps.old ≤ steps.new }
@@ -116,8 +116,7 @@ fn answer_all<R: Threads + Sync + Clock + Log, S: Source, K: Sink, G: Gate + Syn
     requires room { room ≡ room_of session.old.conf }
     requires at_most { room ≤ 2 ^ 30 }
     ensures order { InOrder S.Source K.Sink (moment session.old ends.old input.old work.old.steps.now) (moment session.new ends.new input.new work.new.steps.now) result }
-    ensures read_fault { result ≡ ReadFault → Rises (S.faults ends.old.src.now) (S.faults ends.new.src.now) }
-    ensures write_fault { result ≡ WriteFault → Rises (K.faults ends.old.sink.now) (K.faults ends.new.sink.now) }
+    ensures faults { Faults S.Source K.Sink (is_read_fault result) (is_write_fault result) (moment session.old ends.old input.old work.old.steps.now) (moment session.new ends.new input.new work.new.steps.now) }
     ensures never_falls { NeverFalls S.Source K.Sink (moment session.old ends.old input.old work.old.steps.now) (moment session.new ends.new input.new work.new.steps.now) }
     ensures same_ends { SameEnds ends.old ends.new }
     ensures same_steps { work.new.steps.ghost_name ≡ work.old.steps.ghost_name }
@@ -145,8 +144,8 @@ fn answer_next<R: Threads + Sync + Clock + Log, S: Source, K: Sink, G: Gate + Sy
     ensures answers { OnOk result ((asked : PastRecord) × (mid : Moment S K) × IsAsked S.Source K.Sink asked (moment session.old ends.old input.old work.old.steps.now) mid
         × IsAnswered S.Source K.Sink asked mid (moment session.new ends.new input.new work.new.steps.now)) }
     ensures ends { IfErr result (EndsAt S.Source K.Sink at (moment session.old ends.old input.old work.old.steps.now) (moment session.new ends.new input.new work.new.steps.now)) }
-    ensures read_fault { IsErrOf result ReadFault → Rises (S.faults ends.old.src.now) (S.faults ends.new.src.now) }
-    ensures write_fault { IsErrOf result WriteFault → Rises (K.faults ends.old.sink.now) (K.faults ends.new.sink.now) }
+    ensures no_fault { OnOk result (Faults S.Source K.Sink false false (moment session.old ends.old input.old work.old.steps.now) (moment session.new ends.new input.new work.new.steps.now)) }
+    ensures faults { IfErr result (λ end. Faults S.Source K.Sink (is_read_fault end) (is_write_fault end) (moment session.old ends.old input.old work.old.steps.now) (moment session.new ends.new input.new work.new.steps.now)) }
     ensures never_falls { NeverFalls S.Source K.Sink (moment session.old ends.old input.old work.old.steps.now) (moment session.new ends.new input.new work.new.steps.now) }
     ensures same_ends { SameEnds ends.old ends.new }
     ensures same_steps { work.new.steps.ghost_name ≡ work.old.steps.ghost_name }
@@ -170,8 +169,9 @@ fn read_next<S: Source, K: Sink>(
         → IsAsked S.Source K.Sink (record_of asked input.new.text.items) (moment session ends.old input.old steps) (moment session ends.new input.new steps)) }
     ensures ends { IfErr result (λ end. (session : SessionContent) (steps : ℕ) → room ≡ room_of session.conf
         → EndsAt S.Source K.Sink at (moment session ends.old input.old steps) (moment session ends.new input.new steps) end) }
-    ensures read_fault { IsErrOf result ReadFault → Rises (S.faults ends.old.src.now) (S.faults ends.new.src.now) }
-    ensures not_written { result ≢ Err WriteFault }
+    ensures no_fault { OnOk result (S.faults ends.new.src.now ≡ S.faults ends.old.src.now) }
+    ensures faults { IfErr result (λ end. CountsFault (is_read_fault end) (S.faults ends.old.src.now) (S.faults ends.new.src.now)) }
+    ensures not_written { IfErr result (λ end. is_write_fault end ≡ false) }
     ensures never_falls { S.faults ends.old.src.now ≤ S.faults ends.new.src.now }
     ensures sink { ends.new.sink.now ≡ ends.old.sink.now }
     ensures same { SameEnds ends.old ends.new }
@@ -185,8 +185,8 @@ fn read_next<S: Source, K: Sink>(
 // How a session ends that has answered all records that are taken.
 fn end_behind_all<S: Source, K: Sink>(ends: &mut Ends<'_, '_, S, K>, input: &mut Input) -> PastEnd
     ensures ends { (session : SessionContent) (steps : ℕ) → EndsBehindAll S.Source K.Sink (moment session ends.old input.old steps) (moment session ends.new input.new steps) result }
-    ensures read_fault { result ≡ ReadFault → Rises (S.faults ends.old.src.now) (S.faults ends.new.src.now) }
-    ensures not_written { result ≢ WriteFault }
+    ensures faults { CountsFault (is_read_fault result) (S.faults ends.old.src.now) (S.faults ends.new.src.now) }
+    ensures not_written { is_write_fault result ≡ false }
     ensures never_falls { S.faults ends.old.src.now ≤ S.faults ends.new.src.now }
     ensures sink { ends.new.sink.now ≡ ends.old.sink.now }
     ensures same { SameEnds ends.old ends.new }

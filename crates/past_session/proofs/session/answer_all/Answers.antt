@@ -1,13 +1,22 @@
-use Rattle.std.proofs.Common.{inl, inr, arith, sym, subst, ◌∙◌}
+use Rattle.std.proofs.Common.{inl, inr, arith, refl, sym, subst, ◌∙◌}
 use Rattle.past_session.specs.Order.{moment, EndsAt}
-use Rattle.past_session.proofs.Going.{loop_goes_on}
+use Rattle.past_session.specs.Run.{is_read_fault, is_write_fault}
+use Rattle.past_session.proofs.Faulty.{faults_on, reads_alone}
+use Rattle.past_session.proofs.Going.{loop_begins, loop_goes_on}
 use Rattle.past_session.proofs.session.answer_all.Goals as goal
+
+pub loop-at-init : goal.loop-at-init
+loop-at-init g c = record {
+  loop = loop_begins g.S.Source g.K.Sink (moment c.args.session.now c.args.ends.now c.args.input.now c.args.work.now.steps.now);
+  same_ends = record { src = refl; sink = refl };
+  same_steps = refl;
+}
 
 pub loop-at-preserved : goal.loop-at-preserved
 loop-at-preserved g c =
     let e = c.in-Ok.ensures in
     record {
-      loop = loop_goes_on g.S.Source g.K.Sink _ _ _ c.loop-at.at c.loop-at.invariant.loop e.answers e.never_falls;
+      loop = loop_goes_on g.S.Source g.K.Sink _ _ _ c.loop-at.at c.loop-at.invariant.loop e.answers e.never_falls e.no_fault;
       same_ends = record { src = e.same_ends.src ∙ c.loop-at.invariant.same_ends.src; sink = e.same_ends.sink ∙ c.loop-at.invariant.same_ends.sink };
       same_steps = e.same_steps ∙ c.loop-at.invariant.same_steps;
     }
@@ -33,3 +42,12 @@ returns-clause-order g c =
       converses = loop.converses;
       ends = inr (omega (arith, loop.count_is, c.loop-at-test.false, c.loop-at.auto.at-end), c.end_behind_all.ensures.ends c.loop-at.session c.loop-at.work.steps.now);
     }
+
+pub returns-in-Err-clause-faults : goal.returns-in-Err-clause-faults
+returns-in-Err-clause-faults g c = faults_on g.S.Source g.K.Sink (is_read_fault c.in-Err.end) (is_write_fault c.in-Err.end) _ _ _ c.loop-at.invariant.loop.faults c.in-Err.ensures.faults
+
+pub returns-clause-faults : goal.returns-clause-faults
+returns-clause-faults g c =
+    let e = c.end_behind_all.ensures in
+    let end = c.end_behind_all.result in
+    faults_on g.S.Source g.K.Sink (is_read_fault end) (is_write_fault end) _ _ _ c.loop-at.invariant.loop.faults (reads_alone g.S.Source g.K.Sink (is_read_fault end) (is_write_fault end) _ _ e.faults e.sink e.not_written)
