@@ -29,7 +29,7 @@ fn first_head(
     alloc: Global,
     bytes: &[u8],
     piece: usize,
-) -> Result<Result<Request, Stop>, AllocError>
+) -> Result<Result<Request, FrameStop>, AllocError>
     requires { 0 < piece }
 {
     let mut frame = Frame::new(alloc, 100)?;
@@ -38,7 +38,7 @@ fn first_head(
 }
 
 // Whether the first head of the bytes is answered by that.
-fn stops(alloc: Global, bytes: &[u8], piece: usize, stop: Stop) -> Result<bool, AllocError>
+fn stops(alloc: Global, bytes: &[u8], piece: usize, stop: FrameStop) -> Result<bool, AllocError>
     requires { 0 < piece }
 {
     match first_head(alloc, bytes, piece)? {
@@ -57,73 +57,79 @@ fn asks(alloc: Global, bytes: &[u8], piece: usize, request: &Request) -> Result<
     }
 }
 
-static STOPS: [(&[u8], Stop); 27] = [
-    (b"", Stop::End),
-    (b"GET /prop", Stop::Cut),
-    (b"GET / HTTP/1.1\r\nHost: a\r\n\r", Stop::Cut),
-    (b"GET / HTTP/2.0\r\n\r\n", Stop::Refuse(505)),
-    (b"GET / HTTP/1.2\r\nHost: a\r\n\r\n", Stop::Refuse(505)),
-    (b"what is this HTTP/0.9\r\n\r\n", Stop::Refuse(505)),
-    (b"what is this\nGET / HTTP/3.1\r\n\r\n", Stop::Refuse(505)),
-    (b"GET / HTTP/11.1\r\nHost: a\r\n\r\n", Stop::Refuse(400)),
-    (b"GET /\r\nHost: a\r\n\r\n", Stop::Refuse(400)),
+static STOPS: [(&[u8], FrameStop); 27] = [
+    (b"", FrameStop::End),
+    (b"GET /prop", FrameStop::Cut),
+    (b"GET / HTTP/1.1\r\nHost: a\r\n\r", FrameStop::Cut),
+    (b"GET / HTTP/2.0\r\n\r\n", FrameStop::Refuse(505)),
+    (b"GET / HTTP/1.2\r\nHost: a\r\n\r\n", FrameStop::Refuse(505)),
+    (b"what is this HTTP/0.9\r\n\r\n", FrameStop::Refuse(505)),
+    (
+        b"what is this\nGET / HTTP/3.1\r\n\r\n",
+        FrameStop::Refuse(505),
+    ),
+    (
+        b"GET / HTTP/11.1\r\nHost: a\r\n\r\n",
+        FrameStop::Refuse(400),
+    ),
+    (b"GET /\r\nHost: a\r\n\r\n", FrameStop::Refuse(400)),
     (
         b"GET / HTTP/1.1\r\nHost: a\n\nX: HTTP/1.1\r\n\r\n",
-        Stop::Refuse(400),
+        FrameStop::Refuse(400),
     ),
-    (b"GET / HTTP/1.1\r\n\r\n", Stop::Refuse(400)),
+    (b"GET / HTTP/1.1\r\n\r\n", FrameStop::Refuse(400)),
     (
         b"GET / HTTP/1.1\r\nHost: a\r\nhOST: a\r\n\r\n",
-        Stop::Refuse(400),
+        FrameStop::Refuse(400),
     ),
     (
         b"GET / HTTP/1.0\r\nHost: a\r\nHost: b\r\n\r\n",
-        Stop::Refuse(400),
+        FrameStop::Refuse(400),
     ),
     (
         b"PUT / HTTP/1.0\r\nContent-Length: 5\r\nContent-Length: 5\r\n\r\nhello",
-        Stop::Refuse(400),
+        FrameStop::Refuse(400),
     ),
     (
         b"PUT / HTTP/1.0\r\nContent-Length: +5\r\nTransfer-Encoding: chunked\r\n\r\nhello",
-        Stop::Refuse(400),
+        FrameStop::Refuse(400),
     ),
     (
         b"PUT / HTTP/1.0\r\nContent-Length:\r\n\r\n",
-        Stop::Refuse(400),
+        FrameStop::Refuse(400),
     ),
     (
         b"PUT / HTTP/1.0\r\nContent-Length: 5, 5\r\n\r\nhello",
-        Stop::Refuse(400),
+        FrameStop::Refuse(400),
     ),
     (
         b"PUT / HTTP/1.0\r\nTransfer-Encoding: chunked\r\n\r\n",
-        Stop::Refuse(501),
+        FrameStop::Refuse(501),
     ),
     (
         b"PUT / HTTP/1.0\r\nContent-Length: 101\r\nTransfer-Encoding: a\r\n\r\n",
-        Stop::Refuse(501),
+        FrameStop::Refuse(501),
     ),
-    (b"PUT / HTTP/1.0\r\n\r\n", Stop::Refuse(411)),
-    (b"PUT / HTTP/1.1\r\nHost: a\r\n\r\n", Stop::Refuse(411)),
+    (b"PUT / HTTP/1.0\r\n\r\n", FrameStop::Refuse(411)),
+    (b"PUT / HTTP/1.1\r\nHost: a\r\n\r\n", FrameStop::Refuse(411)),
     (
         b"PUT / HTTP/1.0\r\nContent-Length: 101\r\n\r\n",
-        Stop::Refuse(413),
+        FrameStop::Refuse(413),
     ),
     (
         b"GET / HTTP/1.0\r\nContent-Length: 99999999999\r\n\r\n",
-        Stop::Refuse(413),
+        FrameStop::Refuse(413),
     ),
     (
         b"GET / HTTP/1.0\r\nContent-Length: 99999999999999999999999\r\n\r\n",
-        Stop::Refuse(413),
+        FrameStop::Refuse(413),
     ),
     // Blank lines before a request (RFC 9112, section 2.2), and blanks before a colon (section 5.1).
-    (b"\r\n\r\nGET / HTTP/1.0\r\n\r\n", Stop::Refuse(400)),
-    (b"\r\nGET / HTTP/2.0\r\n\r\n", Stop::Refuse(400)),
+    (b"\r\n\r\nGET / HTTP/1.0\r\n\r\n", FrameStop::Refuse(400)),
+    (b"\r\nGET / HTTP/2.0\r\n\r\n", FrameStop::Refuse(400)),
     (
         b"PUT / HTTP/1.0\r\nContent-Length : 5\r\n\r\nhello",
-        Stop::Refuse(400),
+        FrameStop::Refuse(400),
     ),
 ];
 
@@ -327,7 +333,7 @@ fn answers(alloc: Global, head: &[u8], piece: usize, code: u16) -> Result<bool, 
     if code == 0 {
         asks(alloc, head, piece, &CLOSE)
     } else {
-        stops(alloc, head, piece, Stop::Refuse(code))
+        stops(alloc, head, piece, FrameStop::Refuse(code))
     }
 }
 
@@ -390,7 +396,7 @@ fn pipes(
     piece: usize,
     fails: &[u64],
     count: u32,
-    end: Stop,
+    end: FrameStop,
 ) -> Result<bool, AllocError>
     requires { 0 < piece }
 {
@@ -424,10 +430,10 @@ fn given_before(call: u64) -> u32 {
 fn reads_a_pipeline_in_any_pieces(rt: HostRuntime) -> Result<(), Fail> {
     let alloc = rt.alloc();
     for piece in [1, 2, 3, 7, 1000] {
-        assert!(rt; pipes(alloc, piece, &[], 3, Stop::End)?, "{piece}");
+        assert!(rt; pipes(alloc, piece, &[], 3, FrameStop::End)?, "{piece}");
     }
     for call in 0..101 {
-        let went = pipes(alloc, 1, &[call], given_before(call), Stop::ReadFault)?;
+        let went = pipes(alloc, 1, &[call], given_before(call), FrameStop::ReadFault)?;
         assert!(rt; went, "{call}");
     }
     Ok(())
@@ -449,7 +455,7 @@ fn first_body(
     }
     match frame.body(&mut src) {
         Ok(found) => return Ok(body == Some(found)),
-        Err(stop) => return Ok(body.is_none() && stop == Stop::Cut),
+        Err(stop) => return Ok(body.is_none() && stop == FrameStop::Cut),
     }
 }
 

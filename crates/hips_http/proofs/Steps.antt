@@ -8,8 +8,8 @@ use Rattle.survey_conf.specs.Description.{Description}
 use Rattle.hips_http.specs.declared.call.Call.{Call}
 use Rattle.hips_http.specs.Paths.{IsOfKind}
 use Rattle.http_frame.specs.declared.request.Request.{Request}
-use Rattle.http_frame.specs.declared.stop.Stop.{Stop}
-use Rattle.http_frame.specs.declared.stop.Stop.TheVariants.{End, Cut, ReadFault, Refuse}
+use Rattle.http_frame.specs.declared.stop.FrameStop.{FrameStop}
+use Rattle.http_frame.specs.declared.stop.FrameStop.TheVariants.{End, Cut, ReadFault, Refuse}
 use Rattle.http_frame.specs.Fill.{read_failed}
 use Rattle.http_frame.specs.Frame.{FrameState, unread, StopsHead, StopsBody, KeepsUnread}
 use Rattle.http_frame.specs.Next.{IsFound, IsWhole, IsRefusedNext, IsCut}
@@ -113,7 +113,7 @@ begun_part room [] extra none cut = inl (refl, none)
 begun_part room (b ∷ bs) extra none cut = inr (record { cut = inl (cut (omega arith), none) })
 
 module _ (old new : FrameState) (left left' : Option (List ℕ)) (w w' : Option (List ℕ)) where
-  pub head_ends : (stop : Stop) (ended : SessionEnd) → StopsHead old new left stop → KeepsUnread old new left left' → EndsAt stop w w' ended
+  pub head_ends : (stop : FrameStop) (ended : SessionEnd) → StopsHead old new left stop → KeepsUnread old new left left' → EndsAt stop w w' ended
       → IfSome (unread old left) (λ all. EndsOne ended old.room all left' w w')
   head_ends End ended why kept ends =
       rw ends.0 (if_some_map _ _ (unread old left) (λ all is. (is, appends_same w w' ends.1)) why)
@@ -145,7 +145,7 @@ leave_breaks room (Some all) (Some after) left asked path w w' head waits part =
 
 -- the body isn't whole
 module _ (room : ℕ) (asked : Request) (path : Option (List ℕ)) (mid new : FrameState) (left left' : Option (List ℕ)) (w w' : Option (List ℕ)) where
-  pub body_ends : (o : Option (List ℕ)) (m : Option (List ℕ)) → m ≡ unread mid left → IfSome o (λ all. IsSomeAnd m (λ rest. IsFound room all asked path rest)) → (stop : Stop)
+  pub body_ends : (o : Option (List ℕ)) (m : Option (List ℕ)) → m ≡ unread mid left → IfSome o (λ all. IsSomeAnd m (λ rest. IsFound room all asked path rest)) → (stop : FrameStop)
       → StopsBody asked.length mid new left stop → KeepsUnread mid new left left' → Appends w w' (leave_bytes asked)
       → IfSome o (λ all. EndsOne (body_end stop) room all left' w w')
   body_ends None m same head stop why kept sent = tt
@@ -225,7 +225,7 @@ faults_from ended first old new first' old' new' source sink f = record {
 }
 
 -- no head or no body was read, and nothing else failed
-pub stop_counts : (stop : Stop) (source source' sink : ℕ) → CountsFault (read_failed {T = Unit {0}} (Err stop)) source source'
+pub stop_counts : (stop : FrameStop) (source source' sink : ℕ) → CountsFault (read_failed {T = Unit {0}} (Err stop)) source source'
     → CountsFaults (body_end stop) source source' sink sink × (body_end stop ≢ end.OutOfMemory)
 stop_counts End source source' sink counts = (record { read = counts; write = refl }, λ is. cc)
 stop_counts Cut source source' sink counts = (record { read = counts; write = refl }, λ is. cc)
@@ -306,7 +306,7 @@ module _ (count top : ℕ) (old : Moment) (input : Input) (output : Output) (ask
       halted_part = part_by_kept old.input.frame.room (unread_of old.input) (unread_of input) asked input.frame.path new.input.frame.held new.input.left read.head.next h.leaves.kept
 
 -- no head was read
-pub head_stops : (count : ℕ) (old : Moment) (input : Input) (output : Output) (stop : Stop) (ended : SessionEnd)
+pub head_stops : (count : ℕ) (old : Moment) (input : Input) (output : Output) (stop : FrameStop) (ended : SessionEnd)
     → old.input.frame.room ≡ room_of old.board.conf → StopsHead old.input.frame input.frame old.input.left stop
     → KeepsUnread old.input.frame input.frame old.input.left input.left → EndsAt stop old.output.held output.held ended
     → StopsOne count old (moment input output old.board old.steps old.memory_faults) ended
@@ -319,7 +319,7 @@ head_stops count old input output stop ended room_is why kept ends = record {
 }
 
 -- no body ends a connection by a failed writing
-pub body_reads : (stop : Stop) → body_end stop ≡ end.WriteFault → ⊥
+pub body_reads : (stop : FrameStop) → body_end stop ≡ end.WriteFault → ⊥
 body_reads End is = cc
 body_reads Cut is = cc
 body_reads ReadFault is = cc

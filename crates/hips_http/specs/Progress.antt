@@ -7,9 +7,9 @@ use Rattle.healpix_nested.specs.Cells.{cell_count}
 use Rattle.survey_link.specs.Link.{AppendsPrefix, CountsFault}
 use Rattle.survey_link.specs.declared.faults.Failed.{Failed}
 use Rattle.http_frame.specs.declared.request.Request.{Request}
-use Rattle.http_frame.specs.declared.stop.Stop.{Stop}
-use Rattle.http_frame.specs.declared.stop.Stop.TheVariants as stop
-use Rattle.http_frame.specs.declared.stop.Stop.TheVariants.{End, Refuse}
+use Rattle.http_frame.specs.declared.stop.FrameStop.{FrameStop}
+use Rattle.http_frame.specs.declared.stop.FrameStop.TheVariants as stop
+use Rattle.http_frame.specs.declared.stop.FrameStop.TheVariants.{End, Refuse}
 use Rattle.http_frame.specs.declared.stop.Turn.TheVariants.{AtHead}
 use Rattle.http_frame.specs.Frame.{ReadsHead, StopsBody, KeepsUnread}
 use Rattle.http_frame.specs.Reply.{is_reply_code, reply_bytes, continue_bytes}
@@ -112,7 +112,7 @@ is_text (call.File file) = false
 is_text _ = true
 
 -- how a connection ends where no request follows
-abbrev pub EndsAt : Stop → Option (List ℕ) → Option (List ℕ) → SessionEnd → Type 0
+abbrev pub EndsAt : FrameStop → Option (List ℕ) → Option (List ℕ) → SessionEnd → Type 0
 EndsAt End written written' end = (end ≡ Closed) × (written' ≡ written)
 EndsAt stop.Cut written written' end = (end ≡ Cut) × (written' ≡ written)
 EndsAt stop.ReadFault written written' end = (end ≡ ReadFault) × (written' ≡ written)
@@ -128,7 +128,7 @@ pub record TakesBody (count : ℕ) (old new : Input) (body : List ℕ) : Type 0 
   pub turn : new.frame.turn ≡ AtHead
 
 -- no body was read
-pub record LeavesNoBody (count : ℕ) (old new : Input) (stop : Stop) : Type 0 where
+pub record LeavesNoBody (count : ℕ) (old new : Input) (stop : FrameStop) : Type 0 where
   pub why : StopsBody count old.frame new.frame old.left stop
   pub kept : KeepsUnread old.frame new.frame old.left new.left
 
@@ -260,13 +260,13 @@ pub record Replied (asked : Request) (wanted : Call) (old new : Moment) (answer 
   pub memory_faults_is : new.memory_faults ≡ memory_faults_after old.memory_faults answer
 
 -- how a connection ends where a body isn't whole
-abbrev pub body_end : Stop → SessionEnd
+abbrev pub body_end : FrameStop → SessionEnd
 body_end stop.ReadFault = ReadFault
 body_end _ = Cut
 
 -- no body was read, and nothing else happened
 pub record Halts (asked : Request) (old new : Moment) (end : SessionEnd) : Type 0 where
-  pub stop : Stop
+  pub stop : FrameStop
   pub leaves : LeavesNoBody asked.length old.input new.input stop
   pub end_is : end ≡ body_end stop
   pub untouched : Untouched old new

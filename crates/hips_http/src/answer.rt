@@ -14,7 +14,7 @@ use crate::change::{batch, delete, put};
 use crate::control::{pin, publish, unpin};
 use crate::open_connection::{Due, Means};
 use crate::reply::TextReply;
-use http_frame::{Allow, Frame, Stop};
+use http_frame::{Allow, Frame, FrameStop};
 use log::Log;
 use parent_rule::Steps;
 use reader_pin::{Board, ChangedWith};
@@ -39,7 +39,7 @@ pub(crate) fn reply_to<
     src: &mut S,
     steps: &mut Steps,
     due: &Due,
-) -> Result<TextReply, Stop>
+) -> Result<TextReply, FrameStop>
     requires turn { frame.old.turn ≡ AtBody due.now.request.length }
     requires text { is_text due.now.call ≡ true }
     requires leaf { HasLeaf (B.content board.old).conf.shape.top due.now.call }
@@ -65,7 +65,11 @@ pub(crate) fn reply_to<
 /// # Errors
 ///
 /// As the frame stops.
-pub(crate) fn pass_body<S: Source>(frame: &mut Frame, src: &mut S, count: u64) -> Result<(), Stop>
+pub(crate) fn pass_body<S: Source>(
+    frame: &mut Frame,
+    src: &mut S,
+    count: u64,
+) -> Result<(), FrameStop>
     requires { frame.old.turn ≡ AtBody count }
     ensures read { OnOk result ((body : List ℕ) × TakesBody count (input_at S.Source frame.old src.old) (input_at S.Source frame.new src.new) body) }
     ensures stop { IfErr result (LeavesNoBody count (input_at S.Source frame.old src.old) (input_at S.Source frame.new src.new)) }

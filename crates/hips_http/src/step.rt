@@ -25,7 +25,7 @@ use crate::reply::TextReply;
 use crate::saying::Stopwatch;
 use crate::send::{send_refusal, send_text};
 use crate::served::SessionEnd;
-use http_frame::{Frame, Request, Stop, write_continue};
+use http_frame::{Frame, FrameStop, Request, write_continue};
 use log::Log;
 use reader_pin::{Board, ChangedWith};
 use std::thread::Threads;
@@ -41,7 +41,7 @@ pub(crate) fn next_call<S: Source>(
     frame: &mut Frame,
     src: &mut S,
     top: u8,
-) -> Result<(Request, Call), Stop>
+) -> Result<(Request, Call), FrameStop>
     requires turn { frame.old.turn ≡ AtHead }
     requires top { top ≤ 11 }
     ensures read { IfOk result (λ next. ReadsCall top (input_at S.Source frame.old src.old) (input_at S.Source frame.new src.new) next.0 next.1) }
@@ -66,7 +66,7 @@ pub(crate) fn next_call<S: Source>(
 }
 
 /// Ends a connection where no request follows: a head that is refused is answered first.
-pub(crate) fn end_at<R: Clock + Log, K: Sink>(rt: &R, sink: &mut K, stop: Stop) -> SessionEnd
+pub(crate) fn end_at<R: Clock + Log, K: Sink>(rt: &R, sink: &mut K, stop: FrameStop) -> SessionEnd
     ensures ends { EndsAt stop (K.held sink.old) (K.held sink.new) result }
     ensures read_fault { is_read_fault result ≡ is_read_fault (body_end stop) }
     ensures flushed { ¬ (result ≡ WriteFault) → FlushesAll (K.held sink.old) (K.held sink.new) (K.flushed sink.old) (K.flushed sink.new) }
@@ -76,10 +76,10 @@ pub(crate) fn end_at<R: Clock + Log, K: Sink>(rt: &R, sink: &mut K, stop: Stop) 
     ensures never_falls { K.faults sink.old ≤ K.faults sink.new }
 {
     match stop {
-        Stop::End => return SessionEnd::Closed,
-        Stop::Cut => return SessionEnd::Cut,
-        Stop::ReadFault => return SessionEnd::ReadFault,
-        Stop::Refuse(code) => match send_refusal(rt, sink, reply_code(code)) {
+        FrameStop::End => return SessionEnd::Closed,
+        FrameStop::Cut => return SessionEnd::Cut,
+        FrameStop::ReadFault => return SessionEnd::ReadFault,
+        FrameStop::Refuse(code) => match send_refusal(rt, sink, reply_code(code)) {
             Ok(()) => return SessionEnd::Refused(code),
             Err(_) => return SessionEnd::WriteFault,
         },
@@ -119,11 +119,11 @@ pub(crate) fn grant<K: Sink>(sink: &mut K, request: &Request) -> Result<(), Fail
 }
 
 // How a connection ends where a body isn't whole.
-fn body_end(stop: Stop) -> SessionEnd
+fn body_end(stop: FrameStop) -> SessionEnd
     ensures { result ≡ body_end stop }
 {
     match stop {
-        Stop::ReadFault => SessionEnd::ReadFault,
+        FrameStop::ReadFault => SessionEnd::ReadFault,
         _ => SessionEnd::Cut,
     }
 }

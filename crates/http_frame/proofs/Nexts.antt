@@ -4,8 +4,8 @@ use Rattle.std.specs.Prelude.{IfSome, IsSomeAnd}
 use Rattle.std.specs.Io.KnownBytes.{prepend_known, Consumes}
 use Rattle.std.proofs.lemmas.List.{take-append-le, drop-append-le, append-nil, drop_all}
 use Rattle.http_frame.specs.declared.request.Request.{Request}
-use Rattle.http_frame.specs.declared.stop.Stop.{Stop}
-use Rattle.http_frame.specs.declared.stop.Stop.TheVariants.{End, Cut, ReadFault, Refuse}
+use Rattle.http_frame.specs.declared.stop.FrameStop.{FrameStop}
+use Rattle.http_frame.specs.declared.stop.FrameStop.TheVariants.{End, Cut, ReadFault, Refuse}
 use Rattle.http_frame.specs.Refusal.{IsRefused}
 use Rattle.http_frame.specs.Next.{head_end, most_head, IsHeadLength, HasNoHead, IsFound, IsTaken, IsRefusedNext, refused, found, IsNextHead}
 use Rattle.http_frame.specs.Fill.{Takes, StopsFill}
@@ -94,7 +94,7 @@ at_end : (held held' xs ys : List ℕ) → Takes held held' (Some xs) (Some ys) 
 at_end held held' xs ys takes end =
     same_bytes held held' (Some xs) (Some ys) takes xs ys refl refl ∙ ap (λ rest. held' ++ rest) end ∙ append-nil held'
 
-pub stops_head : (old new : FrameState) (left left' : Option (List ℕ)) (stop : Stop)
+pub stops_head : (old new : FrameState) (left left' : Option (List ℕ)) (stop : FrameStop)
     → Takes old.held new.held left left' → StopsFill new.held left' stop → StopsHead old new left stop
 stops_head old new None left' End takes stops = tt
 stops_head old new (Some xs) None End takes stops = absurd takes.consumed

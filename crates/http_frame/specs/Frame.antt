@@ -3,8 +3,8 @@ use Rattle.std.specs.Prelude.{◌≡◌, ℕ, ◌<◌, List, [], ◌++◌, lengt
 use Rattle.std.specs.Borrow.{Bor}
 use Rattle.std.specs.Io.KnownBytes.{prepend_known}
 use Rattle.http_frame.specs.declared.request.Request.{Request}
-use Rattle.http_frame.specs.declared.stop.Stop.{Stop}
-use Rattle.http_frame.specs.declared.stop.Stop.TheVariants.{End, Cut, ReadFault, Refuse}
+use Rattle.http_frame.specs.declared.stop.FrameStop.{FrameStop}
+use Rattle.http_frame.specs.declared.stop.FrameStop.TheVariants.{End, Cut, ReadFault, Refuse}
 use Rattle.http_frame.specs.declared.stop.Turn.{Turn}
 use Rattle.http_frame.specs.declared.stop.Turn.TheVariants.{AtHead, AtBody, Stopped}
 use Rattle.http_frame.specs.Next.{NextHead, ended, cut_off, refused, found, IsNextHead, IsFound, NeedsMore}
@@ -44,14 +44,14 @@ pub record ReadsHead (old new : FrameState) (left left' : Option (List ℕ)) (re
   pub turn : new.turn ≡ AtBody request.length
 
 -- why no head was read
-abbrev pub StopsHead : FrameState → FrameState → Option (List ℕ) → Stop → Type 0
+abbrev pub StopsHead : FrameState → FrameState → Option (List ℕ) → FrameStop → Type 0
 StopsHead old new left End = NextIs old.room (unread old left) ended
 StopsHead old new left Cut = NextIs old.room (unread old left) cut_off
 StopsHead old new left (Refuse code) = NextIs old.room (unread old left) (refused code)
 StopsHead old new left ReadFault = NeedsMore new.held
 
 -- no body was read of n bytes
-abbrev pub StopsBody : ℕ → FrameState → FrameState → Option (List ℕ) → Stop → Type 0
+abbrev pub StopsBody : ℕ → FrameState → FrameState → Option (List ℕ) → FrameStop → Type 0
 StopsBody n old new left Cut = IfSome (unread old left) (λ bytes. length bytes < n)
 StopsBody n old new left ReadFault = length new.held < n
 StopsBody n old new left End = ⊥
@@ -62,13 +62,13 @@ abbrev pub KeepsUnread : FrameState → FrameState → Option (List ℕ) → Opt
 KeepsUnread old new left left' = IfSome (unread old left) (λ bytes. unread new left' ≡ Some bytes)
 
 -- nothing was given: the unread bytes and the path are what they were, and the frame stops for good
-pub record IsStopped (old new : FrameState) (left left' : Option (List ℕ)) (stop : Stop) : Type 0 where
+pub record IsStopped (old new : FrameState) (left left' : Option (List ℕ)) (stop : FrameStop) : Type 0 where
   pub kept : KeepsUnread old new left left'
   pub path : new.path ≡ old.path
   pub turn : new.turn ≡ Stopped stop
 
 -- what came of the source is the head that was read, with the bytes held before it, and the bytes held now
-abbrev pub HoldsRest : FrameState → FrameState → List ℕ → Result Request Stop → Type 0
+abbrev pub HoldsRest : FrameState → FrameState → List ℕ → Result Request FrameStop → Type 0
 HoldsRest old new came (Ok request) = IsFound old.room (old.held ++ came) request new.path new.held
 HoldsRest old new came (Err stop) = new.held ≡ old.held ++ came
 
@@ -77,11 +77,11 @@ abbrev pub IsShort : ℕ → List ℕ → Type 0
 IsShort n held = length held < n
 
 -- the body is the first bytes of those held before and those that came
-abbrev pub GivesFront : ℕ → List ℕ → Result (Bor (List ℕ)) Stop → Type 0
+abbrev pub GivesFront : ℕ → List ℕ → Result (Bor (List ℕ)) FrameStop → Type 0
 GivesFront n bytes result = IfOk result (λ body. body.now ≡ take n bytes)
 
 -- where a frame that was at a body of n bytes is after it was asked for it
-pub record LeavesBodyOf (n : ℕ) (old new : FrameState) (left left' : Option (List ℕ)) (result : Result (List ℕ) Stop) : Type 0 where
+pub record LeavesBodyOf (n : ℕ) (old new : FrameState) (left left' : Option (List ℕ)) (result : Result (List ℕ) FrameStop) : Type 0 where
   pub read : IfOk result (λ body. IfSome (unread old left) (λ bytes. IsSomeAnd (unread new left') (λ rest. bytes ≡ body ++ rest)))
   pub turn : OnOk result (new.turn ≡ AtHead)
   pub exact : length old.held < n → OnOk result (new.held ≡ [])
@@ -89,12 +89,12 @@ pub record LeavesBodyOf (n : ℕ) (old new : FrameState) (left left' : Option (L
   pub stop : IfErr result (StopsBody n old new left)
 
 -- where a frame is after it was asked for a body
-abbrev pub LeavesBodyAt : Turn → FrameState → FrameState → Option (List ℕ) → Option (List ℕ) → Result (List ℕ) Stop → Type 0
+abbrev pub LeavesBodyAt : Turn → FrameState → FrameState → Option (List ℕ) → Option (List ℕ) → Result (List ℕ) FrameStop → Type 0
 LeavesBodyAt AtHead old new left left' result = ⊤
 LeavesBodyAt (AtBody n) old new left left' result = LeavesBodyOf n old new left left' result
 LeavesBodyAt (Stopped stop) old new left left' result = new ≡ old
 
-pub record LeavesBody (old new : FrameState) (left left' : Option (List ℕ)) (result : Result (List ℕ) Stop) : Type 0 where
+pub record LeavesBody (old new : FrameState) (left left' : Option (List ℕ)) (result : Result (List ℕ) FrameStop) : Type 0 where
   pub room : new.room ≡ old.room
   pub path : new.path ≡ old.path
   pub turn : LeavesBodyAt old.turn old new left left' result

@@ -9,7 +9,7 @@ ghost use Rattle.http_frame.specs.Fill.{Takes, EndsShort, StopsFill, StopsBodyFi
 ghost use Rattle.http_frame.specs.Frame.{IsShort};
 ghost use Rattle.http_frame.specs.Readings.{ReadsWhile};
 
-use crate::stop::Stop;
+use crate::stop::FrameStop;
 use memchr::memmem;
 use survey_link::{Failed, Inbox, Source};
 
@@ -22,7 +22,7 @@ pub const MAX_HEAD: usize = 8192;
 ///
 /// `Refuse` (431) where 8,192 bytes have none; `End` where the input ends and nothing is held, `Cut` where something is;
 /// `ReadFault` only where the source's count of faults rose.
-pub fn fill_head<S: Source>(buffer: &mut Inbox, src: &mut S) -> Result<usize, Stop>
+pub fn fill_head<S: Source>(buffer: &mut Inbox, src: &mut S) -> Result<usize, FrameStop>
     requires size { most_head ≤ size buffer.old }
     requires places { (buffer.old.start ≡ buffer.old.end) ⊎ (buffer.old.end ≤ most_head) }
     ensures found { IfOk result (IsHeadLength (held buffer.new)) }
@@ -42,7 +42,7 @@ pub fn fill_head<S: Source>(buffer: &mut Inbox, src: &mut S) -> Result<usize, St
             return Ok(length);
         }
         if held.len() >= MAX_HEAD {
-            return Err(Stop::Refuse(431));
+            return Err(FrameStop::Refuse(431));
         }
         searched = held.len();
         read_more(buffer, src)?;
@@ -50,7 +50,7 @@ pub fn fill_head<S: Source>(buffer: &mut Inbox, src: &mut S) -> Result<usize, St
 }
 
 // Reads once behind the bytes that are held, which are fewer than those of the longest head.
-fn read_more<S: Source>(buffer: &mut Inbox, src: &mut S) -> Result<(), Stop>
+fn read_more<S: Source>(buffer: &mut Inbox, src: &mut S) -> Result<(), FrameStop>
     requires size { most_head ≤ size buffer.old }
     requires needed { NeedsMore (held buffer.old) }
     ensures taken { Takes (held buffer.old) (held buffer.new) (S.left src.old) (S.left src.new) }
@@ -69,12 +69,12 @@ fn read_more<S: Source>(buffer: &mut Inbox, src: &mut S) -> Result<(), Stop>
             if count > 0 {
                 Ok(())
             } else if buffer.held().is_empty() {
-                Err(Stop::End)
+                Err(FrameStop::End)
             } else {
-                Err(Stop::Cut)
+                Err(FrameStop::Cut)
             }
         }
-        Err(Failed) => Err(Stop::ReadFault),
+        Err(Failed) => Err(FrameStop::ReadFault),
     }
 }
 
@@ -96,7 +96,7 @@ pub(crate) fn fill_body<S: Source>(
     buffer: &mut Inbox,
     src: &mut S,
     count: usize,
-) -> Result<(), Stop>
+) -> Result<(), FrameStop>
     requires room { buffer.old.start + count ≤ size buffer.old }
     ensures taken { Takes (held buffer.old) (held buffer.new) (S.left src.old) (S.left src.new) }
     ensures filled { OnOk result (count ≤ length (held buffer.new)) }
@@ -114,10 +114,10 @@ pub(crate) fn fill_body<S: Source>(
         match buffer.read(src, end) {
             Ok(read) => {
                 if read == 0 {
-                    return Err(Stop::Cut);
+                    return Err(FrameStop::Cut);
                 }
             }
-            Err(Failed) => return Err(Stop::ReadFault),
+            Err(Failed) => return Err(FrameStop::ReadFault),
         }
     }
     Ok(())

@@ -12,7 +12,7 @@ ghost use Rattle.http_frame.specs.Fill.{read_failed};
 use crate::fill::{MAX_HEAD, fill_body, fill_head};
 use crate::head::{Head, read_head};
 use crate::request::Request;
-use crate::stop::{Stop, Turn};
+use crate::stop::{FrameStop, Turn};
 use crate::target::local_part;
 use percent_encoding::percent_decode;
 use std::alloc::{AllocError, Global};
@@ -101,14 +101,14 @@ impl Frame {
     /// `End` if and only if the input ends before a head, `Cut` if and only if it ends within one, `Refuse` if and only if the
     /// next head is refused, by its status code (RFC 9110, section 15); `ReadFault` only where the source's count of faults
     /// rose. Nothing is lost; from then on the frame answers the same.
-    pub fn head<S: Source>(&mut self, src: &mut S) -> Result<Request, Stop>
+    pub fn head<S: Source>(&mut self, src: &mut S) -> Result<Request, FrameStop>
         requires { AwaitsHead self.old.turn }
         ensures read { self.old.turn ≡ AtHead → IfOk result (ReadsHead self.old self.new (S.left src.old) (S.left src.new)) }
         ensures stop { self.old.turn ≡ AtHead → IfErr result (StopsHead self.old self.new (S.left src.old)) }
         ensures faults { self.old.turn ≡ AtHead → CountsFault (read_failed result) (S.faults src.old) (S.faults src.new) }
         ensures turn { IfOk result (λ request. self.new.turn ≡ AtBody request.length) }
         ensures stopped { IfErr result (IsStopped self.old self.new (S.left src.old) (S.left src.new)) }
-        ensures again { (stop : Stop) → self.old.turn ≡ Stopped stop → (result ≡ Err stop) × (self.new ≡ self.old) × (src.new ≡ src.old) }
+        ensures again { (stop : FrameStop) → self.old.turn ≡ Stopped stop → (result ≡ Err stop) × (self.new ≡ self.old) × (src.new ≡ src.old) }
         ensures needed { (came : List ℕ) × ReadsWhile S.left S.readings NeedsMore self.old.held src.old src.new came × HoldsRest self.old self.new came result }
         ensures untouched { (NeedsMore self.old.held → ⊥) → src.new ≡ src.old }
         ensures never_falls { S.faults src.old ≤ S.faults src.new }
@@ -145,14 +145,14 @@ impl Frame {
     ///
     /// `Cut` if and only if the input ends within the body; `ReadFault` only where the source's count of faults rose. Nothing
     /// is lost; from then on the frame answers the same.
-    pub fn body<S: Source>(&mut self, src: &mut S) -> Result<&[u8], Stop>
+    pub fn body<S: Source>(&mut self, src: &mut S) -> Result<&[u8], FrameStop>
         requires { AwaitsBody self.old.turn }
         ensures length { (n : ℕ) → self.old.turn ≡ AtBody n → IfOk result (λ body. length body.now ≡ n) }
         ensures faults { (n : ℕ) → self.old.turn ≡ AtBody n → CountsFault (read_failed result) (S.faults src.old) (S.faults src.new) }
         ensures needed { (n : ℕ) → self.old.turn ≡ AtBody n
             → (came : List ℕ) × ReadsWhile S.left S.readings (IsShort n) self.old.held src.old src.new came × GivesFront n (self.old.held ++ came) result }
         ensures untouched { (n : ℕ) → self.old.turn ≡ AtBody n → n ≤ length self.old.held → src.new ≡ src.old }
-        ensures again { (stop : Stop) → self.old.turn ≡ Stopped stop → (result ≡ Err stop) × (src.new ≡ src.old) }
+        ensures again { (stop : FrameStop) → self.old.turn ≡ Stopped stop → (result ≡ Err stop) × (src.new ≡ src.old) }
         ensures never_falls { S.faults src.old ≤ S.faults src.new }
         ensures* after_borrow { sem 𝓛 (Rests the_row self.entry (λ new.
             LeavesBody self.old new (S.left src.old) (S.left src.new) (answered result))) }
@@ -162,7 +162,7 @@ impl Frame {
     }
 
     // Reads and takes the next head.
-    fn next_head<S: Source>(&mut self, src: &mut S) -> Result<Request, Stop>
+    fn next_head<S: Source>(&mut self, src: &mut S) -> Result<Request, FrameStop>
         requires { self.old.turn ≡ AtHead }
         ensures read { IfOk result (ReadsHead self.old self.new (S.left src.old) (S.left src.new)) }
         ensures stop { IfErr result (StopsHead self.old self.new (S.left src.old)) }
@@ -187,12 +187,12 @@ impl Frame {
                 self.turn = Turn::AtBody(request.length);
                 Ok(request)
             }
-            Err(code) => Err(Stop::Refuse(code)),
+            Err(code) => Err(FrameStop::Refuse(code)),
         }
     }
 
     // Reads and takes the next body.
-    fn take_body<S: Source>(&mut self, src: &mut S) -> Result<(), Stop>
+    fn take_body<S: Source>(&mut self, src: &mut S) -> Result<(), FrameStop>
         requires { AwaitsBody self.old.turn }
         ensures leaves { LeavesBody self.old self.new (S.left src.old) (S.left src.new) (with_bytes result self.new.body) }
         ensures length { (n : ℕ) → self.old.turn ≡ AtBody n → OnOk result (length self.new.body ≡ n) }
@@ -200,7 +200,7 @@ impl Frame {
         ensures needed { (n : ℕ) → self.old.turn ≡ AtBody n
             → (came : List ℕ) × ReadsWhile S.left S.readings (IsShort n) self.old.held src.old src.new came × OnOk result (self.new.body ≡ take n (self.old.held ++ came)) }
         ensures untouched { (n : ℕ) → self.old.turn ≡ AtBody n → n ≤ length self.old.held → src.new ≡ src.old }
-        ensures again { (stop : Stop) → self.old.turn ≡ Stopped stop → (result ≡ Err stop) × (self.new ≡ self.old) × (src.new ≡ src.old) }
+        ensures again { (stop : FrameStop) → self.old.turn ≡ Stopped stop → (result ≡ Err stop) × (self.new ≡ self.old) × (src.new ≡ src.old) }
         ensures never_falls { S.faults src.old ≤ S.faults src.new }
     {
         match self.turn {
@@ -211,7 +211,7 @@ impl Frame {
     }
 
     // Reads and takes the next body, which has so many bytes.
-    fn read_body<S: Source>(&mut self, src: &mut S, count: u64) -> Result<(), Stop>
+    fn read_body<S: Source>(&mut self, src: &mut S, count: u64) -> Result<(), FrameStop>
         requires { self.old.turn ≡ AtBody count }
         ensures leaves { LeavesBodyOf count self.old self.new (S.left src.old) (S.left src.new) (with_bytes result self.new.body) }
         ensures length { OnOk result (length self.new.body ≡ count) }

@@ -23,5 +23,5 @@ pub use frame::Frame;
 pub use pushing::{push, push_number};
 pub use reply::{Allow, Kind, Number, Reply, write_continue, write_reply, write_reply_parts};
 pub use request::{Method, Request, Tags};
-pub use stop::{Stop, Turn};
+pub use stop::{FrameStop, Turn};
 pub use text::digits;

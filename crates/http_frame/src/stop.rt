@@ -2,7 +2,7 @@
 
 /// Why no head or no body was read.
 #[derive(Clone, Copy, Debug, PartialEq, Eq)]
-pub enum Stop {
+pub enum FrameStop {
     /// The input ended between requests.
     End,
     /// The input ended within a head or a body.
@@ -21,5 +21,5 @@ pub enum Turn {
     /// A body of so many bytes.
     AtBody(u64),
     /// Nothing any more.
-    Stopped(Stop),
+    Stopped(FrameStop),
 }

@@ -7,8 +7,8 @@ use Rattle.http_frame.specs.Next.{head_end, most_head, IsHeadLength, HasNoHead, 
 use Rattle.http_frame.proofs.Fills.{occurs_in_front}
 use Rattle.http_frame.proofs.Nexts.{head_length_of_more, text_of_more}
 use Rattle.http_frame.specs.Fill.{StopsFill}
-use Rattle.http_frame.specs.declared.stop.Stop.{Stop as Stopped}
-use Rattle.http_frame.specs.declared.stop.Stop.TheVariants as stopped
+use Rattle.http_frame.specs.declared.stop.FrameStop.{FrameStop}
+use Rattle.http_frame.specs.declared.stop.FrameStop.TheVariants as stopped
 use Rattle.http_frame.specs.Frame.{IsShort}
 use Rattle.http_frame.specs.Readings.{ReadsWhile}
 use Rattle.http_frame.proofs.ReadLemmas.{reads_for, reads_gave, reads_then}
@@ -145,7 +145,7 @@ nothing_held bytes none = record {
 }
 
 -- why no head was read
-pub stops_head : (due : Due) (held : List ℕ) (left : Option (List ℕ)) (why : Stopped) → StopsFill held left why → StopsBegin due held left (of_stopped why)
+pub stops_head : (due : Due) (held : List ℕ) (left : Option (List ℕ)) (why : FrameStop) → StopsFill held left why → StopsBegin due held left (of_stopped why)
 stops_head due held left (stopped.Refuse code) stops = inl (stops.2, stops.1)
 stops_head due held left stopped.End stops = (nothing_held held stops.0, stops.1)
 stops_head due held left stopped.Cut stops = (stops.1, stops.2)

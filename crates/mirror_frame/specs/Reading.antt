@@ -2,8 +2,8 @@
 use Rattle.std.specs.Prelude.{◌≡◌, ℕ, List, Option, IfSome, IsSome, Bool, true, false, Result, Ok, Err, ⊤}
 use Rattle.std.specs.Io.KnownBytes.{prepend_known, IsAtEnd}
 use Rattle.http_frame.specs.Next.{NeedsMore}
-use Rattle.http_frame.specs.declared.stop.Stop.{Stop as Stopped}
-use Rattle.http_frame.specs.declared.stop.Stop.TheVariants as stopped
+use Rattle.http_frame.specs.declared.stop.FrameStop.{FrameStop}
+use Rattle.http_frame.specs.declared.stop.FrameStop.TheVariants as stopped
 use Rattle.mirror_frame.specs.Reply.{IsReply, IsCutReply, IsWrongReply, FitsPrefix, pinned_line}
 use Rattle.mirror_frame.specs.declared.due.Due.{Due}
 use Rattle.mirror_frame.specs.declared.due.Due.TheVariants.{Pinned}
@@ -23,7 +23,7 @@ StopsReply due bytes WriteFault = ⊤
 StopsReply due bytes OutOfMemory = ⊤
 
 -- a head that doesn't end is wrong, and one that isn't there is cut
-abbrev pub of_stopped : Stopped → Stop
+abbrev pub of_stopped : FrameStop → Stop
 of_stopped (stopped.Refuse code) = Wrong
 of_stopped stopped.End = Cut
 of_stopped stopped.Cut = Cut

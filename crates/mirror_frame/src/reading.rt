@@ -10,7 +10,7 @@ ghost use Rattle.mirror_frame.specs.Reading.{StopsBegin, ReadsReply, of_stopped,
 
 use crate::due::Due;
 use crate::head::{ReplyHead, read_head};
-use http_frame::{Stop as Stopped, fill_head, take_exact};
+use http_frame::{FrameStop, fill_head, take_exact};
 use std::alloc::AllocError;
 use survey_link::{Failed, Inbox, Source};
 
@@ -122,13 +122,13 @@ fn begin_reply<S: Source>(inbox: &mut Inbox, src: &mut S, due: Due) -> Result<Be
 }
 
 // Why no reply is read where no head was.
-fn stop_of(stopped: Stopped) -> Stop
+fn stop_of(stopped: FrameStop) -> Stop
     ensures { result ≡ of_stopped stopped }
 {
     match stopped {
-        Stopped::Refuse(_) => Stop::Wrong,
-        Stopped::End | Stopped::Cut => Stop::Cut,
-        Stopped::ReadFault => Stop::ReadFault,
+        FrameStop::Refuse(_) => Stop::Wrong,
+        FrameStop::End | FrameStop::Cut => Stop::Cut,
+        FrameStop::ReadFault => Stop::ReadFault,
     }
 }
 

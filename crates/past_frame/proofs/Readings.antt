@@ -14,8 +14,8 @@ use Rattle.http_frame.proofs.ReadLemmas.{reads_for, reads_gave, reads_then}
 use Rattle.past_frame.specs.Line.{RecordLine, batch_line, read_line, line_of, line_feed}
 use Rattle.past_frame.specs.Record.{batch, read, cut_short, no_line, then_rest, most_line, by_line, by_end, line_end, next_record}
 use Rattle.past_frame.specs.Reading.{Stops, NeedsMore, NeedsLine, StopsLine}
-use Rattle.past_frame.specs.declared.record.Stop.{Stop}
-use Rattle.past_frame.specs.declared.record.Stop.TheVariants.{End, Cut, BadLine, ReadFault, OutOfMemory}
+use Rattle.past_frame.specs.declared.record.RecordStop.{RecordStop}
+use Rattle.past_frame.specs.declared.record.RecordStop.TheVariants.{End, Cut, BadLine, ReadFault, OutOfMemory}
 use Rattle.past_frame.proofs.Records.{line_end_of_more, line_fits, text_of_more}
 
 -- an inbox of the longest line's room holds no more
@@ -90,7 +90,7 @@ unfolding next_record
 needs_more room [] needs = inl refl
 needs_more room (b ∷ bytes) needs = inr (cut_line room (b ∷ bytes) (omega arith) needs)
 
-pub stops_line : (room : ℕ) (held : List ℕ) (left : Option (List ℕ)) (stop : Stop) → length held ≤ most_line → StopsLine held left stop → Stops room held left stop
+pub stops_line : (room : ℕ) (held : List ℕ) (left : Option (List ℕ)) (stop : RecordStop) → length held ≤ most_line → StopsLine held left stop → Stops room held left stop
 stops_line room held left End most stops = stops
 stops_line room held left Cut most stops = (cut_line room held stops.0 stops.1, stops.2)
 stops_line room held left BadLine most stops = long_line room held most stops.0 stops.1

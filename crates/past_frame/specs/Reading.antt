@@ -6,8 +6,8 @@ use Rattle.past_frame.specs.Line.{line_feed}
 use Rattle.past_frame.specs.Record.{PastRecord, batch, read, next_record, no_more, cut_short, no_line, then_rest, most_line}
 use Rattle.past_frame.specs.declared.record.Record.{Record}
 use Rattle.past_frame.specs.declared.record.Record.TheVariants.{Batch, Read}
-use Rattle.past_frame.specs.declared.record.Stop.{Stop}
-use Rattle.past_frame.specs.declared.record.Stop.TheVariants.{End, Cut, BadLine, ReadFault, OutOfMemory}
+use Rattle.past_frame.specs.declared.record.RecordStop.{RecordStop}
+use Rattle.past_frame.specs.declared.record.RecordStop.TheVariants.{End, Cut, BadLine, ReadFault, OutOfMemory}
 
 -- a record that was read, with its text: the body of a batch, or the path of a read
 abbrev pub record_of : Record → List ℕ → PastRecord
@@ -19,7 +19,7 @@ abbrev pub NeedsMore : ℕ → List ℕ → Type 0
 NeedsMore room bytes = (next_record room bytes ≡ no_more) ⊎ (next_record room bytes ≡ cut_short)
 
 -- why no record comes first in these bytes, where these are left to be read
-abbrev pub Stops : ℕ → List ℕ → Option (List ℕ) → Stop → Type 0
+abbrev pub Stops : ℕ → List ℕ → Option (List ℕ) → RecordStop → Type 0
 Stops room bytes left End = (bytes ≡ []) × IsAtEnd left
 Stops room bytes left Cut = (next_record room bytes ≡ cut_short) × IsAtEnd left
 Stops room bytes left BadLine = next_record room bytes ≡ no_line
@@ -27,12 +27,12 @@ Stops room bytes left ReadFault = NeedsMore room bytes
 Stops room bytes left OutOfMemory = ⊤
 
 -- the record with this text came first in these bytes, and the rest follows it; or why none did
-abbrev pub ReadsRecord : ℕ → List ℕ → List ℕ → List ℕ → Option (List ℕ) → Result Record Stop → Type 0
+abbrev pub ReadsRecord : ℕ → List ℕ → List ℕ → List ℕ → Option (List ℕ) → Result Record RecordStop → Type 0
 ReadsRecord room bytes text rest left (Ok asked) = next_record room bytes ≡ then_rest (record_of asked text) rest
 ReadsRecord room bytes text rest left (Err stop) = Stops room bytes left stop
 
 -- the source failed
-abbrev pub read_failed : {T : Type 0} → Result T Stop → Bool
+abbrev pub read_failed : {T : Type 0} → Result T RecordStop → Bool
 read_failed (Err ReadFault) = true
 read_failed _ = false
 
@@ -50,7 +50,7 @@ pub record NeedsLine (held : List ℕ) : Type 0 where
   pub none : position (λ b. b == line_feed) held ≡ None
 
 -- why no line is held
-abbrev pub StopsLine : List ℕ → Option (List ℕ) → Stop → Type 0
+abbrev pub StopsLine : List ℕ → Option (List ℕ) → RecordStop → Type 0
 StopsLine held left End = (held ≡ []) × IsAtEnd left
 StopsLine held left Cut = (0 < length held) × NeedsLine held × IsAtEnd left
 StopsLine held left BadLine = (most_line ≤ length held) × (position (λ b. b == line_feed) held ≡ None)

@@ -10,4 +10,4 @@ mod reading;
 mod record;
 
 pub use reading::{MAX_LINE, has_more, read_record};
-pub use record::{Record, Stop};
+pub use record::{Record, RecordStop};

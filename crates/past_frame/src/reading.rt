@@ -10,7 +10,7 @@ ghost use Rattle.past_frame.specs.Record.{most_line};
 ghost use Rattle.past_frame.specs.Reading.{NeedsMore, ReadsRecord, LooksOn, NeedsLine, StopsLine, read_failed};
 
 use crate::line::{Line, line_of, place_of};
-use crate::record::{Record, Stop};
+use crate::record::{Record, RecordStop};
 use http_frame::take_exact;
 use survey_link::{Failed, Inbox, Source};
 
@@ -31,7 +31,7 @@ pub fn read_record<S: Source>(
     src: &mut S,
     text: &mut Vec<u8>,
     room: usize,
-) -> Result<Record, Stop>
+) -> Result<Record, RecordStop>
     requires size { size inbox.old ≡ most_line }
     requires room { room ≤ 2 ^ 30 }
     ensures read { (came : List ℕ) × ReadsWhile S.left S.readings (NeedsMore room) (held inbox.old) src.old src.new came
@@ -68,7 +68,7 @@ fn take_record<S: Source>(
     text: &mut Vec<u8>,
     room: usize,
     end: usize,
-) -> Result<Record, Stop>
+) -> Result<Record, RecordStop>
     requires size { size inbox.old ≡ most_line }
     requires room { room ≤ 2 ^ 30 }
     requires end { position (λ b. b == line_feed) (held inbox.old) ≡ Some end }
@@ -79,14 +79,14 @@ fn take_record<S: Source>(
     ensures size { size inbox.new ≡ size inbox.old }
 {
     match line_of(room, &inbox.held()[..end]) {
-        None => Err(Stop::BadLine),
+        None => Err(RecordStop::BadLine),
         Some(Line::Batch { length }) => {
             text.resize(length, 0)?;
             inbox.give(end + 1);
             match take_exact(inbox, src, text) {
                 Ok(true) => Ok(Record::Batch),
-                Ok(false) => Err(Stop::Cut),
-                Err(Failed) => Err(Stop::ReadFault),
+                Ok(false) => Err(RecordStop::Cut),
+                Err(Failed) => Err(RecordStop::ReadFault),
             }
         }
         Some(Line::Read { k, path }) => {
@@ -98,9 +98,9 @@ fn take_record<S: Source>(
 }
 
 // Makes the path the text of the record.
-fn keep_path(text: &mut Vec<u8>, path: &[u8]) -> Result<(), Stop>
+fn keep_path(text: &mut Vec<u8>, path: &[u8]) -> Result<(), RecordStop>
     ensures kept { OnOk result (text.new.items ≡ path.now) }
-    ensures stop { OnErr result (result ≡ Err Stop.OutOfMemory) }
+    ensures stop { OnErr result (result ≡ Err RecordStop.OutOfMemory) }
 {
     text.clear();
     text.extend_from_slice(path)?;
@@ -108,7 +108,7 @@ fn keep_path(text: &mut Vec<u8>, path: &[u8]) -> Result<(), Stop>
 }
 
 // Reads until a line is held, and answers the place of its line feed.
-fn fill_line<S: Source>(inbox: &mut Inbox, src: &mut S) -> Result<usize, Stop>
+fn fill_line<S: Source>(inbox: &mut Inbox, src: &mut S) -> Result<usize, RecordStop>
     requires { size inbox.old ≡ most_line }
     ensures found { IfOk result (λ end. position (λ b. b == line_feed) (held inbox.new) ≡ Some end) }
     ensures read { (came : List ℕ) × ReadsWhile S.left S.readings NeedsLine (held inbox.old) src.old src.new came × (held inbox.new ≡ held inbox.old ++ came) }
@@ -123,14 +123,14 @@ fn fill_line<S: Source>(inbox: &mut Inbox, src: &mut S) -> Result<usize, Stop>
             return Ok(end);
         }
         if held.len() >= MAX_LINE {
-            return Err(Stop::BadLine);
+            return Err(RecordStop::BadLine);
         }
         read_more(inbox, src)?;
     }
 }
 
 // Reads once behind the bytes that are held, which are fewer than those of the longest line.
-fn read_more<S: Source>(inbox: &mut Inbox, src: &mut S) -> Result<(), Stop>
+fn read_more<S: Source>(inbox: &mut Inbox, src: &mut S) -> Result<(), RecordStop>
     requires size { size inbox.old ≡ most_line }
     requires needed { NeedsLine (held inbox.old) }
     ensures taken { Takes (held inbox.old) (held inbox.new) (S.left src.old) (S.left src.new) }
@@ -147,11 +147,11 @@ fn read_more<S: Source>(inbox: &mut Inbox, src: &mut S) -> Result<(), Stop>
             if count > 0 {
                 Ok(())
             } else if inbox.held().is_empty() {
-                Err(Stop::End)
+                Err(RecordStop::End)
             } else {
-                Err(Stop::Cut)
+                Err(RecordStop::Cut)
             }
         }
-        Err(Failed) => Err(Stop::ReadFault),
+        Err(Failed) => Err(RecordStop::ReadFault),
     }
 }

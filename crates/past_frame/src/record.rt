@@ -15,7 +15,7 @@ pub enum Record {
 
 /// Why no record was read.
 #[derive(Clone, Copy, Debug, PartialEq, Eq)]
-pub enum Stop {
+pub enum RecordStop {
     /// The input ended before it.
     End,
     /// The input ended within it.
@@ -28,13 +28,13 @@ pub enum Stop {
     OutOfMemory,
 }
 
-impl From<AllocError> for Stop {
+impl From<AllocError> for RecordStop {
     ghost use Rattle.std.specs.Prelude.{◌≡◌};
-    ghost use Rattle.past_frame.specs.declared.record.Stop.TheVariants as stop;
+    ghost use Rattle.past_frame.specs.declared.record.RecordStop.TheVariants as stop;
 
     ghost from_gives = { λ _ stopped. stopped ≡ stop.OutOfMemory };
 
-    fn from(_error: AllocError) -> Stop {
-        Stop::OutOfMemory
+    fn from(_error: AllocError) -> RecordStop {
+        RecordStop::OutOfMemory
     }
 }

@@ -12,8 +12,8 @@ use Rattle.http_frame.proofs.ReadLemmas.{reads_consume, reads_none}
 use Rattle.past_frame.specs.Laws.{RecordsStand}
 use Rattle.past_frame.specs.Record.{PastRecord, no_more, cut_short, no_line, then_rest, next_record}
 use Rattle.past_frame.specs.Reading.{NeedsMore, Stops}
-use Rattle.past_frame.specs.declared.record.Stop.{Stop}
-use Rattle.past_frame.specs.declared.record.Stop.TheVariants as stop
+use Rattle.past_frame.specs.declared.record.RecordStop.{RecordStop}
+use Rattle.past_frame.specs.declared.record.RecordStop.TheVariants as stop
 use Rattle.past_session.specs.Answers.{PastState, first_state, record_text, state_after, state_behind, output_of, past_records, past_out}
 use Rattle.past_session.specs.Costs.{record_cost, cost_from, cost_of}
 use Rattle.past_session.specs.Order.{Moment, first_moment, IsAsked, Converses, ReadsNone, AnswersPart, EndsAt, EndsBehindAll, InOrder}
@@ -189,7 +189,7 @@ module _ {S K : Type 0} (told_source : source.Ghosts S) (told_sink : sink.Ghosts
     )
 
     -- no record was read, and this is why
-    module _ (why : Stop) (none : ReadsNone told_source told_sink now last why) where
+    module _ (why : RecordStop) (none : ReadsNone told_source told_sink now last why) where
       stops : Stops (room_of d) (now.held ++ none.came) (told_source.left last.src) why
       stops = subst (λ (c : Description). Stops (room_of c) (now.held ++ none.came) (told_source.left last.src) why) g.conf none.is
 

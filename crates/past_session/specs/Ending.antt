@@ -1,13 +1,13 @@
 -- How a session ends, by why a record wasn't read, or wasn't answered whole.
 use Rattle.std.specs.Prelude.{ℕ, Bool, true, false, Result, Err}
-use Rattle.past_frame.specs.declared.record.Stop.{Stop}
-use Rattle.past_frame.specs.declared.record.Stop.TheVariants as stop
+use Rattle.past_frame.specs.declared.record.RecordStop.{RecordStop}
+use Rattle.past_frame.specs.declared.record.RecordStop.TheVariants as stop
 use Rattle.past_session.specs.declared.ending.Halt.{Halt}
 use Rattle.past_session.specs.declared.ending.Halt.TheVariants as halt
 use Rattle.past_session.specs.declared.ending.PastEnd.{PastEnd}
 use Rattle.past_session.specs.declared.ending.PastEnd.TheVariants.{Done, Cut, BadLine, ReadFault, WriteFault, OutOfMemory}
 
-abbrev pub end_of_stop : Stop → ℕ → PastEnd
+abbrev pub end_of_stop : RecordStop → ℕ → PastEnd
 end_of_stop stop.End at = Done
 end_of_stop stop.Cut at = Cut
 end_of_stop stop.BadLine at = BadLine at

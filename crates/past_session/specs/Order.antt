@@ -12,8 +12,8 @@ use Rattle.survey_link.specs.declared.sink.Sink as sink
 use Rattle.http_frame.specs.Readings.{ReadsWhile}
 use Rattle.past_frame.specs.Record.{PastRecord, then_rest, next_record}
 use Rattle.past_frame.specs.Reading.{NeedsMore, Stops}
-use Rattle.past_frame.specs.declared.record.Stop.{Stop}
-use Rattle.past_frame.specs.declared.record.Stop.TheVariants as stop
+use Rattle.past_frame.specs.declared.record.RecordStop.{RecordStop}
+use Rattle.past_frame.specs.declared.record.RecordStop.TheVariants as stop
 use Rattle.past_session.specs.Answers.{first_state}
 use Rattle.past_session.specs.Records.{room_of, most_records}
 use Rattle.past_session.specs.Run.{sink_bytes}
@@ -86,7 +86,7 @@ module _ {S K : Type 0} (told_source : source.Ghosts S) (told_sink : sink.Ghosts
   Converses (first ∷ later) old new = (asked : Moment S K) × (answered : Moment S K) × IsAsked first old asked × IsAnswered first asked answered × Converses later answered new
 
   -- no record was read
-  pub record ReadsNone (old new : Moment S K) (why : Stop) : Type 0 where
+  pub record ReadsNone (old new : Moment S K) (why : RecordStop) : Type 0 where
     pub came : List ℕ
     pub read : IsRead old new came
     pub is : Stops (room_of old.session.conf) (old.held ++ came) (told_source.left new.src) why

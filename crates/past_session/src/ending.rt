@@ -2,7 +2,7 @@
 ghost use Rattle.std.specs.Prelude.{◌≡◌};
 ghost use Rattle.past_session.specs.Ending.{end_of_stop};
 
-use past_frame::Stop;
+use past_frame::RecordStop;
 use std::alloc::AllocError;
 use survey_link::Failed;
 
@@ -74,14 +74,14 @@ impl From<Halt> for PastEnd {
 }
 
 /// How a session ends where this is why the record `at` wasn't read.
-pub(crate) fn end_of(stop: Stop, at: u64) -> PastEnd
+pub(crate) fn end_of(stop: RecordStop, at: u64) -> PastEnd
     ensures { result ≡ end_of_stop stop at }
 {
     match stop {
-        Stop::End => PastEnd::Done,
-        Stop::Cut => PastEnd::Cut,
-        Stop::BadLine => PastEnd::BadLine { at },
-        Stop::ReadFault => PastEnd::ReadFault,
-        Stop::OutOfMemory => PastEnd::OutOfMemory,
+        RecordStop::End => PastEnd::Done,
+        RecordStop::Cut => PastEnd::Cut,
+        RecordStop::BadLine => PastEnd::BadLine { at },
+        RecordStop::ReadFault => PastEnd::ReadFault,
+        RecordStop::OutOfMemory => PastEnd::OutOfMemory,
     }
 }
