@@ -152,7 +152,7 @@ fits_most shape n fits =
 -- ---- the mosaic
 
 pub mosaic_reached : {S K : Type 0} (told_source : source.Ghosts S) (told_sink : sink.Ghosts K) (k : ℕ) (own : Ask) (leaves : ℕ) (x y : Peer S K) → 0 < leaves → own ≡ File path.Allsky
-    → IsExchanged told_source told_sink own (Survey k) (body_of y) (talk x) (talk y) → Goes told_source told_sink x y → Reaches told_source told_sink k (asks_of_mosaic leaves) (TellsMosaic k leaves (body_of y)) x y
+    → IsExchanged told_source told_sink own (Survey k) (body_of y) (talk x) (talk y) → Goes told_source told_sink false false x y → Reaches told_source told_sink k (asks_of_mosaic leaves) (TellsMosaic k leaves (body_of y)) x y
 mosaic_reached told_source told_sink k own zero x y some same exchanged goes = absurd (omega (arith, some))
 mosaic_reached told_source told_sink k own (suc leaves) x y some same exchanged goes =
     one_reached told_source told_sink k (File path.Allsky) own (Survey k) x y same refl (TellsMosaic k (suc leaves) (body_of y)) (λ p q reply. reply) exchanged goes

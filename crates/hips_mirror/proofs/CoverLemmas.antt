@@ -1,5 +1,5 @@
 -- The leaves of a cover that was read.
-use Rattle.std.proofs.Common.{◌≡◌, ◌≢◌, ◌⊎◌, inl, inr, ℕ, ◌+◌, ◌<◌, true, List, [], ◌∷◌, Result, Ok, Err, length, get_or, refl, sym, ap, ◌∙◌, subst, arith}
+use Rattle.std.proofs.Common.{◌≡◌, ◌≢◌, ◌⊎◌, inl, inr, ℕ, ◌+◌, ◌<◌, true, false, List, [], ◌∷◌, Result, Ok, Err, length, get_or, refl, sym, ap, ◌∙◌, subst, arith}
 use Rattle.std.specs.Prelude.{All, IfOk, IfErr, Vec}
 use Rattle.std.specs.declared.alloc.Global.{Global}
 use Rattle.std.specs.List.{range_with_len}
@@ -92,7 +92,7 @@ no_cover d shape t body same at none =
 -- ---- the reply
 
 pub cover_reached : {S K : Type 0} (told_source : source.Ghosts S) (told_sink : sink.Ghosts K) (k : ℕ) (d : Description) (asked : Ask) (x y : Peer S K) → asked ≡ File Moc
-    → IsExchanged told_source told_sink asked (Survey k) (body_of y) (talk x) (talk y) → Goes told_source told_sink x y → (r : Result (Vec ℕ Global) MirrorRefusal) → IfOk r (λ numbers. IsCoverOf d.shape.top (body_of y) numbers.items)
+    → IsExchanged told_source told_sink asked (Survey k) (body_of y) (talk x) (talk y) → Goes told_source told_sink false false x y → (r : Result (Vec ℕ Global) MirrorRefusal) → IfOk r (λ numbers. IsCoverOf d.shape.top (body_of y) numbers.items)
     → IfOk r (λ numbers. Reaches told_source told_sink k (File Moc ∷ []) (TellsCover k d numbers.items) x y)
 cover_reached told_source told_sink k d asked x y same exchanged goes (Ok numbers) is =
     one_reached told_source told_sink k (File Moc) asked (Survey k) x y same refl (TellsCover k d numbers.items) (λ p q reply. record { body = body_of y; reply = reply; is = is }) exchanged goes

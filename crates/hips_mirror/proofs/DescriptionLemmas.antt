@@ -1,5 +1,5 @@
 -- The description that a peer tells.
-use Rattle.std.proofs.Common.{◌≡◌, ℕ, [], ◌∷◌, Result, Ok, Err, refl, sym, subst}
+use Rattle.std.proofs.Common.{◌≡◌, ℕ, false, [], ◌∷◌, Result, Ok, Err, refl, sym, subst}
 use Rattle.std.specs.Prelude.{IfOk, IfErr}
 use Rattle.survey_link.specs.declared.source.Source as source
 use Rattle.survey_link.specs.declared.sink.Sink as sink
@@ -20,7 +20,7 @@ use Rattle.hips_mirror.proofs.CopyLemmas.{properties_step}
 
 module _ {S K : Type 0} (told_source : source.Ghosts S) (told_sink : sink.Ghosts K) (k : ℕ) where
   pub properties_reached : (own : Ask) (x y : Peer S K) → own ≡ File Properties
-      → IsExchanged told_source told_sink own (Survey k) (body_of y) (talk x) (talk y) → Goes told_source told_sink x y → (r : Result PeerSurvey MirrorRefusal) → IfOk r (λ survey. IsProperties (body_of y) survey.conf) → IfOk r (λ survey. Counts survey.conf (body_of y) survey.counted)
+      → IsExchanged told_source told_sink own (Survey k) (body_of y) (talk x) (talk y) → Goes told_source told_sink false false x y → (r : Result PeerSurvey MirrorRefusal) → IfOk r (λ survey. IsProperties (body_of y) survey.conf) → IfOk r (λ survey. Counts survey.conf (body_of y) survey.counted)
       → IfOk r (λ survey. Reaches told_source told_sink k (File Properties ∷ []) (TellsProperties k survey.conf survey.counted) x y)
   properties_reached own x y same exchanged goes (Ok survey) is counts =
       one_reached told_source told_sink k (File Properties) own (Survey k) x y same refl (TellsProperties k survey.conf survey.counted)

@@ -1,5 +1,5 @@
 -- One leaf more of a copy: its request, its reply and its tile.
-use Rattle.std.proofs.Common.{◌≡◌, ℕ, ◌+◌, ◌<◌, List, [], ◌∷◌, ◌++◌, refl, sym, ap, ◌∙◌, subst, length, map, take, drop, get_or}
+use Rattle.std.proofs.Common.{◌≡◌, ℕ, ◌+◌, ◌<◌, false, List, [], ◌∷◌, ◌++◌, refl, sym, ap, ◌∙◌, subst, length, map, take, drop, get_or}
 use Rattle.std.specs.Prelude.{slice_get}
 use Rattle.std.specs.Map.{keys_of}
 use Rattle.std.proofs.lemmas.List.{take_more, map-append, take-append-drop}
@@ -32,7 +32,7 @@ module _ {S K : Type 0} (told_source : source.Ghosts S) (told_sink : sink.Ghosts
   one_more = sym (ap asked (take_more numbers i 0 h) ∙ map-append (leaf_ask d.shape.top) (take i numbers) (number ∷ []))
 
   pub leaf_reached : (own : Ask) (z : Peer S K) (tiles' : LeafTiles) → own ≡ leaf_ask d.shape.top number
-      → IsExchanged told_source told_sink own (Survey k) (body_of z) (talk y) (talk z) → Goes told_source told_sink y z → PutsLeaf d number (body_of z) tiles tiles'
+      → IsExchanged told_source told_sink own (Survey k) (body_of z) (talk y) (talk z) → Goes told_source told_sink false false y z → PutsLeaf d number (body_of z) tiles tiles'
       → Reaches told_source told_sink k (asked (take (i + 1) numbers)) (λ bytes rest. AreLeaves k d bytes (leaf_map tiles') rest) x z
   leaf_reached own z tiles' same exchanged goes puts =
       let one = one_reached told_source told_sink k (leaf_ask d.shape.top number) own (Survey k) y z same refl (TellsLeaf k d (leaf_map tiles) (leaf_map tiles')) (put_tells d number (body_of z) tiles tiles' k puts) exchanged goes in

@@ -1,5 +1,5 @@
 -- What a whole copy does, once its files are on the shelf.
-use Rattle.std.proofs.Common.{◌≡◌, ◌⊎◌, inl, inr, ℕ, ◌+◌, ◌≤◌, List, Option, Result, Ok, Err, sym, subst, length}
+use Rattle.std.proofs.Common.{◌≡◌, ◌⊎◌, inl, inr, ℕ, ◌+◌, ◌≤◌, false, List, Option, Result, Ok, Err, refl, sym, ap, subst, length}
 use Rattle.std.specs.Prelude.{◌≢◌, IfOk, IfErr, OnOk, OnErr}
 use Rattle.std.specs.Map.{keys_of}
 use Rattle.std.specs.FinMap.{len}
@@ -12,7 +12,7 @@ use Rattle.shelf_io.specs.Survey.{Replaces, OthersStay}
 use Rattle.mirror_frame.specs.Requests.{mirror_requests}
 use Rattle.hips_mirror.specs.declared.refusal.MirrorRefusal.{MirrorRefusal}
 use Rattle.hips_mirror.specs.declared.refusal.MirrorRefusal.TheVariants.{ShelfFault, OutOfMemory}
-use Rattle.hips_mirror.specs.Mirror.{IsCopy, Refuses, at_pin, TrueOf, Talks, Copies, StepsFit}
+use Rattle.hips_mirror.specs.Mirror.{IsCopy, Refuses, at_pin, TrueOf, Talks, Copies, StepsFit, is_read_fault, is_write_fault, is_err_and}
 use Rattle.hips_mirror.proofs.ToldLemmas.{true_of_all}
 use Rattle.hips_mirror.proofs.LeavesLemmas.{map_keys, map_length}
 use Rattle.hips_mirror.proofs.StepsLemmas.{copy_fits}
@@ -60,3 +60,9 @@ pub shelf_touched : {T : Type 0} (old new : Option ShelfFiles) (r : Result T Mir
 shelf_touched old new (Ok t) why = tt
 shelf_touched old new (Err e) (inl fault) = λ no_fault memory. absurd (no_fault fault)
 shelf_touched old new (Err e) (inr none) = λ no_fault memory. absurd (memory none)
+
+-- putting files on the shelf is no fault of the ends
+pub shelf_alone : {T : Type 0} (r : Result T MirrorRefusal) → IfErr r (λ refusal. (refusal ≡ ShelfFault) ⊎ (refusal ≡ OutOfMemory)) → (is_err_and is_read_fault r ≡ false) × (is_err_and is_write_fault r ≡ false)
+shelf_alone (Ok t) why = (refl, refl)
+shelf_alone (Err e) (inl fault) = (ap is_read_fault fault, ap is_write_fault fault)
+shelf_alone (Err e) (inr none) = (ap is_read_fault none, ap is_write_fault none)

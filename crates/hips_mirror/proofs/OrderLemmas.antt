@@ -1,5 +1,5 @@
 -- The order of a copy's requests and replies, and what was written in it.
-use Rattle.std.proofs.Common.{◌≡◌, ◌≢◌, ◌⊎◌, inl, inr, ℕ, List, [], ◌∷◌, ◌++◌, Option, Some, None, Result, Ok, Err, refl, sym, ap, ◌∙◌, subst}
+use Rattle.std.proofs.Common.{◌≡◌, ◌≢◌, ◌⊎◌, inl, inr, ℕ, false, List, [], ◌∷◌, ◌++◌, Option, Some, None, Result, Ok, Err, refl, sym, ap, ◌∙◌, subst}
 use Rattle.std.specs.Prelude.{IfOk, IfErr, OnOk, OnErr}
 use Rattle.std.specs.Map.{keys_of}
 use Rattle.std.specs.Io.KnownBytes.{Appends}
@@ -12,15 +12,15 @@ use Rattle.mirror_frame.specs.Requests.{asks, later_asks, mirror_requests}
 use Rattle.mirror_frame.specs.declared.ask.Ask.TheVariants.{Pin, File}
 use Rattle.mirror_frame.specs.Reading.{unread}
 use Rattle.mirror_frame.specs.Exchange.{Talk}
-use Rattle.mirror_frame.specs.Peer.{talk}
+use Rattle.mirror_frame.specs.Peer.{talk, Goes}
 use Rattle.mirror_frame.specs.declared.peer.Peer.{Peer}
 use Rattle.mirror_frame.proofs.Exchanges.{conversed_sent, conversed_flushed}
 use Rattle.hips_mirror.specs.declared.refusal.MirrorRefusal.{MirrorRefusal}
 use Rattle.hips_mirror.specs.declared.refusal.MirrorRefusal.TheVariants.{OutOfMemory}
-use Rattle.hips_mirror.specs.Mirror.{IsCopy, Refuses, TrueOf, StepsFit}
+use Rattle.hips_mirror.specs.Mirror.{IsCopy, Refuses, TrueOf, StepsFit, is_read_fault, is_write_fault, is_shelf_fault, is_err_and}
 use Rattle.hips_mirror.specs.Stages.{Reaches, IsRefused}
 use Rattle.hips_mirror.specs.Order.{IsWhole, InOrder}
-use Rattle.hips_mirror.proofs.StageLemmas.{unread_led}
+use Rattle.hips_mirror.proofs.StageLemmas.{unread_led, no_shelf}
 
 no_asks : (top : ℕ) (leaves : List ℕ) → asks top leaves ≢ []
 no_asks top leaves none = cc
@@ -57,6 +57,17 @@ module _ {S K : Type 0} (told_source : source.Ghosts S) (told_sink : sink.Ghosts
   pub whole_anyhow : {T : Type 0} (old new : Talk S K) (r : Result T MirrorRefusal) → IsWhole told_source told_sink old new → InOrder told_source told_sink old new r
   whole_anyhow old new (Ok t) whole = whole
   whole_anyhow old new (Err why) whole = inr whole
+
+  -- what a copy does to the ends, and that the shelf isn't what fails
+  pub goes_of : (x y : Peer S K) (r : Result GenerationContent MirrorRefusal)
+      → IfOk r (λ made. (k : ℕ) × Reaches told_source told_sink k (asks made.conf.shape.top (keys_of made.leaves)) (λ bytes rest. IsCopy bytes made.conf (leaf_map made.leaves)) x y)
+      → IfErr r (IsRefused told_source told_sink x y) → Goes told_source told_sink (is_err_and is_read_fault r) (is_err_and is_write_fault r) x y
+  goes_of x y (Ok made) copied refused = copied.1.goes
+  goes_of x y (Err why) copied refused = refused.stopped.goes
+
+  pub not_of_shelf : {T : Type 0} (x y : Peer S K) (r : Result T MirrorRefusal) → IfErr r (IsRefused told_source told_sink x y) → is_err_and is_shelf_fault r ≡ false
+  not_of_shelf x y (Ok made) refused = refl
+  not_of_shelf x y (Err why) refused = no_shelf told_source told_sink x y why refused
 
   module _ (x y : Peer S K) (start : Talk S K) (begins : talk x ≡ start) where
     pub order_of : (r : Result GenerationContent MirrorRefusal)

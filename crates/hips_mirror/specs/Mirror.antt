@@ -1,7 +1,7 @@
 -- What the bytes of a peer make of a copy of its survey, stage by stage: the description, the cover, the leaves one by one, the
 -- mosaic and the last reply. The files are those of HiPS 1.0 (section 4). Which requests are sent, in which order the replies
 -- are judged, and what is refused is this project's profile.
-use Rattle.std.specs.Prelude.{◌≡◌, ◌≢◌, ◌⊎◌, ℕ, ◌<◌, ◌+◌, ◌-◌, ◌*◌, ◌≤◌, ◌==◌, ◌&&◌, ◌||◌, not, nat_le, nat_lt, Bool, true, false, List, [], ◌∷◌, ◌++◌, codes, length, map, take, slice_get, slice_index, All, Option, Some, None, Ok, Err, ⊤}
+use Rattle.std.specs.Prelude.{◌≡◌, ◌≢◌, ◌⊎◌, ℕ, ◌<◌, ◌+◌, ◌-◌, ◌*◌, ◌≤◌, ◌==◌, ◌&&◌, ◌||◌, not, nat_le, nat_lt, Bool, true, false, List, [], ◌∷◌, ◌++◌, codes, length, map, take, slice_get, slice_index, All, Option, Some, None, Result, Ok, Err, ⊤}
 use Rattle.std.specs.Map.{keys_of}
 use Rattle.std.specs.FinMap.{len}
 use Rattle.std.specs.Io.KnownBytes.{Appends}
@@ -199,6 +199,24 @@ pub data Refuses (bytes : List ℕ) (refusal : MirrorRefusal) : Type 0 where
       → RefusesReply Any (last_request (keys_of leaves)) unread refusal → Refuses bytes refusal
 
 -- ---- what a copy does
+
+-- the source failed; the sink; the shelf
+abbrev pub is_read_fault : MirrorRefusal → Bool
+is_read_fault ReadFault = true
+is_read_fault _ = false
+
+abbrev pub is_write_fault : MirrorRefusal → Bool
+is_write_fault WriteFault = true
+is_write_fault _ = false
+
+abbrev pub is_shelf_fault : MirrorRefusal → Bool
+is_shelf_fault ShelfFault = true
+is_shelf_fault _ = false
+
+-- there is no result, for such a reason
+abbrev pub is_err_and : {T E : Type 0} → (E → Bool) → Result T E → Bool
+is_err_and test (Ok value) = false
+is_err_and test (Err why) = test why
 
 -- this is true of the bytes that are left, where the proof can see them; of some bytes, where it can't
 abbrev pub TrueOf : Option (List ℕ) → (List ℕ → Type 0) → Type 0

@@ -1,7 +1,6 @@
 -- What the steps of a copy say.
-use Rattle.std.specs.Prelude.{◌≡◌, ◌≢◌, ◌⊎◌, ◌↔◌, ℕ, zero, suc, ◌<◌, ◌^◌, ◌+◌, nat_lt, if◌then◌else◌, ℤ, List, [], ◌∷◌, ◌++◌, Ok, Option, Some, ⊤}
+use Rattle.std.specs.Prelude.{◌≡◌, ◌≢◌, ◌⊎◌, ◌↔◌, ℕ, zero, suc, ◌<◌, ◌^◌, ◌+◌, nat_lt, if◌then◌else◌, ℤ, List, [], ◌∷◌, ◌++◌, Ok, Option, Some, false, ⊤}
 use Rattle.std.specs.Io.KnownBytes.{Consumes}
-use Rattle.survey_link.specs.Link.{Rises}
 use Rattle.survey_link.specs.declared.source.Source as source
 use Rattle.survey_link.specs.declared.sink.Sink as sink
 use Rattle.survey_conf.specs.Description.{Description}
@@ -23,7 +22,7 @@ use Rattle.mirror_frame.specs.declared.reading.Stop.{Stop}
 use Rattle.mirror_frame.specs.declared.reading.Stop.TheVariants as stop
 use Rattle.hips_mirror.specs.declared.refusal.MirrorRefusal.{MirrorRefusal}
 use Rattle.hips_mirror.specs.declared.refusal.MirrorRefusal.TheVariants as refusal
-use Rattle.hips_mirror.specs.Mirror.{Described, Covered, HasLeaves, IsProperties, IsCoverOf, Refuses, TrueOf}
+use Rattle.hips_mirror.specs.Mirror.{Described, Covered, HasLeaves, IsProperties, IsCoverOf, Refuses, TrueOf, is_read_fault, is_write_fault}
 
 -- the number of leaves with which the description's properties are this body; none where there is no such number
 abbrev pub Counts : Description → List ℕ → Option ℕ → Type 0
@@ -126,21 +125,7 @@ module _ {S K : Type 0} (told_source : source.Ghosts S) (told_sink : sink.Ghosts
     pub came : List ℕ
     pub taken : Consumes (told_source.left old.src.now) (told_source.left new.src.now) came
     pub leads : (more : List ℕ) → Leads ((talk old).held ++ (came ++ more)) ((talk new).held ++ more)
-    pub goes : Goes told_source told_sink old new
-
-  -- a fault of an end comes only where its count of faults rose, and none of the shelf
-  abbrev pub FaultRose : Peer S K → Peer S K → MirrorRefusal → Type 0
-  FaultRose old new refusal.ReadFault = Rises (told_source.faults old.src.now) (told_source.faults new.src.now)
-  FaultRose old new refusal.WriteFault = Rises (told_sink.faults old.sink.now) (told_sink.faults new.sink.now)
-  FaultRose old new refusal.ShelfFault = ⊥
-  FaultRose old new refusal.Properties = ⊤
-  FaultRose old new refusal.Cover = ⊤
-  FaultRose old new refusal.Cut = ⊤
-  FaultRose old new refusal.OutOfMemory = ⊤
-  FaultRose old new (refusal.Reply request) = ⊤
-  FaultRose old new (refusal.TooLarge count) = ⊤
-  FaultRose old new (refusal.Leaf cell fault) = ⊤
-  FaultRose old new (refusal.Differs path) = ⊤
+    pub goes : Goes told_source told_sink false false old new
 
   -- this is true of the unread bytes: those held, and those left
   abbrev pub TrueOfUnread : Peer S K → (List ℕ → Type 0) → Type 0
@@ -150,8 +135,7 @@ module _ {S K : Type 0} (told_source : source.Ghosts S) (told_sink : sink.Ghosts
   pub record IsRefusedIn (k : ℕ) (asks : List Ask) (Refused : List ℕ → Type 0) (old new : Peer S K) (why : MirrorRefusal) : Type 0 where
     pub stops : StopsIn told_source told_sink k (Tells why) (IsOfBody why) asks (talk old) (talk new)
     pub refused : TrueOfUnread old Refused
-    pub faults : FaultRose old new why
-    pub goes : Goes told_source told_sink old new
+    pub goes : Goes told_source told_sink (is_read_fault why) (is_write_fault why) old new
 
   -- a copy of some leaves was refused: one of its requests at least has no reply
   pub record IsRefused (old new : Peer S K) (why : MirrorRefusal) : Type 0 where

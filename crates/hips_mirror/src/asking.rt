@@ -6,8 +6,8 @@ ghost use Rattle.mirror_frame.specs.Exchange.{IsExchanged, BreaksOff};
 ghost use Rattle.mirror_frame.specs.Peer.{talk, body_of, Goes};
 ghost use Rattle.mirror_frame.specs.declared.due.Due.TheVariants.{Pinned};
 ghost use Rattle.mirror_frame.specs.declared.reading.Stop.{Stop as Stopped};
-ghost use Rattle.hips_mirror.specs.Mirror.{RefusesReply};
-ghost use Rattle.hips_mirror.specs.Stages.{FaultRose, TrueOfUnread, of_stop};
+ghost use Rattle.hips_mirror.specs.Mirror.{RefusesReply, is_read_fault, is_write_fault, is_err_and};
+ghost use Rattle.hips_mirror.specs.Stages.{TrueOfUnread, of_stop};
 
 use crate::refusal::MirrorRefusal;
 use crate::saying::{Request, say_stop};
@@ -21,7 +21,7 @@ use survey_link::{Sink, Source};
 /// # Errors
 ///
 /// `Reply` with the number of the request if and only if the reply is malformed; `Cut` if and only if the input ends within it;
-/// `ReadFault` and `WriteFault` only where that count rose; `OutOfMemory`.
+/// `ReadFault` and `WriteFault` if and only if that end's count of faults rose; `OutOfMemory`.
 pub(crate) fn ask<R: Log, S: Source, K: Sink>(
     rt: &R,
     peer: &mut Peer<'_, '_, '_, S, K>,
@@ -34,8 +34,7 @@ pub(crate) fn ask<R: Log, S: Source, K: Sink>(
         (λ refusal. (stop : Stopped) × (refusal ≡ of_stop stop request.now.number) × BreaksOff S.Source K.Sink request.now.ask due (talk peer.old) (talk peer.new) stop) }
     ensures pinned { due ≡ Pinned → IfOk result (λ prefix. IsSome prefix × IfSome prefix (λ k. body_of peer.new ≡ pinned_line k)) }
     ensures refused { IfErr result (λ refusal. TrueOfUnread S.Source K.Sink peer.old (λ bytes. RefusesReply due request.now.number bytes refusal)) }
-    ensures faults { IfErr result (FaultRose S.Source K.Sink peer.old peer.new) }
-    ensures goes { Goes S.Source K.Sink peer.old peer.new }
+    ensures goes { Goes S.Source K.Sink (is_err_and is_read_fault result) (is_err_and is_write_fault result) peer.old peer.new }
 {
     match peer.ask(&request.ask, due) {
         Ok(prefix) => Ok(prefix),

@@ -1,15 +1,15 @@
 //! From a peer to a shelf.
-ghost use Rattle.std.specs.Prelude.{◌≡◌, ◌≢◌, ◌⊎◌, ◌≤◌, ◌+◌, ℕ, List, [], length, Err, IfOk, IfErr, OnOk, OnErr, IsErrOf};
+ghost use Rattle.std.specs.Prelude.{◌≡◌, ◌≢◌, ◌⊎◌, ◌≤◌, ◌+◌, ℕ, List, [], length, false, IfOk, IfErr, OnOk, OnErr};
 ghost use Rattle.std.specs.FinMap.{len};
 ghost use Rattle.std.specs.Map.{keys_of};
 ghost use Rattle.std.specs.Io.KnownBytes.{Appends};
-ghost use Rattle.survey_link.specs.Link.{Rises};
+ghost use Rattle.survey_link.specs.Link.{CountsFault};
 ghost use Rattle.mirror_frame.specs.Requests.{asks, mirror_requests};
-ghost use Rattle.mirror_frame.specs.Peer.{unread_at, Goes};
+ghost use Rattle.mirror_frame.specs.Peer.{unread_at};
 ghost use Rattle.generation.specs.Files.{leaf_map, files_in};
 ghost use Rattle.generation.specs.Steps.{tiles_above};
 ghost use Rattle.shelf_io.specs.Survey.{Replaces, OthersStay};
-ghost use Rattle.hips_mirror.specs.Mirror.{IsCopy, Refuses, TrueOf, Talks, Copies, StepsFit};
+ghost use Rattle.hips_mirror.specs.Mirror.{IsCopy, Refuses, TrueOf, Talks, Copies, StepsFit, is_read_fault, is_write_fault, is_shelf_fault, is_err_and};
 ghost use Rattle.hips_mirror.specs.Stages.{Reaches, IsRefused};
 ghost use Rattle.hips_mirror.specs.Order.{InOrder};
 
@@ -41,8 +41,8 @@ use survey_link::{Gate, LinkFault, Shelf, Sink, Source};
 /// The first of these that applies, by the order of the requests, each if and only if: `Reply`: that reply is malformed; `Cut`:
 /// the input ends within it; `Properties`, `Cover`, `Leaf`: that body is refused; `TooLarge`: the cover has more than 65,000
 /// leaves, or these are charged with more than 2^29 bytes; `Differs`: the properties, or else the mosaic, isn't that of the
-/// leaves. `ReadFault`, `WriteFault` and `ShelfFault` only where that count rose.
-/// `OutOfMemory`. The shelf is changed only after the last reply.
+/// leaves. `ReadFault`, `WriteFault` and `ShelfFault` if and only if that one's count of faults rose. `OutOfMemory`. The shelf is
+/// changed only after the last reply.
 pub fn mirror<R: Threads + Sync + Clock + Log, S: Source, K: Sink, H: Shelf, G: Gate + Sync>(
     rt: &R,
     alloc: Global,
@@ -61,12 +61,9 @@ pub fn mirror<R: Threads + Sync + Clock + Log, S: Source, K: Sink, H: Shelf, G: 
         → H.files shelf.new ≡ H.files shelf.old) }
     ensures last { OnErr result ((H.files shelf.new ≡ H.files shelf.old)
         ⊎ (Talks (S.left src.old) (K.held sink.old) (K.held sink.new) × OthersStay (H.files shelf.old) (H.files shelf.new))) }
-    ensures read_failed { IsErrOf result MirrorRefusal.ReadFault → Rises (S.faults src.old) (S.faults src.new) }
-    ensures write_failed { IsErrOf result MirrorRefusal.WriteFault → Rises (K.faults sink.old) (K.faults sink.new) }
-    ensures shelf_failed { IsErrOf result MirrorRefusal.ShelfFault → Rises (H.faults shelf.old) (H.faults shelf.new) }
-    ensures reads_never_fall { S.faults src.old ≤ S.faults src.new }
-    ensures writes_never_fall { K.faults sink.old ≤ K.faults sink.new }
-    ensures shelf_never_falls { H.faults shelf.old ≤ H.faults shelf.new }
+    ensures read_fault { CountsFault (is_err_and is_read_fault result) (S.faults src.old) (S.faults src.new) }
+    ensures write_fault { CountsFault (is_err_and is_write_fault result) (K.faults sink.old) (K.faults sink.new) }
+    ensures shelf_fault { CountsFault (is_err_and is_shelf_fault result) (H.faults shelf.old) (H.faults shelf.new) }
     ensures steps { OnErr result ((steps.new ≡ steps.old) ⊎ StepsFit (S.left src.old) steps.old steps.new) }
     ensures steps_never_fall { steps.old ≤ steps.new }
 {
@@ -87,8 +84,7 @@ fn put_files<R: Clock + Log, H: Shelf>(
     ensures replaced { OnOk result (Replaces (files_in generation.now) (H.files shelf.old) (H.files shelf.new)) }
     ensures refused { IfErr result (λ refusal. (refusal ≡ MirrorRefusal.ShelfFault) ⊎ (refusal ≡ MirrorRefusal.OutOfMemory)) }
     ensures others { OnErr result (OthersStay (H.files shelf.old) (H.files shelf.new)) }
-    ensures failed { IsErrOf result MirrorRefusal.ShelfFault → Rises (H.faults shelf.old) (H.faults shelf.new) }
-    ensures never_falls { H.faults shelf.old ≤ H.faults shelf.new }
+    ensures faults { CountsFault (is_err_and is_shelf_fault result) (H.faults shelf.old) (H.faults shelf.new) }
 {
     match export(rt, alloc, shelf, generation) {
         Ok(count) => Ok(count),
@@ -111,11 +107,9 @@ fn copy<R: Threads + Sync + Clock + Log, S: Source, K: Sink, G: Gate + Sync>(
     ensures flushed { OnOk result (K.flushed sink.new ≡ K.held sink.new) }
     ensures order { (held : List ℕ) × InOrder S.Source K.Sink (record { src = src.old; sink = sink.old; held = [] }) (record { src = src.new; sink = sink.new; held = held }) result }
     ensures refused { IfErr result (λ refusal. TrueOf (S.left src.old) (λ bytes. Refuses bytes refusal)) }
-    ensures no_shelf { result ≢ Err MirrorRefusal.ShelfFault }
-    ensures read_failed { IsErrOf result MirrorRefusal.ReadFault → Rises (S.faults src.old) (S.faults src.new) }
-    ensures write_failed { IsErrOf result MirrorRefusal.WriteFault → Rises (K.faults sink.old) (K.faults sink.new) }
-    ensures reads_never_fall { S.faults src.old ≤ S.faults src.new }
-    ensures writes_never_fall { K.faults sink.old ≤ K.faults sink.new }
+    ensures no_shelf { is_err_and is_shelf_fault result ≡ false }
+    ensures read_fault { CountsFault (is_err_and is_read_fault result) (S.faults src.old) (S.faults src.new) }
+    ensures write_fault { CountsFault (is_err_and is_write_fault result) (K.faults sink.old) (K.faults sink.new) }
     ensures few { IfOk result (λ made. steps.new ≤ steps.old + (length made.leaves + tiles_above made.conf.shape (leaf_map made.leaves))) }
     ensures steps { OnErr result ((steps.new ≡ steps.old) ⊎ StepsFit (S.left src.old) steps.old steps.new) }
     ensures steps_never_fall { steps.old ≤ steps.new }
@@ -140,7 +134,6 @@ fn copy_from<R: Threads + Sync + Clock + Log, S: Source, K: Sink, G: Gate + Sync
     ensures copied { IfOk result (λ made. (k : ℕ) × Reaches S.Source K.Sink k (asks made.conf.shape.top (keys_of made.leaves))
         (λ bytes rest. IsCopy bytes made.conf (leaf_map made.leaves)) peer.old peer.new) }
     ensures refused { IfErr result (IsRefused S.Source K.Sink peer.old peer.new) }
-    ensures goes { Goes S.Source K.Sink peer.old peer.new }
     ensures few { IfOk result (λ made. steps.new ≤ steps.old + (length made.leaves + tiles_above made.conf.shape (leaf_map made.leaves))) }
     ensures steps { OnErr result ((steps.new ≡ steps.old) ⊎ StepsFit (unread_at S.Source peer.old) steps.old steps.new) }
     ensures steps_never_fall { steps.old ≤ steps.new }

@@ -5,7 +5,7 @@ use Rattle.shelf_io.proofs.LoadLemmas.{if_err_from}
 use Rattle.hips_mirror.specs.declared.refusal.MirrorRefusal.TheVariants.{OutOfMemory}
 use Rattle.hips_mirror.specs.Mirror.{Refuses, at_pin, TrueOf}
 use Rattle.hips_mirror.proofs.ToldLemmas.{true_of_all}
-use Rattle.hips_mirror.proofs.OrderLemmas.{nothing_sent, order_of, sent_of, flushed_of, copied_of, refused_of, steps_from}
+use Rattle.hips_mirror.proofs.OrderLemmas.{nothing_sent, goes_of, not_of_shelf, order_of, sent_of, flushed_of, copied_of, refused_of, steps_from}
 use Rattle.hips_mirror.proofs.copying.copy.Goals as goal
 
 pub returns-in_err-received-clause-order : goal.returns-in_err-received-clause-order
@@ -15,6 +15,7 @@ returns-in_err-received-clause-order g c =
 
 pub returns-clause-order : goal.returns-clause-order
 returns-clause-order g c =
+    let goes = goes_of g.S.Source g.K.Sink _ _ c.copy_from.result c.copy_from.ensures.copied c.copy_from.ensures.refused in
     let begins = ap (λ h. record { src = c.args.src.now; sink = c.args.sink.now; held = h }) c.in_ok-received.ensures in
     let src : c.src-1.given.0 ≡ c.copy_from.new.peer.src.now = search rules in
     let sink : c.sink-1.given.0 ≡ c.copy_from.new.peer.sink.now = search rules in
@@ -23,12 +24,14 @@ returns-clause-order g c =
 
 pub returns-clause-sent : goal.returns-clause-sent
 returns-clause-sent g c =
+    let goes = goes_of g.S.Source g.K.Sink _ _ c.copy_from.result c.copy_from.ensures.copied c.copy_from.ensures.refused in
     let begins = ap (λ h. record { src = c.args.src.now; sink = c.args.sink.now; held = h }) c.in_ok-received.ensures in
     let sink : c.sink-1.given.0 ≡ c.copy_from.new.peer.sink.now = search rules in
     rw sink (sent_of g.S.Source g.K.Sink _ _ _ begins c.copy_from.result c.copy_from.ensures.copied)
 
 pub returns-clause-flushed : goal.returns-clause-flushed
 returns-clause-flushed g c =
+    let goes = goes_of g.S.Source g.K.Sink _ _ c.copy_from.result c.copy_from.ensures.copied c.copy_from.ensures.refused in
     let begins = ap (λ h. record { src = c.args.src.now; sink = c.args.sink.now; held = h }) c.in_ok-received.ensures in
     let sink : c.sink-1.given.0 ≡ c.copy_from.new.peer.sink.now = search rules in
     rw sink (flushed_of g.S.Source g.K.Sink _ _ _ begins c.copy_from.result c.copy_from.ensures.copied)
@@ -50,3 +53,18 @@ pub returns-in_err-received-clause-refused : goal.returns-in_err-received-clause
 returns-in_err-received-clause-refused g c =
     if_err_from (λ why. TrueOf (g.S.Source.left c.args.src.now) (λ bytes. Refuses bytes why)) c.from_residual.result OutOfMemory (err_from_is_err_and c.from_residual.result c.from_residual.ensures.1)
     (true_of_all (g.S.Source.left c.args.src.now) (λ bytes. Refuses bytes OutOfMemory) (λ bytes. at_pin tt))
+
+pub returns-clause-no_shelf : goal.returns-clause-no_shelf
+returns-clause-no_shelf g c = not_of_shelf g.S.Source g.K.Sink _ _ c.copy_from.result c.copy_from.ensures.refused
+
+pub returns-clause-read_fault : goal.returns-clause-read_fault
+returns-clause-read_fault g c =
+    let goes = goes_of g.S.Source g.K.Sink _ _ c.copy_from.result c.copy_from.ensures.copied c.copy_from.ensures.refused in
+    let src : c.src-1.given.0 ≡ c.copy_from.new.peer.src.now = search rules in
+    rw src goes.source
+
+pub returns-clause-write_fault : goal.returns-clause-write_fault
+returns-clause-write_fault g c =
+    let goes = goes_of g.S.Source g.K.Sink _ _ c.copy_from.result c.copy_from.ensures.copied c.copy_from.ensures.refused in
+    let sink : c.sink-1.given.0 ≡ c.copy_from.new.peer.sink.now = search rules in
+    rw sink goes.sink

@@ -14,7 +14,7 @@ use Rattle.hips_mirror.specs.Mirror.{IsCopy}
 use Rattle.hips_mirror.specs.Stages.{IsRefused, Reaches, unpin_request}
 use Rattle.hips_mirror.proofs.ToldLemmas.{err_given, of_err, of_ok, given_ok}
 use Rattle.hips_mirror.proofs.StepsLemmas.{leaves_few}
-use Rattle.hips_mirror.proofs.StageLemmas.{one_refused, one_reached, goes_then}
+use Rattle.hips_mirror.proofs.StageLemmas.{one_refused, one_reached}
 use Rattle.hips_mirror.proofs.CopyLemmas.{fits_most, stops_at_description, stops_at_cover, reaches_cover, told_numbers, stops_at_leaves, reaches_leaves, stops_at_mosaic, reaches_files, stops_at_files, stops_at_unpin, copied_whole, built_wrong, built_of_body, mosaic_wrong, mosaic_of_body, mosaic_is, some_ask}
 use Rattle.hips_mirror.proofs.copying.copy_from.Goals as goal
 
@@ -246,7 +246,7 @@ returns-in_err-ask-clause-refused g c =
     if_err_from (IsRefused g.S.Source g.K.Sink x c.ask.new.peer) c.from_residual-in_err-ask.result why (err_from_is_err_and c.from_residual-in_err-ask.result c.from_residual-in_err-ask.ensures.1)
     (stops_at_unpin g.S.Source g.K.Sink s.pinned s.conf s.counted x ns ts keys body few told same c.read_mosaic.new.peer c.ask.new.peer came why
     (one_refused g.S.Source g.K.Sink s.pinned Unpin c.unpin.result.ask Any c.read_mosaic.new.peer c.ask.new.peer c.unpin.ensures.ask refl c.unpin.result.number (unpin_request (length ts)) why at
-    c.in_err-ask.ensures.asked c.in_err-ask.ensures.refused c.in_err-ask.ensures.faults c.ask.ensures.goes) (λ none. some_ask Unpin [] none))
+    c.in_err-ask.ensures.asked c.in_err-ask.ensures.refused c.in_err-ask.ensures.goes) (λ none. some_ask Unpin [] none))
 
 pub returns-clause-copied : goal.returns-clause-copied
 returns-clause-copied g c =
@@ -268,102 +268,8 @@ returns-clause-copied g c =
     let reply = body_of c.ask.new.peer in
     let whole = copied_whole g.S.Source g.K.Sink s.pinned s.conf s.counted x ns ts keys body few told same c.read_mosaic.new.peer c.ask.new.peer came reply
     (one_reached g.S.Source g.K.Sink s.pinned Unpin c.unpin.result.ask Any c.read_mosaic.new.peer c.ask.new.peer c.unpin.ensures.ask refl (λ bytes rest. IsReply Any bytes reply rest)
-    (λ p q r. r) c.in_ok-ask.ensures.asked c.ask.ensures.goes) in (
+    (λ p q r. r) c.in_ok-ask.ensures.asked c.in_ok-ask.ensures.goes) in (
       s.pinned,
       subst (λ (made : GenerationContent). Reaches g.S.Source g.K.Sink s.pinned (asks made.conf.shape.top (keys_of made.leaves)) (λ bytes rest. IsCopy bytes made.conf (leaf_map made.leaves)) x c.ask.new.peer) (sym made)
           (subst (λ ks. Reaches g.S.Source g.K.Sink s.pinned (asks s.conf.shape.top ks) (λ bytes rest. IsCopy bytes s.conf (leaf_map ts)) x c.ask.new.peer) (sym keys) whole),
     )
-
-pub returns-in_err-numbers-clause-goes : goal.returns-in_err-numbers-clause-goes
-returns-in_err-numbers-clause-goes g c =
-    let x = c.args.peer.now in
-    let s = c.in_ok-survey.survey in
-    goes_then g.S.Source g.K.Sink x c.read_description.new.peer c.read_cover.new.peer c.in_ok-survey.ensures.reached.goes c.in_err-numbers.ensures.refused.goes
-
-pub returns-in_err-leaves-clause-goes : goal.returns-in_err-leaves-clause-goes
-returns-in_err-leaves-clause-goes g c =
-    let x = c.args.peer.now in
-    let s = c.in_ok-survey.survey in
-    let ns = c.in_ok-numbers.numbers.items in
-    let covered = reaches_cover g.S.Source g.K.Sink s.pinned s.conf s.counted x ns c.read_description.new.peer c.read_cover.new.peer c.in_ok-numbers.ensures.fits c.in_ok-survey.ensures.reached c.in_ok-numbers.ensures.reached in
-    goes_then g.S.Source g.K.Sink x c.read_cover.new.peer c.read_leaves.new.peer covered.goes c.in_err-leaves.ensures.refused.goes
-
-pub returns-in_err-read_mosaic-clause-goes : goal.returns-in_err-read_mosaic-clause-goes
-returns-in_err-read_mosaic-clause-goes g c =
-    let x = c.args.peer.now in
-    let s = c.in_ok-survey.survey in
-    let ns = c.in_ok-numbers.numbers.items in
-    let covered = reaches_cover g.S.Source g.K.Sink s.pinned s.conf s.counted x ns c.read_description.new.peer c.read_cover.new.peer c.in_ok-numbers.ensures.fits c.in_ok-survey.ensures.reached c.in_ok-numbers.ensures.reached in
-    let ts = c.in_ok-leaves.leaves in
-    let keys : keys_of ts ≡ ns = c.in_ok-leaves.ensures.keys ∙ c.deref.ensures.value in
-    let has = reaches_leaves g.S.Source g.K.Sink s.pinned s.conf s.counted x ns ts keys c.read_cover.new.peer c.read_leaves.new.peer covered (rw c.deref.ensures.value at c.in_ok-leaves.ensures.reached) in
-    let most : length ts ≤ 65000 = omega (arith, length-keys_of ts, ap length keys, fits_most s.conf.shape (length ns) c.in_ok-numbers.ensures.fits) in
-    goes_then g.S.Source g.K.Sink x c.read_leaves.new.peer c.read_mosaic.new.peer has.goes c.in_err-read_mosaic.ensures.refused.1.goes
-
-pub returns-in_err-survey-clause-goes : goal.returns-in_err-survey-clause-goes
-returns-in_err-survey-clause-goes g c =
-    c.in_err-survey.ensures.refused.1.goes
-
-pub returns-in_err-generation-clause-goes : goal.returns-in_err-generation-clause-goes
-returns-in_err-generation-clause-goes g c =
-    let x = c.args.peer.now in
-    let s = c.in_ok-survey.survey in
-    let ns = c.in_ok-numbers.numbers.items in
-    let covered = reaches_cover g.S.Source g.K.Sink s.pinned s.conf s.counted x ns c.read_description.new.peer c.read_cover.new.peer c.in_ok-numbers.ensures.fits c.in_ok-survey.ensures.reached c.in_ok-numbers.ensures.reached in
-    let ts = c.in_ok-leaves.leaves in
-    let keys : keys_of ts ≡ ns = c.in_ok-leaves.ensures.keys ∙ c.deref.ensures.value in
-    let has = reaches_leaves g.S.Source g.K.Sink s.pinned s.conf s.counted x ns ts keys c.read_cover.new.peer c.read_leaves.new.peer covered (rw c.deref.ensures.value at c.in_ok-leaves.ensures.reached) in
-    let most : length ts ≤ 65000 = omega (arith, length-keys_of ts, ap length keys, fits_most s.conf.shape (length ns) c.in_ok-numbers.ensures.fits) in
-    let count : c.len-count.result ≡ length ts = c.len-count.ensures.pairs in
-    let body = body_of c.read_mosaic.new.peer in
-    let came = reaches_files g.S.Source g.K.Sink s.pinned s.conf s.counted x ns ts keys body c.read_leaves.new.peer c.read_mosaic.new.peer has (rw count at c.in_ok-read_mosaic.ensures.reached) in
-    let few : length ts < 2 ^ 64 = omega (arith, most) in
-    came.goes
-
-pub returns-in_err-compared-clause-goes : goal.returns-in_err-compared-clause-goes
-returns-in_err-compared-clause-goes g c =
-    let x = c.args.peer.now in
-    let s = c.in_ok-survey.survey in
-    let ns = c.in_ok-numbers.numbers.items in
-    let covered = reaches_cover g.S.Source g.K.Sink s.pinned s.conf s.counted x ns c.read_description.new.peer c.read_cover.new.peer c.in_ok-numbers.ensures.fits c.in_ok-survey.ensures.reached c.in_ok-numbers.ensures.reached in
-    let ts = c.in_ok-leaves.leaves in
-    let keys : keys_of ts ≡ ns = c.in_ok-leaves.ensures.keys ∙ c.deref.ensures.value in
-    let has = reaches_leaves g.S.Source g.K.Sink s.pinned s.conf s.counted x ns ts keys c.read_cover.new.peer c.read_leaves.new.peer covered (rw c.deref.ensures.value at c.in_ok-leaves.ensures.reached) in
-    let most : length ts ≤ 65000 = omega (arith, length-keys_of ts, ap length keys, fits_most s.conf.shape (length ns) c.in_ok-numbers.ensures.fits) in
-    let count : c.len-count.result ≡ length ts = c.len-count.ensures.pairs in
-    let body = body_of c.read_mosaic.new.peer in
-    let came = reaches_files g.S.Source g.K.Sink s.pinned s.conf s.counted x ns ts keys body c.read_leaves.new.peer c.read_mosaic.new.peer has (rw count at c.in_ok-read_mosaic.ensures.reached) in
-    let few : length ts < 2 ^ 64 = omega (arith, most) in
-    came.goes
-
-pub returns-in_err-ask-clause-goes : goal.returns-in_err-ask-clause-goes
-returns-in_err-ask-clause-goes g c =
-    let x = c.args.peer.now in
-    let s = c.in_ok-survey.survey in
-    let ns = c.in_ok-numbers.numbers.items in
-    let covered = reaches_cover g.S.Source g.K.Sink s.pinned s.conf s.counted x ns c.read_description.new.peer c.read_cover.new.peer c.in_ok-numbers.ensures.fits c.in_ok-survey.ensures.reached c.in_ok-numbers.ensures.reached in
-    let ts = c.in_ok-leaves.leaves in
-    let keys : keys_of ts ≡ ns = c.in_ok-leaves.ensures.keys ∙ c.deref.ensures.value in
-    let has = reaches_leaves g.S.Source g.K.Sink s.pinned s.conf s.counted x ns ts keys c.read_cover.new.peer c.read_leaves.new.peer covered (rw c.deref.ensures.value at c.in_ok-leaves.ensures.reached) in
-    let most : length ts ≤ 65000 = omega (arith, length-keys_of ts, ap length keys, fits_most s.conf.shape (length ns) c.in_ok-numbers.ensures.fits) in
-    let count : c.len-count.result ≡ length ts = c.len-count.ensures.pairs in
-    let body = body_of c.read_mosaic.new.peer in
-    let came = reaches_files g.S.Source g.K.Sink s.pinned s.conf s.counted x ns ts keys body c.read_leaves.new.peer c.read_mosaic.new.peer has (rw count at c.in_ok-read_mosaic.ensures.reached) in
-    let few : length ts < 2 ^ 64 = omega (arith, most) in
-    goes_then g.S.Source g.K.Sink x c.read_mosaic.new.peer c.ask.new.peer came.goes c.ask.ensures.goes
-
-pub returns-clause-goes : goal.returns-clause-goes
-returns-clause-goes g c =
-    let x = c.args.peer.now in
-    let s = c.in_ok-survey.survey in
-    let ns = c.in_ok-numbers.numbers.items in
-    let covered = reaches_cover g.S.Source g.K.Sink s.pinned s.conf s.counted x ns c.read_description.new.peer c.read_cover.new.peer c.in_ok-numbers.ensures.fits c.in_ok-survey.ensures.reached c.in_ok-numbers.ensures.reached in
-    let ts = c.in_ok-leaves.leaves in
-    let keys : keys_of ts ≡ ns = c.in_ok-leaves.ensures.keys ∙ c.deref.ensures.value in
-    let has = reaches_leaves g.S.Source g.K.Sink s.pinned s.conf s.counted x ns ts keys c.read_cover.new.peer c.read_leaves.new.peer covered (rw c.deref.ensures.value at c.in_ok-leaves.ensures.reached) in
-    let most : length ts ≤ 65000 = omega (arith, length-keys_of ts, ap length keys, fits_most s.conf.shape (length ns) c.in_ok-numbers.ensures.fits) in
-    let count : c.len-count.result ≡ length ts = c.len-count.ensures.pairs in
-    let body = body_of c.read_mosaic.new.peer in
-    let came = reaches_files g.S.Source g.K.Sink s.pinned s.conf s.counted x ns ts keys body c.read_leaves.new.peer c.read_mosaic.new.peer has (rw count at c.in_ok-read_mosaic.ensures.reached) in
-    let few : length ts < 2 ^ 64 = omega (arith, most) in
-    goes_then g.S.Source g.K.Sink x c.read_mosaic.new.peer c.ask.new.peer came.goes c.ask.ensures.goes

@@ -1,4 +1,5 @@
-use Rattle.hips_mirror.proofs.MirrorLemmas.{mirror_copied, mirror_steps, mirror_last, shelf_refused, shelf_touched}
+use Rattle.std.proofs.Common.{refl}
+use Rattle.hips_mirror.proofs.MirrorLemmas.{mirror_copied, mirror_steps, mirror_last, shelf_refused, shelf_touched, shelf_alone}
 use Rattle.hips_mirror.proofs.OrderLemmas.{whole_anyhow}
 use Rattle.hips_mirror.proofs.copying.mirror.Goals as goal
 
@@ -25,3 +26,12 @@ returns-in-Ok-clause-steps g c =
 
 pub returns-in-Ok-clause-order : goal.returns-in-Ok-clause-order
 returns-in-Ok-clause-order g c = (c.in-Ok.ensures.order.0, whole_anyhow g.S.Source g.K.Sink _ _ c.put_files.result c.in-Ok.ensures.order.1)
+
+pub returns-in-Ok-clause-read_fault : goal.returns-in-Ok-clause-read_fault
+returns-in-Ok-clause-read_fault g c = rw (shelf_alone c.put_files.result c.put_files.ensures.refused).0 c.in-Ok.ensures.read_fault
+
+pub returns-in-Ok-clause-write_fault : goal.returns-in-Ok-clause-write_fault
+returns-in-Ok-clause-write_fault g c = rw (shelf_alone c.put_files.result c.put_files.ensures.refused).1 c.in-Ok.ensures.write_fault
+
+pub returns-in-Err-clause-shelf_fault : goal.returns-in-Err-clause-shelf_fault
+returns-in-Err-clause-shelf_fault g c = rw c.in-Err.ensures.no_shelf refl

@@ -29,7 +29,7 @@ returns-in_err-ask-clause-refused g c =
     (leaf_stops g.S.Source g.K.Sink k d c.args.numbers.now c.loop-number.tiles i c.loop-number-test.true c.args.peer.now c.loop-number.peer c.loop-number.invariant.reached c.loop-number.invariant.keys c.loop-number.invariant.count c.ask.new.peer why
     (stopped_so g.S.Source g.K.Sink k (leaf_ask d.shape.top number ∷ []) (λ bytes. RefusesReply (Survey k) (3 + length c.loop-number.tiles) bytes why) (λ bytes. RefusesAt (Survey k) (3 + length c.loop-number.tiles) (WrongLeaf d number) bytes why) c.loop-number.peer c.ask.new.peer why (λ p r. inl r)
     (one_refused g.S.Source g.K.Sink k (leaf_ask d.shape.top number) c.leaf-request.result.ask (Survey k) c.loop-number.peer c.ask.new.peer own refl c.leaf-request.result.number (3 + length c.loop-number.tiles) why at
-    c.in_err-ask.ensures.asked c.in_err-ask.ensures.refused c.in_err-ask.ensures.faults c.ask.ensures.goes)))
+    c.in_err-ask.ensures.asked c.in_err-ask.ensures.refused c.in_err-ask.ensures.goes)))
 
 pub returns-in_err-taken-clause-refused : goal.returns-in_err-taken-clause-refused
 returns-in_err-taken-clause-refused g c =
@@ -45,7 +45,7 @@ returns-in_err-taken-clause-refused g c =
     (of_err c.take_leaf-taken.result why (λ refusal. IsRefusedIn g.S.Source g.K.Sink k (leaf_ask d.shape.top number ∷ []) (λ bytes. RefusesAt (Survey k) (3 + length c.loop-number.tiles) (WrongLeaf d number) bytes refusal) c.loop-number.peer c.ask.new.peer refusal)
     c.in_err-taken.was
     (body_refused_in g.S.Source g.K.Sink k (leaf_ask d.shape.top number) c.leaf-request.result.ask (Survey k) c.loop-number.peer c.ask.new.peer own refl (3 + length c.loop-number.tiles) (WrongLeaf d number) c.take_leaf-taken.result
-    c.in_ok-ask.ensures.asked c.ask.ensures.goes (rw c.body.ensures at c.take_leaf-taken.ensures.refused) c.take_leaf-taken.ensures.of_body)))
+    c.in_ok-ask.ensures.asked c.in_ok-ask.ensures.goes (rw c.body.ensures at c.take_leaf-taken.ensures.refused) c.take_leaf-taken.ensures.of_body)))
 
 pub loop-number-preserved : goal.loop-number-preserved
 loop-number-preserved g c =
@@ -64,7 +64,7 @@ loop-number-preserved g c =
           lower_next numbers i k number (keys_of tiles) c.requires.ascending refl h below
           (put_higher d number (body_of c.ask.new.peer) c.loop-number.tiles tiles (c.loop-number.invariant.lower i (omega arith) c.loop-number-test.true) put);
       reached = leaf_reached g.S.Source g.K.Sink c.args.survey.now.pinned d numbers c.loop-number.tiles i c.loop-number-test.true c.args.peer.now c.loop-number.peer c.loop-number.invariant.reached c.leaf-request.result.ask c.ask.new.peer tiles own
-          c.in_ok-ask.ensures.asked c.ask.ensures.goes put;
+          c.in_ok-ask.ensures.asked c.in_ok-ask.ensures.goes put;
       steps = omega (arith, c.take_leaf-taken.ensures.steps, c.loop-number.invariant.steps);
       rises = omega (arith, c.take_leaf-taken.ensures.steps_never_fall, c.loop-number.invariant.rises);
     }
