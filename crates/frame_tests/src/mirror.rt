@@ -45,7 +45,11 @@ fn sends(
         sink: &mut sink,
         received: &mut received,
     };
-    let stop = if whole { Stop::Cut } else { Stop::WriteFault };
+    let stop = if whole {
+        ReplyStop::Cut
+    } else {
+        ReplyStop::WriteFault
+    };
     let asked = peer.ask(ask, Due::Any);
     Ok(asked == Err(stop) && sink.bytes() == bytes)
 }
@@ -121,7 +125,7 @@ fn first(
     bytes: &[u8],
     piece: usize,
     due: Due,
-) -> Result<Result<Vec<u8>, Stop>, AllocError>
+) -> Result<Result<Vec<u8>, ReplyStop>, AllocError>
     requires { 0 < piece }
 {
     let mut src = source(alloc, bytes, piece, &[])?;
@@ -159,7 +163,7 @@ fn stops(
     bytes: &[u8],
     piece: usize,
     due: Due,
-    stop: Stop,
+    stop: ReplyStop,
 ) -> Result<bool, AllocError>
     requires { 0 < piece }
 {
@@ -314,9 +318,12 @@ static WRONG: [(&[u8], Due); 20] = [
 fn refuses_replies_that_are_not_in_form(rt: HostRuntime) -> Result<(), Fail> {
     for (bytes, due) in &WRONG {
         let text = shown(*bytes);
-        assert!(rt; stops(rt.alloc(), *bytes, 1, *due, Stop::Wrong)?, "{text}");
         assert!(rt;
-            stops(rt.alloc(), *bytes, 9000, *due, Stop::Wrong)?,
+            stops(rt.alloc(), *bytes, 1, *due, ReplyStop::Wrong)?,
+            "{text}"
+        );
+        assert!(rt;
+            stops(rt.alloc(), *bytes, 9000, *due, ReplyStop::Wrong)?,
             "{text}"
         );
     }
@@ -329,7 +336,7 @@ static WHOLE: &[u8] = b"HTTP/1.1 200 OK\r\nContent-Length: 9\r\nSurvey-Prefix: 7
 fn each_shorter_input_is_cut(rt: HostRuntime) -> Result<(), Fail> {
     for end in 0..WHOLE.len() {
         assert!(rt;
-            stops(rt.alloc(), &WHOLE[..end], 7, Due::Pinned, Stop::Cut)?,
+            stops(rt.alloc(), &WHOLE[..end], 7, Due::Pinned, ReplyStop::Cut)?,
             "{end}"
         );
     }
@@ -352,11 +359,11 @@ fn a_head_has_8192_bytes_at_most(rt: HostRuntime) -> Result<(), Fail> {
     let longest = long_head(rt.alloc(), 8149)?;
     assert!(rt; has_body(rt.alloc(), &longest, 1000, Due::Any, b"a")?);
     let mut longer = long_head(rt.alloc(), 8150)?;
-    assert!(rt; stops(rt.alloc(), &longer, 1000, Due::Any, Stop::Wrong)?);
+    assert!(rt; stops(rt.alloc(), &longer, 1000, Due::Any, ReplyStop::Wrong)?);
     longer.truncate(8192);
-    assert!(rt; stops(rt.alloc(), &longer, 1000, Due::Any, Stop::Wrong)?);
+    assert!(rt; stops(rt.alloc(), &longer, 1000, Due::Any, ReplyStop::Wrong)?);
     longer.truncate(8191);
-    assert!(rt; stops(rt.alloc(), &longer, 1000, Due::Any, Stop::Cut)?);
+    assert!(rt; stops(rt.alloc(), &longer, 1000, Due::Any, ReplyStop::Cut)?);
     Ok(())
 }
 
@@ -371,7 +378,7 @@ fn a_head_has_64_fields_at_most(rt: HostRuntime) -> Result<(), Fail> {
     bytes.extend_from_slice(b"\r\na")?;
     longer.extend_from_slice(b"X: y\r\n\r\na")?;
     assert!(rt; has_body(alloc, &bytes, 1000, Due::Any, b"a")?);
-    assert!(rt; stops(alloc, &longer, 1000, Due::Any, Stop::Wrong)?);
+    assert!(rt; stops(alloc, &longer, 1000, Due::Any, ReplyStop::Wrong)?);
     Ok(())
 }
 
@@ -392,12 +399,12 @@ fn what_comes_behind_a_reply_stays(rt: HostRuntime) -> Result<(), Fail> {
     assert!(rt; peer.body() == b"hello".as_slice());
     assert!(rt; peer.ask(&Ask::Pin, Due::Survey(7)) == Ok(Some(7)));
     assert!(rt; peer.body() == b"ab".as_slice());
-    assert!(rt; peer.ask(&Ask::Pin, Due::Survey(7)) == Err(Stop::Cut));
+    assert!(rt; peer.ask(&Ask::Pin, Due::Survey(7)) == Err(ReplyStop::Cut));
     Ok(())
 }
 
 // What is read first, where the reading with that number fails.
-fn first_over(alloc: Global, fails: u64) -> Result<Result<Option<u32>, Stop>, AllocError> {
+fn first_over(alloc: Global, fails: u64) -> Result<Result<Option<u32>, ReplyStop>, AllocError> {
     let mut src = source(alloc, WHOLE, 20, &[fails])?;
     let mut received = Received::new(alloc)?;
     let mut peer = Peer {
@@ -413,7 +420,7 @@ fn a_reading_that_fails_is_a_fault(rt: HostRuntime) -> Result<(), Fail> {
     // The reply has 65 bytes: three readings of 20 bytes and one of the rest.
     for reading in 0..4 {
         assert!(rt;
-            first_over(rt.alloc(), reading)? == Err(Stop::ReadFault),
+            first_over(rt.alloc(), reading)? == Err(ReplyStop::ReadFault),
             "{reading}"
         );
     }

@@ -14,8 +14,8 @@ use Rattle.mirror_frame.specs.declared.peer.Peer.{Peer}
 use Rattle.mirror_frame.specs.declared.ask.Ask.{Ask}
 use Rattle.mirror_frame.specs.declared.due.Due.{Due}
 use Rattle.mirror_frame.specs.Reading.{read_failed, write_failed}
-use Rattle.mirror_frame.specs.declared.reading.Stop.{Stop}
-use Rattle.mirror_frame.specs.declared.reading.Stop.TheVariants as stopping
+use Rattle.mirror_frame.specs.declared.reading.ReplyStop.{ReplyStop}
+use Rattle.mirror_frame.specs.declared.reading.ReplyStop.TheVariants as stopping
 use Rattle.mirror_frame.proofs.Exchanges.{converses_then, stops_then, stops_more, stops_behind, stops_one, exchanges_one}
 use Rattle.hips_mirror.specs.declared.refusal.MirrorRefusal.{MirrorRefusal}
 use Rattle.hips_mirror.specs.declared.refusal.MirrorRefusal.TheVariants as refusal
@@ -38,7 +38,7 @@ of_body refusal.ShelfFault body = absurd body
 of_body refusal.OutOfMemory body = (refl, refl, refl)
 
 -- a request that stops is no fault of the shelf
-of_request : (stopped : Stop) (request : ℕ) → is_shelf_fault (of_stop stopped request) ≡ false
+of_request : (stopped : ReplyStop) (request : ℕ) → is_shelf_fault (of_stop stopped request) ≡ false
 of_request stopping.Wrong request = refl
 of_request stopping.Cut request = refl
 of_request stopping.ReadFault request = refl
@@ -73,7 +73,7 @@ module _ {S K : Type 0} (told_source : source.Ghosts S) (told_sink : sink.Ghosts
   pub body_goes : (x y : Peer S K) (why : MirrorRefusal) → IsOfBody why → Goes told_source told_sink false false x y → Goes told_source told_sink (is_read_fault why) (is_write_fault why) x y
   body_goes x y why body goes = let none = of_body why body in rw (none.0, none.1) goes
 
-  pub stop_goes : (x y : Peer S K) (stopped : Stop) (request : ℕ) → Goes told_source told_sink (read_failed {A = Option ℕ} (Err stopped)) (write_failed {A = Option ℕ} (Err stopped)) x y
+  pub stop_goes : (x y : Peer S K) (stopped : ReplyStop) (request : ℕ) → Goes told_source told_sink (read_failed {A = Option ℕ} (Err stopped)) (write_failed {A = Option ℕ} (Err stopped)) x y
       → Goes told_source told_sink (is_read_fault (of_stop stopped request)) (is_write_fault (of_stop stopped request)) x y
   stop_goes x y stopping.Wrong request goes = goes
   stop_goes x y stopping.Cut request goes = goes
@@ -182,7 +182,7 @@ module _ {S K : Type 0} (told_source : source.Ghosts S) (told_sink : sink.Ghosts
     }
 
     abbrev pub one_refused : (n request : ℕ) (why : MirrorRefusal) → n ≡ request
-        → (stop : Stop) × (why ≡ of_stop stop n) × BreaksOff told_source told_sink own due (talk x) (talk y) stop
+        → (stop : ReplyStop) × (why ≡ of_stop stop n) × BreaksOff told_source told_sink own due (talk x) (talk y) stop
         → TrueOfUnread told_source told_sink x (λ bytes. RefusesReply due n bytes why) → Goes told_source told_sink (is_read_fault why) (is_write_fault why) x y
         → IsRefusedIn told_source told_sink k (ask ∷ []) (λ bytes. RefusesReply due request bytes why) x y why
     one_refused n request why at off refused goes = record {

@@ -12,8 +12,8 @@ use Rattle.mirror_frame.specs.Reply.{pinned_line, IsReply, IsWrongReply, IsCutRe
 use Rattle.mirror_frame.specs.Exchange.{Talk, BreaksOff, in_request, in_reply}
 use Rattle.mirror_frame.specs.declared.ask.Ask.{Ask}
 use Rattle.mirror_frame.specs.declared.due.Due.{Due}
-use Rattle.mirror_frame.specs.declared.reading.Stop.{Stop}
-use Rattle.mirror_frame.specs.declared.reading.Stop.TheVariants as stop
+use Rattle.mirror_frame.specs.declared.reading.ReplyStop.{ReplyStop}
+use Rattle.mirror_frame.specs.declared.reading.ReplyStop.TheVariants as stop
 use Rattle.hips_mirror.specs.Mirror.{TrueOf, RefusesReply}
 use Rattle.hips_mirror.specs.Stages.{of_stop}
 
@@ -62,7 +62,7 @@ module _ {S K : Type 0} (told_source : source.Ghosts S) (told_sink : sink.Ghosts
   cut_came (in_request is src part) = absurd cc
   cut_came (in_reply asked came body rest sent read why) = (came, subst (λ held. IsCutReply due (held ++ came)) sent.held why.0)
 
-  pub stopped_of : (left : Option (List ℕ)) (why : Stop) → BreaksOff told_source told_sink ask due old new why → IfSome (unread old.held left) (λ bytes. StopsReply due bytes why)
+  pub stopped_of : (left : Option (List ℕ)) (why : ReplyStop) → BreaksOff told_source told_sink ask due old new why → IfSome (unread old.held left) (λ bytes. StopsReply due bytes why)
       → TrueOf left (λ bytes. RefusesReply due n (old.held ++ bytes) (of_stop why n))
   stopped_of None stop.Wrong off told = let came = wrong_came off in (came.0, (refl, came.1))
   stopped_of None stop.Cut off told = cut_came off

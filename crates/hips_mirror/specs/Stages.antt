@@ -18,8 +18,8 @@ use Rattle.mirror_frame.specs.Peer.{talk, Goes}
 use Rattle.mirror_frame.specs.declared.peer.Peer.{Peer}
 use Rattle.mirror_frame.specs.declared.ask.Ask.{Ask}
 use Rattle.mirror_frame.specs.declared.due.Due.TheVariants.{Survey}
-use Rattle.mirror_frame.specs.declared.reading.Stop.{Stop}
-use Rattle.mirror_frame.specs.declared.reading.Stop.TheVariants as stop
+use Rattle.mirror_frame.specs.declared.reading.ReplyStop.{ReplyStop}
+use Rattle.mirror_frame.specs.declared.reading.ReplyStop.TheVariants as stop
 use Rattle.hips_mirror.specs.declared.refusal.MirrorRefusal.{MirrorRefusal}
 use Rattle.hips_mirror.specs.declared.refusal.MirrorRefusal.TheVariants as refusal
 use Rattle.hips_mirror.specs.Mirror.{Described, Covered, HasLeaves, IsProperties, IsCoverOf, Refuses, TrueOf, is_read_fault, is_write_fault}
@@ -89,7 +89,7 @@ abbrev pub RefusedBy : (MirrorRefusal → List ℕ → Type 0) → List ℕ → 
 RefusedBy Wrong body refused = Wrong refused body ⊎ (refused ≡ refusal.OutOfMemory)
 
 -- what a request without a reply is refused with
-abbrev pub of_stop : Stop → ℕ → MirrorRefusal
+abbrev pub of_stop : ReplyStop → ℕ → MirrorRefusal
 of_stop stop.Wrong request = refusal.Reply request
 of_stop stop.Cut request = refusal.Cut
 of_stop stop.ReadFault request = refusal.ReadFault
@@ -97,7 +97,7 @@ of_stop stop.WriteFault request = refusal.WriteFault
 of_stop stop.OutOfMemory request = refusal.OutOfMemory
 
 -- the refusal is this stop of some request
-abbrev pub Tells : MirrorRefusal → Stop → Type 0
+abbrev pub Tells : MirrorRefusal → ReplyStop → Type 0
 Tells why stopped = (request : ℕ) × (why ≡ of_stop stopped request)
 
 -- the refusal is of a body that came, or out of memory

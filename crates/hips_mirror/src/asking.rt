@@ -5,14 +5,14 @@ ghost use Rattle.mirror_frame.specs.Reply.{pinned_line};
 ghost use Rattle.mirror_frame.specs.Exchange.{IsExchanged, BreaksOff};
 ghost use Rattle.mirror_frame.specs.Peer.{talk, body_of, Goes};
 ghost use Rattle.mirror_frame.specs.declared.due.Due.TheVariants.{Pinned};
-ghost use Rattle.mirror_frame.specs.declared.reading.Stop.{Stop as Stopped};
+ghost use Rattle.mirror_frame.specs.declared.reading.ReplyStop.{ReplyStop};
 ghost use Rattle.hips_mirror.specs.Mirror.{RefusesReply, is_read_fault, is_write_fault, is_err_and};
 ghost use Rattle.hips_mirror.specs.Stages.{TrueOfUnread, of_stop};
 
 use crate::refusal::MirrorRefusal;
 use crate::saying::{Request, say_stop};
 use log::Log;
-use mirror_frame::{Due, Peer, Stop};
+use mirror_frame::{Due, Peer, ReplyStop};
 use survey_link::{Sink, Source};
 
 /// Sends a request, and reads its reply: its body is then the peer's. It answers the reply's Survey-Prefix. What is wrong
@@ -31,7 +31,7 @@ pub(crate) fn ask<R: Log, S: Source, K: Sink>(
     requires { HasOrder request.now.ask }
     ensures asked { MatchResult result
         (λ _. IsExchanged S.Source K.Sink request.now.ask due (body_of peer.new) (talk peer.old) (talk peer.new))
-        (λ refusal. (stop : Stopped) × (refusal ≡ of_stop stop request.now.number) × BreaksOff S.Source K.Sink request.now.ask due (talk peer.old) (talk peer.new) stop) }
+        (λ refusal. (stop : ReplyStop) × (refusal ≡ of_stop stop request.now.number) × BreaksOff S.Source K.Sink request.now.ask due (talk peer.old) (talk peer.new) stop) }
     ensures pinned { due ≡ Pinned → IfOk result (λ prefix. IsSome prefix × IfSome prefix (λ k. body_of peer.new ≡ pinned_line k)) }
     ensures refused { IfErr result (λ refusal. TrueOfUnread S.Source K.Sink peer.old (λ bytes. RefusesReply due request.now.number bytes refusal)) }
     ensures goes { Goes S.Source K.Sink (is_err_and is_read_fault result) (is_err_and is_write_fault result) peer.old peer.new }
@@ -46,14 +46,14 @@ pub(crate) fn ask<R: Log, S: Source, K: Sink>(
 }
 
 // Why this request has no reply.
-fn refusal_of(stop: Stop, request: u32) -> MirrorRefusal
+fn refusal_of(stop: ReplyStop, request: u32) -> MirrorRefusal
     ensures { result ≡ of_stop stop request }
 {
     match stop {
-        Stop::Wrong => MirrorRefusal::Reply { request },
-        Stop::Cut => MirrorRefusal::Cut,
-        Stop::ReadFault => MirrorRefusal::ReadFault,
-        Stop::WriteFault => MirrorRefusal::WriteFault,
-        Stop::OutOfMemory => MirrorRefusal::OutOfMemory,
+        ReplyStop::Wrong => MirrorRefusal::Reply { request },
+        ReplyStop::Cut => MirrorRefusal::Cut,
+        ReplyStop::ReadFault => MirrorRefusal::ReadFault,
+        ReplyStop::WriteFault => MirrorRefusal::WriteFault,
+        ReplyStop::OutOfMemory => MirrorRefusal::OutOfMemory,
     }
 }

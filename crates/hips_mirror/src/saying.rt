@@ -2,7 +2,7 @@
 use crate::refusal::MirrorRefusal;
 use healpix_nested::Cell;
 use log::{Log, error, info};
-use mirror_frame::{Ask, ReplyFault, Stop};
+use mirror_frame::{Ask, ReplyFault, ReplyStop};
 use std::fmt;
 use survey_conf::{ConfFault, FaultWords};
 use tile_path::Path;
@@ -110,12 +110,12 @@ impl fmt::Display for Request {
 }
 
 /// Logs why a request has no reply.
-pub(crate) fn say_stop<R: Log>(rt: &R, request: &Request, stop: Stop, fault: ReplyFault<'_>) {
+pub(crate) fn say_stop<R: Log>(rt: &R, request: &Request, stop: ReplyStop, fault: ReplyFault<'_>) {
     match stop {
-        Stop::Wrong => say_fault(rt, request, fault),
-        Stop::Cut => error!(rt; "{request}: the connection ended within the reply"),
-        Stop::ReadFault => error!(rt; "{request}: the reply didn't come, or not whole"),
-        Stop::WriteFault | Stop::OutOfMemory => {}
+        ReplyStop::Wrong => say_fault(rt, request, fault),
+        ReplyStop::Cut => error!(rt; "{request}: the connection ended within the reply"),
+        ReplyStop::ReadFault => error!(rt; "{request}: the reply didn't come, or not whole"),
+        ReplyStop::WriteFault | ReplyStop::OutOfMemory => {}
     }
 }
 

@@ -12,7 +12,7 @@ use Rattle.mirror_frame.specs.Reading.{ReadsReply}
 use Rattle.mirror_frame.specs.Exchange.{Talk, IsExchanged, BreaksOff, in_reply, Converses, StopsIn, LastOf, due_of}
 use Rattle.mirror_frame.specs.declared.ask.Ask.{Ask}
 use Rattle.mirror_frame.specs.declared.due.Due.{Due}
-use Rattle.mirror_frame.specs.declared.reading.Stop.{Stop}
+use Rattle.mirror_frame.specs.declared.reading.ReplyStop.{ReplyStop}
 
 pub on_err : {T E : Type 0} (r : Result T E) (P : Type 0) → P → OnErr r P
 on_err (Ok x) P p = tt
@@ -35,7 +35,7 @@ module _ {S K : Type 0} (told_source : source.Ghosts S) (told_sink : sink.Ghosts
   abbrev after : Talk S K
   after = record { src = src'; sink = end'; held = held' }
 
-  pub exchanged : (r : Result (Option ℕ) Stop) → ReadsReply due (held ++ came) body held' (told_source.left src') r
+  pub exchanged : (r : Result (Option ℕ) ReplyStop) → ReadsReply due (held ++ came) body held' (told_source.left src') r
       → MatchResult r (λ prefix. IsExchanged told_source told_sink ask due body before after) (λ stop. BreaksOff told_source told_sink ask due before after stop)
   exchanged (Ok prefix) read = record {
     asked = between;
@@ -55,7 +55,7 @@ module _ {S K : Type 0} (told_source : source.Ghosts S) (told_sink : sink.Ghosts
   converses_then [] more a b c first second = subst (λ x. Converses told_source told_sink k more x c) first second
   converses_then (ask ∷ asks) more a b c first second = (first.0, first.1, first.2, converses_then asks more first.0 b c first.3 second)
 
-  module _ (Fits : Stop → Type 0) (NotBegun : Type 0) where
+  module _ (Fits : ReplyStop → Type 0) (NotBegun : Type 0) where
     abbrev Stops : List Ask → Talk S K → Talk S K → Type 0
     Stops = StopsIn told_source told_sink k Fits NotBegun
 
@@ -89,7 +89,7 @@ module _ {S K : Type 0} (told_source : source.Ghosts S) (told_sink : sink.Ghosts
     abbrev pub stops_behind : (asks : List Ask) (a b : Talk S K) → NotBegun → Converses told_source told_sink k asks a b → Stops asks a b
     stops_behind asks a b none conversed = record { done = asks; rest = []; are = sym (append-nil asks); mid = b; conversed = conversed; last = (refl, none) }
 
-    abbrev pub stops_one : (ask : Ask) (due : Due) (stop : Stop) (a b : Talk S K) → due ≡ due_of k ask → Fits stop → BreaksOff told_source told_sink ask due a b stop → Stops (ask ∷ []) a b
+    abbrev pub stops_one : (ask : Ask) (due : Due) (stop : ReplyStop) (a b : Talk S K) → due ≡ due_of k ask → Fits stop → BreaksOff told_source told_sink ask due a b stop → Stops (ask ∷ []) a b
     stops_one ask due stop a b is fits off = record {
       done = [];
       rest = ask ∷ [];

@@ -16,8 +16,8 @@ use Rattle.mirror_frame.specs.Reply.{BeginsReply, IsReply, IsCutReply, IsWrongRe
 use Rattle.mirror_frame.specs.Reading.{StopsBegin, StopsReply, ReadsReply, TellsPinned, unread, of_stopped}
 use Rattle.mirror_frame.specs.Peer.{Told}
 use Rattle.mirror_frame.specs.declared.due.Due.{Due}
-use Rattle.mirror_frame.specs.declared.reading.Stop.{Stop}
-use Rattle.mirror_frame.specs.declared.reading.Stop.TheVariants.{Wrong, Cut, ReadFault, WriteFault, OutOfMemory}
+use Rattle.mirror_frame.specs.declared.reading.ReplyStop.{ReplyStop}
+use Rattle.mirror_frame.specs.declared.reading.ReplyStop.TheVariants.{Wrong, Cut, ReadFault, WriteFault, OutOfMemory}
 
 -- ---- more bytes behind
 
@@ -102,7 +102,7 @@ module _ (due : Due) (held came : List ℕ) (n size : ℕ) (prefix : Option ℕ)
     }))
 
     -- a reply whose body was judged
-    pub judged : (left : Option (List ℕ)) (r : Result (Option ℕ) Stop) → IfOk r (λ p. (p ≡ prefix) × FitsBody due prefix body)
+    pub judged : (left : Option (List ℕ)) (r : Result (Option ℕ) ReplyStop) → IfOk r (λ p. (p ≡ prefix) × FitsBody due prefix body)
         → IfErr r (λ stop. (stop ≡ Wrong) × ¬ FitsBody due prefix body) → ReadsReply due (held ++ came) body rest left r
     judged left (Ok p) told wrong = (
       whole_reply told.1,
@@ -123,7 +123,7 @@ cut_while left readings due held n size prefix begins rest rest_is count count_i
     a b reads
 
 -- why no head was read is why no reply was
-pub stops_begun : (due : Due) (held body rest : List ℕ) (left : Option (List ℕ)) (stop : Stop) → StopsBegin due held left stop → ReadsReply due held body rest left (Err stop)
+pub stops_begun : (due : Due) (held body rest : List ℕ) (left : Option (List ℕ)) (stop : ReplyStop) → StopsBegin due held left stop → ReadsReply due held body rest left (Err stop)
 stops_begun due held body rest left Wrong stops = stops
 stops_begun due held body rest left Cut stops = (inl (stops.0.short, stops.0.none), stops.1)
 stops_begun due held body rest left ReadFault stops = tt
@@ -179,12 +179,12 @@ told_reply due held came body rest prefix (Some xs) None consumed reply = absurd
 told_reply due held came body rest prefix (Some xs) (Some ys) consumed reply =
     rw (came_of held came xs ys consumed) (reply_of_more due (held ++ came) ys body rest reply)
 
-pub told_ok : (due : Due) (held came body rest : List ℕ) (left left' : Option (List ℕ)) (r : Result (Option ℕ) Stop) → Consumes left left' came
+pub told_ok : (due : Due) (held came body rest : List ℕ) (left left' : Option (List ℕ)) (r : Result (Option ℕ) ReplyStop) → Consumes left left' came
     → ReadsReply due (held ++ came) body rest left' r → OnOk r (Told (unread held left) (unread rest left') (λ bytes more. IsReply due bytes body more))
 told_ok due held came body rest left left' (Ok prefix) consumed reads = told_reply due held came body rest prefix left left' consumed reads.0
 told_ok due held came body rest left left' (Err stop) consumed reads = tt
 
-told_stop : (due : Due) (held came body rest : List ℕ) (left left' : Option (List ℕ)) (stop : Stop) → Consumes left left' came
+told_stop : (due : Due) (held came body rest : List ℕ) (left left' : Option (List ℕ)) (stop : ReplyStop) → Consumes left left' came
     → ReadsReply due (held ++ came) body rest left' (Err stop) → IfSome (unread held left) (λ bytes. StopsReply due bytes stop)
 told_stop due held came body rest None left' stop consumed reads = tt
 told_stop due held came body rest (Some xs) None stop consumed reads = absurd consumed
@@ -195,12 +195,12 @@ told_stop due held came body rest (Some xs) (Some ys) ReadFault consumed reads =
 told_stop due held came body rest (Some xs) (Some ys) WriteFault consumed reads = tt
 told_stop due held came body rest (Some xs) (Some ys) OutOfMemory consumed reads = tt
 
-pub told_err : (due : Due) (held came body rest : List ℕ) (left left' : Option (List ℕ)) (r : Result (Option ℕ) Stop) → Consumes left left' came
+pub told_err : (due : Due) (held came body rest : List ℕ) (left left' : Option (List ℕ)) (r : Result (Option ℕ) ReplyStop) → Consumes left left' came
     → ReadsReply due (held ++ came) body rest left' r → IfErr r (λ stop. IfSome (unread held left) (λ bytes. StopsReply due bytes stop))
 told_err due held came body rest left left' (Ok prefix) consumed reads = tt
 told_err due held came body rest left left' (Err stop) consumed reads = told_stop due held came body rest left left' stop consumed reads
 
-pub told_prefix : (due : Due) (bytes body rest : List ℕ) (left : Option (List ℕ)) (r : Result (Option ℕ) Stop) → ReadsReply due bytes body rest left r
+pub told_prefix : (due : Due) (bytes body rest : List ℕ) (left : Option (List ℕ)) (r : Result (Option ℕ) ReplyStop) → ReadsReply due bytes body rest left r
     → IfOk r (λ prefix. FitsPrefix due prefix × TellsPinned due body prefix)
 told_prefix due bytes body rest left (Ok prefix) reads = (reads.1, reads.2)
 told_prefix due bytes body rest left (Err stop) reads = tt

@@ -8,8 +8,8 @@ use Rattle.http_frame.specs.Readings.{ReadsWhile}
 use Rattle.mirror_frame.specs.Requests.{request_bytes}
 use Rattle.mirror_frame.specs.Reply.{IsReply, IsCutReply}
 use Rattle.mirror_frame.specs.Reading.{ReadsReply}
-use Rattle.mirror_frame.specs.declared.reading.Stop.{Stop}
-use Rattle.mirror_frame.specs.declared.reading.Stop.TheVariants.{WriteFault}
+use Rattle.mirror_frame.specs.declared.reading.ReplyStop.{ReplyStop}
+use Rattle.mirror_frame.specs.declared.reading.ReplyStop.TheVariants.{WriteFault}
 use Rattle.mirror_frame.specs.declared.ask.Ask.{Ask}
 use Rattle.mirror_frame.specs.declared.ask.Ask.TheVariants.{Pin, File, Unpin}
 use Rattle.mirror_frame.specs.declared.due.Due.{Due}
@@ -49,7 +49,7 @@ module _ {S K : Type 0} (told_source : source.Ghosts S) (told_sink : sink.Ghosts
     pub reply : IsReply due (asked.held ++ came) body new.held
 
   -- why a request has no reply: it was written in part at most, and nothing was read; or it was sent, and what came is none
-  pub data BreaksOff (ask : Ask) (due : Due) (old new : Talk S K) (stop : Stop) : Type 0 where
+  pub data BreaksOff (ask : Ask) (due : Due) (old new : Talk S K) (stop : ReplyStop) : Type 0 where
     in_request : stop ≡ WriteFault → new.src ≡ old.src → AppendsPrefix (told_sink.held old.sink) (told_sink.held new.sink) (request_bytes ask)
         → BreaksOff ask due old new stop
     in_reply : (asked : Talk S K) (came body rest : List ℕ) → IsSent ask old asked → IsRead due asked new came
@@ -62,12 +62,12 @@ module _ {S K : Type 0} (told_source : source.Ghosts S) (told_sink : sink.Ghosts
   Converses k (ask ∷ asks) old new = (mid : Talk S K) × (body : List ℕ) × IsExchanged ask (due_of k ask) body old mid × Converses k asks mid new
 
   -- what came of the next of these requests: it was not begun, or it has no reply for one of these reasons
-  abbrev pub LastOf : ℕ → (Stop → Type 0) → Type 0 → List Ask → Talk S K → Talk S K → Type 0
+  abbrev pub LastOf : ℕ → (ReplyStop → Type 0) → Type 0 → List Ask → Talk S K → Talk S K → Type 0
   LastOf k Fits NotBegun [] old new = (new ≡ old) × NotBegun
-  LastOf k Fits NotBegun (ask ∷ rest) old new = ((new ≡ old) × NotBegun) ⊎ ((stop : Stop) × Fits stop × BreaksOff ask (due_of k ask) old new stop)
+  LastOf k Fits NotBegun (ask ∷ rest) old new = ((new ≡ old) × NotBegun) ⊎ ((stop : ReplyStop) × Fits stop × BreaksOff ask (due_of k ask) old new stop)
 
   -- a prefix of these requests have their replies, and what was begun behind them is at most the next one
-  pub record StopsIn (k : ℕ) (Fits : Stop → Type 0) (NotBegun : Type 0) (asks : List Ask) (old new : Talk S K) : Type 0 where
+  pub record StopsIn (k : ℕ) (Fits : ReplyStop → Type 0) (NotBegun : Type 0) (asks : List Ask) (old new : Talk S K) : Type 0 where
     pub done : List Ask
     pub rest : List Ask
     pub are : asks ≡ done ++ rest

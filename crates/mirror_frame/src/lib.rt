@@ -16,4 +16,4 @@ pub use ask::Ask;
 pub use due::Due;
 pub use fault::ReplyFault;
 pub use peer::{Peer, Received};
-pub use reading::Stop;
+pub use reading::ReplyStop;

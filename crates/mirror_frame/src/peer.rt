@@ -6,7 +6,7 @@ ghost use Rattle.http_frame.specs.Next.{most_head};
 use crate::ask::{Ask, send};
 use crate::due::Due;
 use crate::fault::{ReplyFault, fault_of};
-use crate::reading::{Stop, read_reply};
+use crate::reading::{ReplyStop, read_reply};
 use http_frame::MAX_HEAD;
 use std::alloc::{AllocError, Global};
 use survey_link::{Failed, Inbox, Sink, Source};
@@ -50,7 +50,7 @@ impl Received {
     ghost use Rattle.mirror_frame.specs.Reading.{ReadsReply, read_failed};
 
     // Reads the next reply, and answers its Survey-Prefix.
-    fn read<S: Source>(&mut self, src: &mut S, due: Due) -> Result<Option<u32>, Stop>
+    fn read<S: Source>(&mut self, src: &mut S, due: Due) -> Result<Option<u32>, ReplyStop>
         ensures read { (came : List ℕ) × ReadsWhile S.left S.readings (IsCutReply due) (held self.old.inbox) src.old src.new came
             × ReadsReply due (held self.old.inbox ++ came) self.new.body.items (held self.new.inbox) (S.left src.new) result }
         ensures faults { CountsFault (read_failed result) (S.faults src.old) (S.faults src.new) }
@@ -99,7 +99,7 @@ impl<S: Source, K: Sink> Peer<'_, '_, '_, S, K> {
     ///
     /// `Wrong` if and only if the reply is malformed; `Cut` if and only if the input ends within it, before that is known;
     /// `ReadFault` and `WriteFault` if and only if that end's count of faults rose; `OutOfMemory`.
-    pub fn ask(&mut self, ask: &Ask, due: Due) -> Result<Option<u32>, Stop>
+    pub fn ask(&mut self, ask: &Ask, due: Due) -> Result<Option<u32>, ReplyStop>
         requires { HasOrder ask.now }
         ensures asked { MatchResult result
             (λ prefix. IsExchanged S.Source K.Sink ask.now due (body_of self.new) (talk self.old) (talk self.new))
@@ -111,7 +111,7 @@ impl<S: Source, K: Sink> Peer<'_, '_, '_, S, K> {
     {
         match send(self.sink, ask) {
             Ok(()) => self.received.read(self.src, due),
-            Err(Failed) => Err(Stop::WriteFault),
+            Err(Failed) => Err(ReplyStop::WriteFault),
         }
     }
 }

@@ -16,7 +16,7 @@ use survey_link::{Failed, Inbox, Source};
 
 /// Why a request has no reply.
 #[derive(Clone, Copy, Debug, PartialEq, Eq)]
-pub enum Stop {
+pub enum ReplyStop {
     /// The reply is malformed.
     Wrong,
     /// The input ended within the reply.
@@ -29,14 +29,14 @@ pub enum Stop {
     OutOfMemory,
 }
 
-impl From<AllocError> for Stop {
+impl From<AllocError> for ReplyStop {
     ghost use Rattle.std.specs.Prelude.{◌≡◌};
-    ghost use Rattle.mirror_frame.specs.declared.reading.Stop.TheVariants as stop;
+    ghost use Rattle.mirror_frame.specs.declared.reading.ReplyStop.TheVariants as stop;
 
     ghost from_gives = { λ _ stopped. stopped ≡ stop.OutOfMemory };
 
-    fn from(_error: AllocError) -> Stop {
-        Stop::OutOfMemory
+    fn from(_error: AllocError) -> ReplyStop {
+        ReplyStop::OutOfMemory
     }
 }
 
@@ -46,7 +46,7 @@ pub(crate) fn read_reply<S: Source>(
     src: &mut S,
     body: &mut Vec<u8>,
     due: Due,
-) -> Result<Option<u32>, Stop>
+) -> Result<Option<u32>, ReplyStop>
     requires { size inbox.old ≡ most_head }
     ensures read { (came : List ℕ) × ReadsWhile S.left S.readings (IsCutReply due) (held inbox.old) src.old src.new came
         × ReadsReply due (held inbox.old ++ came) body.new.items (held inbox.new) (S.left src.new) result }
@@ -66,7 +66,7 @@ fn finish_reply<S: Source>(
     body: &mut Vec<u8>,
     due: Due,
     begun: Begun,
-) -> Result<Option<u32>, Stop>
+) -> Result<Option<u32>, ReplyStop>
     requires begun { BeginsReply due (held inbox.old) begun.end begun.head.length begun.head.prefix }
     requires end { begun.end ≤ length (held inbox.old) }
     ensures read { (came : List ℕ) × ReadsWhile S.left S.readings (IsCutReply due) (held inbox.old) src.old src.new came
@@ -78,20 +78,20 @@ fn finish_reply<S: Source>(
     inbox.give(begun.end);
     match take_exact(inbox, src, body) {
         Ok(true) => judge_body(body, due, begun.head.prefix),
-        Ok(false) => Err(Stop::Cut),
-        Err(Failed) => Err(Stop::ReadFault),
+        Ok(false) => Err(ReplyStop::Cut),
+        Err(Failed) => Err(ReplyStop::ReadFault),
     }
 }
 
 // The Survey-Prefix of a reply, where its body is that of the reply that is due.
-fn judge_body(body: &[u8], due: Due, prefix: Option<u32>) -> Result<Option<u32>, Stop>
+fn judge_body(body: &[u8], due: Due, prefix: Option<u32>) -> Result<Option<u32>, ReplyStop>
     ensures told { IfOk result (λ p. (p ≡ prefix) × FitsBody due prefix body.now) }
-    ensures wrong { IfErr result (λ stop. (stop ≡ Stop.Wrong) × ¬ FitsBody due prefix body.now) }
+    ensures wrong { IfErr result (λ stop. (stop ≡ ReplyStop.Wrong) × ¬ FitsBody due prefix body.now) }
 {
     if due.fits_body(prefix, body) {
         Ok(prefix)
     } else {
-        Err(Stop::Wrong)
+        Err(ReplyStop::Wrong)
     }
 }
 
@@ -103,7 +103,7 @@ struct Begun {
 }
 
 // Reads until the head of the reply that is due is held.
-fn begin_reply<S: Source>(inbox: &mut Inbox, src: &mut S, due: Due) -> Result<Begun, Stop>
+fn begin_reply<S: Source>(inbox: &mut Inbox, src: &mut S, due: Due) -> Result<Begun, ReplyStop>
     requires { size inbox.old ≡ most_head }
     ensures begun { IfOk result (λ begun. BeginsReply due (held inbox.new) begun.end begun.head.length begun.head.prefix) }
     ensures end { IfOk result (λ begun. begun.end ≤ length (held inbox.new)) }
@@ -115,20 +115,20 @@ fn begin_reply<S: Source>(inbox: &mut Inbox, src: &mut S, due: Due) -> Result<Be
     match fill_head(inbox, src) {
         Ok(end) => match judge_head(&inbox.held()[..end], due) {
             Some(head) => Ok(Begun { end, head }),
-            None => Err(Stop::Wrong),
+            None => Err(ReplyStop::Wrong),
         },
         Err(stopped) => Err(stop_of(stopped)),
     }
 }
 
 // Why no reply is read where no head was.
-fn stop_of(stopped: FrameStop) -> Stop
+fn stop_of(stopped: FrameStop) -> ReplyStop
     ensures { result ≡ of_stopped stopped }
 {
     match stopped {
-        FrameStop::Refuse(_) => Stop::Wrong,
-        FrameStop::End | FrameStop::Cut => Stop::Cut,
-        FrameStop::ReadFault => Stop::ReadFault,
+        FrameStop::Refuse(_) => ReplyStop::Wrong,
+        FrameStop::End | FrameStop::Cut => ReplyStop::Cut,
+        FrameStop::ReadFault => ReplyStop::ReadFault,
     }
 }
 
