@@ -6,9 +6,9 @@ use Rattle.std.specs.Borrow.{Bor}
 abbrev pub next_count : ℕ → ℕ
 next_count n = min (n + 1) (2 ^ 64 - 1)
 
--- the count of faults rose: by one or more, or to its type's maximum, where it stays
+-- the count of faults rose: by one or more, or to its type's maximum, where it stays; it never falls
 abbrev pub Rises : ℕ → ℕ → Type 0
-Rises old new = next_count old ≤ new
+Rises old new = (next_count old ≤ new) × (old ≤ new)
 
 -- what a call does to a count of faults: it rises where the call failed, and else it stays
 abbrev pub CountsFault : Bool → ℕ → ℕ → Type 0

@@ -102,7 +102,7 @@ impl Door for MemDoor {
             (NoneWaits (Some (connections_of self.old)) × (Some (connections_of self.new) ≡ Some (connections_of self.old)))
             (λ ends. Takes (Some (connections_of self.old)) (Some (connections_of self.new)) (connection_of ends))) }
         ensures refused { IsErrOf result DoorFault.Failed → self.new ≡ after_failed_accept self.old }
-        ensures out_of_memory { IsErrOf result DoorFault.OutOfMemory → self.new ≡ after_memory_fault self.old }
+        ensures out_of_memory { IsErrOf result DoorFault.OutOfMemory → (self.new ≡ after_memory_fault self.old) × (self.old.memory_faults ≤ self.new.memory_faults) }
         ensures never_falls { self.old.faults ≤ self.new.faults }
     {
         if self.calls.fails_next() {
