@@ -18,7 +18,7 @@ const BATCH: &[u8] = b"batch";
 
 /// What a path names.
 #[derive(Clone, Copy, Debug, PartialEq, Eq)]
-pub(crate) enum PathKind {
+pub enum PathKind {
     /// `publish`: the accepted edits are published.
     Publish,
     /// `pin`: the newest state is held.
@@ -35,7 +35,7 @@ pub(crate) enum PathKind {
 
 /// What is asked for.
 #[derive(Clone, Copy, Debug, PartialEq, Eq)]
-pub(crate) enum Call {
+pub enum Call {
     /// The method doesn't fit the path, which allows others.
     NotAllowed(Allow),
     /// A file, or its head alone; `None` where a survey can have none at the path.

@@ -21,6 +21,7 @@ mod served;
 mod step;
 mod text;
 
+pub use call::{Call, PathKind};
 pub use connection::{frame_for, session, session_in};
 pub use room::say_room;
 pub use served::{Served, SessionEnd};

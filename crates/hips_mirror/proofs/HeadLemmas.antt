@@ -34,19 +34,19 @@ use Rattle.mirror_frame.specs.declared.due.Due.{Due}
 -- ---- where the head ends
 
 -- the byte isn't CR
-abbrev no_return : ℕ → Bool
+abbrev pub no_return : ℕ → Bool
 no_return b = not (b == 13)
 
 -- a line without CR, which isn't empty
-abbrev IsLine : List ℕ → Type 0
+abbrev pub IsLine : List ℕ → Type 0
 IsLine text = (0 < length text) × (list_all no_return text ≡ true)
 
-abbrev AreLines : List (List ℕ) → Type 0
+abbrev pub AreLines : List (List ℕ) → Type 0
 AreLines [] = ⊤
 AreLines (l ∷ ls) = IsLine l × AreLines ls
 
 -- lines with their ends, and an empty line
-abbrev lines_text : List (List ℕ) → List ℕ
+abbrev pub lines_text : List (List ℕ) → List ℕ
 lines_text [] = 13 ∷ 10 ∷ []
 lines_text (l ∷ ls) = l ++ 13 ∷ 10 ∷ lines_text ls
 
@@ -137,7 +137,7 @@ line_more l text q p is other ends at =
       ],
     )
 
-length_lines : (l : List ℕ) (ls : List (List ℕ)) → length (lines_text (l ∷ ls)) ≡ length l + 2 + length (lines_text ls)
+pub length_lines : (l : List ℕ) (ls : List (List ℕ)) → length (lines_text (l ∷ ls)) ≡ length l + 2 + length (lines_text ls)
 length_lines l ls = let whole = length-append l (13 ∷ 10 ∷ lines_text ls) in omega (arith, whole)
 
 least_lines : (ls : List (List ℕ)) → 2 ≤ length (lines_text ls)
@@ -162,7 +162,7 @@ lines_end l (m ∷ ms) rest is are p at =
     (lines_end m ms rest are.0 are.1 (p - (length l + 2)) (omega (arith, at, long, more, least, some)))
     (omega (arith, at, long, more, least, some)))
 
-head_length : (l : List ℕ) (ls : List (List ℕ)) (rest : List ℕ) → IsLine l → AreLines ls → length (lines_text (l ∷ ls)) ≤ most_head → IsHeadLength (lines_text (l ∷ ls) ++ rest) (length (lines_text (l ∷ ls)))
+pub head_length : (l : List ℕ) (ls : List (List ℕ)) (rest : List ℕ) → IsLine l → AreLines ls → length (lines_text (l ∷ ls)) ≤ most_head → IsHeadLength (lines_text (l ∷ ls) ++ rest) (length (lines_text (l ∷ ls)))
 head_length l ls rest is are short =
     let least = least_lines ls in
     let long = length_lines l ls in
@@ -176,27 +176,27 @@ head_length l ls rest is are short =
 
 -- ---- what the head says
 
-nil-append : (xs : List ℕ) → [] ++ xs ≡ xs
+pub nil-append : (xs : List ℕ) → [] ++ xs ≡ xs
 nil-append xs = refl
 
 -- a field as the grammar has it: the value stands behind a space
-abbrev field : NamedValue → Field
+abbrev pub field : NamedValue → Field
 field p = record { name = p.0; raw = 32 ∷ p.1; end = crlf }
 
 -- its line
-abbrev field_line : NamedValue → List ℕ
+abbrev pub field_line : NamedValue → List ℕ
 field_line p = p.0 ++ 58 ∷ 32 ∷ p.1
 
 -- a name and a value that may stand in a line, with no blanks around the value
-record IsPair (p : NamedValue) : Type 0 where
-  token : is_token p.0 ≡ true
-  name : list_all no_return p.0 ≡ true
-  bytes : list_all is_value_byte p.1 ≡ true
-  value : list_all no_return p.1 ≡ true
-  front : skip_ows p.1 ≡ p.1
-  back : skip_ows (reverse p.1) ≡ reverse p.1
+pub record IsPair (p : NamedValue) : Type 0 where
+  pub token : is_token p.0 ≡ true
+  pub name : list_all no_return p.0 ≡ true
+  pub bytes : list_all is_value_byte p.1 ≡ true
+  pub value : list_all no_return p.1 ≡ true
+  pub front : skip_ows p.1 ≡ p.1
+  pub back : skip_ows (reverse p.1) ≡ reverse p.1
 
-abbrev ArePairs : List NamedValue → Type 0
+abbrev pub ArePairs : List NamedValue → Type 0
 ArePairs [] = ⊤
 ArePairs (p ∷ ps) = IsPair p × ArePairs ps
 
@@ -211,7 +211,7 @@ is_field p is =
       raw = All-cons (λ b. IsTrue (is_value_byte b)) 32 p.1 refl (AllPass-from_list_all is_value_byte p.1 is.bytes);
     }
 
-all_fields : (ps : List NamedValue) → ArePairs ps → All IsField (map field ps)
+pub all_fields : (ps : List NamedValue) → ArePairs ps → All IsField (map field ps)
 all_fields [] are = All-nil IsField
 all_fields (p ∷ ps) are = All-cons IsField (field p) (map field ps) (is_field p are.0) (all_fields ps are.1)
 
@@ -222,14 +222,14 @@ is_line p is =
       list_all-append no_return p.0 (58 ∷ 32 ∷ p.1) ∙ and_from (list_all no_return p.0) (list_all no_return (58 ∷ 32 ∷ p.1)) is.name is.value,
     )
 
-are_lines_of : (ps : List NamedValue) → ArePairs ps → AreLines (map field_line ps)
+pub are_lines_of : (ps : List NamedValue) → ArePairs ps → AreLines (map field_line ps)
 are_lines_of [] are = tt
 are_lines_of (p ∷ ps) are = (is_line p are.0, are_lines_of ps are.1)
 
 regroup : (a b s : List ℕ) → (a ++ 58 ∷ 32 ∷ b) ++ 13 ∷ 10 ∷ (s ++ 13 ∷ 10 ∷ []) ≡ (((a ++ 58 ∷ 32 ∷ b) ++ 13 ∷ 10 ∷ []) ++ s) ++ 13 ∷ 10 ∷ []
 regroup a b s = simp (append_assoc, cons-append, nil-append)
 
-printed : (ps : List NamedValue) → lines_text (map field_line ps) ≡ print_section (map field ps) crlf
+pub printed : (ps : List NamedValue) → lines_text (map field_line ps) ≡ print_section (map field ps) crlf
 printed [] = refl
 printed (p ∷ ps) =
     let later : List ℕ = flat_map print_field (map field ps) in
@@ -259,7 +259,7 @@ reads_head ps are = (
   printed_head ps,
 )
 
-valued : (ps : List NamedValue) → ArePairs ps → map name_and_value (map field ps) ≡ ps
+pub valued : (ps : List NamedValue) → ArePairs ps → map name_and_value (map field ps) ≡ ps
 valued [] are = refl
 valued (p ∷ ps) are = λ i. (p.0, trim_ows_space p.1 are.0.front are.0.back i) ∷ valued ps are.1 i
 
@@ -297,13 +297,13 @@ module _ (ps : List NamedValue) (are : ArePairs ps) (few : length ps ≤ most_fi
 
 -- ---- numbers in it
 
-each_digit : (test : ℕ → Bool) → ((b : ℕ) → is_ascii_digit b ≡ true → test b ≡ true) → (ds : List ℕ) → list_all is_ascii_digit ds ≡ true → list_all test ds ≡ true
+pub each_digit : (test : ℕ → Bool) → ((b : ℕ) → is_ascii_digit b ≡ true → test b ≡ true) → (ds : List ℕ) → list_all is_ascii_digit ds ≡ true → list_all test ds ≡ true
 each_digit test passes [] all = refl
 each_digit test passes (d ∷ ds) all =
     let parts = and_parts (is_ascii_digit d) (list_all is_ascii_digit ds) all in
     and_from (test d) (list_all test ds) (passes d parts.0) (each_digit test passes ds parts.1)
 
-digit_plain : (b : ℕ) → is_ascii_digit b ≡ true → no_return b ≡ true
+pub digit_plain : (b : ℕ) → is_ascii_digit b ≡ true → no_return b ≡ true
 digit_plain b e = grind (arith, nat_tests)
 
 digit_value_byte : (b : ℕ) → is_ascii_digit b ≡ true → is_value_byte b ≡ true

@@ -124,7 +124,7 @@ faultless_parts : (text : List ℕ) → fault_of text ≡ None → (first_fault 
 unfolding fault_of
 faultless_parts text e = no_first (first_fault (contents text)) (fault_together (entries (contents text))) e
 
-described_is : ReadIsNormal → (body : List ℕ) (d : Description) → IsProperties body d → IsDescription d
+pub described_is : ReadIsNormal → (body : List ℕ) (d : Description) → IsProperties body d → IsDescription d
 described_is normal body d a =
     let parts = faultless_parts a.text a.faultless in
     subst IsDescription (sym a.described) (described-lines normal (contents a.text) (entries (contents a.text)) refl parts.0 parts.1)
@@ -185,7 +185,7 @@ module _ (stands : OneReplyStands) (normal : ReadIsNormal) (made : MadeCardsAreC
       let same = one_reply (Survey k) a.behind p q u v a.reply other in
       (pins.0, same.0, properties_once q d e (subst (λ t. IsProperties t d) same.0 a.is) b.is, same.1)
 
-  covered_once : (bytes : List ℕ) (k m : ℕ) (p q : List ℕ) (d e : Description) (ns ms u v : List ℕ) → Covered bytes k p d ns u → Covered bytes m q e ms v
+  pub covered_once : (bytes : List ℕ) (k m : ℕ) (p q : List ℕ) (d e : Description) (ns ms u v : List ℕ) → Covered bytes k p d ns u → Covered bytes m q e ms v
       → (k ≡ m) × (p ≡ q) × (d ≡ e) × (ns ≡ ms) × (u ≡ v)
   covered_once bytes k m p q d e ns ms u v a b =
       let ds = described_once bytes k m p q d e a.behind b.behind a.described b.described in

@@ -262,41 +262,42 @@ module _ (plain : PlainIsRead) (again : PropertiesReadAgain) (tiles : TilesAreRe
       behind [] fit = All-head Fits Unpin [] fit
       behind (a ∷ list) fit = behind list (All-tail Fits a (list ++ Unpin ∷ []) fit)
 
-  module _ (rest : List ℕ) where
-    described : Described (sent (Pin ∷ File path.Properties ∷ File path.Moc ∷ from_leaves) ++ rest) state.tip (file_of conf all path.Properties) conf (sent (File path.Moc ∷ from_leaves) ++ rest)
+  -- the description and the cover come first, whatever is asked for behind them
+  module _ (more : List Ask) (rest : List ℕ) where
+    described : Described (sent (Pin ∷ File path.Properties ∷ File path.Moc ∷ more) ++ rest) state.tip (file_of conf all path.Properties) conf (sent (File path.Moc ∷ more) ++ rest)
     described = record {
-      behind = sent (File path.Properties ∷ File path.Moc ∷ from_leaves) ++ rest;
-      pinned = subst (λ t. IsReply Pinned t (pinned_line state.tip) (sent (File path.Properties ∷ File path.Moc ∷ from_leaves) ++ rest)) (sym (append_assoc (sent_to Pin) (sent (File path.Properties ∷ File path.Moc ∷ from_leaves)) rest))
-          (pin_replied (sent (File path.Properties ∷ File path.Moc ∷ from_leaves) ++ rest) (All-head Fits Pin (File path.Properties ∷ File path.Moc ∷ from_leaves) fit_all));
-      reply = subst (λ t. IsReply (Survey state.tip) t (file_of conf all path.Properties) (sent (File path.Moc ∷ from_leaves) ++ rest)) (sym (append_assoc (sent_to (File path.Properties)) (sent (File path.Moc ∷ from_leaves)) rest))
-          (file_replied path.Properties (sent (File path.Moc ∷ from_leaves) ++ rest) tt tt (All-head Fits (File path.Properties) (File path.Moc ∷ from_leaves) fit_files));
+      behind = sent (File path.Properties ∷ File path.Moc ∷ more) ++ rest;
+      pinned = subst (λ t. IsReply Pinned t (pinned_line state.tip) (sent (File path.Properties ∷ File path.Moc ∷ more) ++ rest)) (sym (append_assoc (sent_to Pin) (sent (File path.Properties ∷ File path.Moc ∷ more)) rest))
+          (pin_replied (sent (File path.Properties ∷ File path.Moc ∷ more) ++ rest) (All-head Fits Pin (File path.Properties ∷ File path.Moc ∷ from_leaves) fit_all));
+      reply = subst (λ t. IsReply (Survey state.tip) t (file_of conf all path.Properties) (sent (File path.Moc ∷ more) ++ rest)) (sym (append_assoc (sent_to (File path.Properties)) (sent (File path.Moc ∷ more)) rest))
+          (file_replied path.Properties (sent (File path.Moc ∷ more) ++ rest) tt tt (All-head Fits (File path.Properties) (File path.Moc ∷ from_leaves) fit_files));
       is = properties_is;
     }
 
-    covered : Covered (sent (Pin ∷ File path.Properties ∷ File path.Moc ∷ from_leaves) ++ rest) state.tip (file_of conf all path.Properties) conf (keys_of all) (sent from_leaves ++ rest)
+    pub covered : Covered (sent (Pin ∷ File path.Properties ∷ File path.Moc ∷ more) ++ rest) state.tip (file_of conf all path.Properties) conf (keys_of all) (sent more ++ rest)
     covered = record {
-      behind = sent (File path.Moc ∷ from_leaves) ++ rest;
+      behind = sent (File path.Moc ∷ more) ++ rest;
       described = described;
       body = file_of conf all path.Moc;
-      reply = subst (λ t. IsReply (Survey state.tip) t (file_of conf all path.Moc) (sent from_leaves ++ rest)) (sym (append_assoc (sent_to (File path.Moc)) (sent from_leaves) rest))
-          (file_replied path.Moc (sent from_leaves ++ rest) tt tt (All-head Fits (File path.Moc) from_leaves fit_cover));
+      reply = subst (λ t. IsReply (Survey state.tip) t (file_of conf all path.Moc) (sent more ++ rest)) (sym (append_assoc (sent_to (File path.Moc)) (sent more) rest))
+          (file_replied path.Moc (sent more ++ rest) tt tt (All-head Fits (File path.Moc) from_leaves fit_cover));
       is = cover_is;
       fits = ap (is_too_large conf.shape) (length-keys_of all) ∙ can.few;
     }
 
-    copied : IsCopy (sent (Pin ∷ File path.Properties ∷ File path.Moc ∷ from_leaves) ++ rest) conf all
-    copied = record {
-      k = state.tip;
-      behind = sent (Unpin ∷ []) ++ rest;
-      compared = record {
-        behind = sent later ++ rest;
-        has = record { behind = sent from_leaves ++ rest; covered = covered; are = all_replied later rest fit_leaves };
-        mosaic = mosaic_replied all rest refl fit_later;
-      };
-      body = codes "released" ++ 10 ∷ [];
-      rest = rest;
-      reply = subst (λ t. IsReply Any t (codes "released" ++ 10 ∷ []) rest) (sym (append_assoc (sent_to Unpin) [] rest)) (unpin_replied rest fit_unpin);
-    }
+  copied : (rest : List ℕ) → IsCopy (sent (Pin ∷ File path.Properties ∷ File path.Moc ∷ from_leaves) ++ rest) conf all
+  copied rest = record {
+    k = state.tip;
+    behind = sent (Unpin ∷ []) ++ rest;
+    compared = record {
+      behind = sent later ++ rest;
+      has = record { behind = sent from_leaves ++ rest; covered = covered from_leaves rest; are = all_replied later rest fit_leaves };
+      mosaic = mosaic_replied all rest refl fit_later;
+    };
+    body = codes "released" ++ 10 ∷ [];
+    rest = rest;
+    reply = subst (λ t. IsReply Any t (codes "released" ++ 10 ∷ []) rest) (sym (append_assoc (sent_to Unpin) [] rest)) (unpin_replied rest fit_unpin);
+  }
 
   copied_of : (bytes : List ℕ) → Begins (peer_bytes conf opening state) bytes → IsCopy bytes conf all
   unfolding peer_bytes
