@@ -11,13 +11,19 @@
 #     examples/edit.sh read PATH ..         files of one generation, each at its path below the current folder
 #     examples/edit.sh replay FOLDER ADDRESS [EDITS]   the edits and publications of a journal, in order, to a fresh server, or to
 #                                           one that has accepted EDITS edits of others
+#     examples/edit.sh rest FOLDER EDITS NEW [LATER]   a journal, in the new folder NEW, of the entries that a copy with EDITS edits lacks
 #
 # HIPSD is the server's address, http://127.0.0.1:8080 if it isn't set; curl takes a password from ~/.netrc. If hipsd listens at a Unix
 # socket, HIPSD_SOCKET is its path, and HIPSD isn't needed.
 # With a folder in HIPSD_JOURNAL each edit, batch and publication is written there and is on the disk before it is sent, and is marked
 # once it is answered. So a server that ended can have its edits again, by `replay`, over the folder that it was started with. If the
 # server has fewer edits than after the journal's last one, it has started again: then nothing is sent. Once others have sent as many,
-# that can't be told: so after each restart replay first.
+# that can't be told: so after each restart replay first. A replay ends where an entry isn't answered, or is answered 429 or 503: what
+# comes after it would be without it.
+# `rest` is for a server over a copy of an earlier one (backup.sh), whose Survey-Prefix was EDITS: NEW is replayed to it, and is the journal
+# from then on. Of the entries behind the last one that the copy has it takes all, with or without an answer. A journal that was replayed
+# has the numbers of several servers. LATER is how many of its replays went to servers later than the copied one, and is wanted only if
+# that makes a difference.
 # If nobody listens, or the reply is 429 or 503, nothing was changed: the edit is sent again after 1, 2, 4, 8 and 16 seconds, six times in
 # all, or HIPSD_TRIES times. An edit that may have been accepted is sent again by `replay` only.
 # The status is 0 where the server did what was asked, and its reply is written as it came; 1 where not; 2 where the words are wrong,
@@ -32,7 +38,8 @@ tries=${HIPSD_TRIES:-6}
 case $journal in '' | /*) ;; *) journal=./$journal ;; esac
 
 work=$(mktemp -d)
-trap 'rm -rf "$work"' EXIT
+made=
+trap 'rm -rf "$work" ${made:+"$made"}' EXIT
 trap 'exit 1' HUP INT TERM
 
 # refuse WORD ..: says what is wrong, before anything is sent.
@@ -243,7 +250,8 @@ explain() {
 }
 
 # ---- the journal: NUMBER.edit is one line, the edit, its path and when it was sent; NUMBER.body its body; NUMBER.answer what it was
-# answered, and NUMBER.again what it was answered by the last server to which the journal was replayed
+# answered; and NUMBER.again what it was answered by the servers to which the journal was replayed, a line each, the last one first. In
+# the rest of a journal the answers of earlier servers have - in place of their numbers.
 
 # names FOLDER: the names of a journal's entries, in order.
 names() {
@@ -291,6 +299,7 @@ same_history() {
         last=$(answered "$journal" "$name")
         accepted "$last" || continue
         behind=$(echo "$last" | cut -d ' ' -f 2)
+        [ "$behind" != - ] || fail "nothing was sent: $journal is the rest of a journal, and has to be replayed first"
         whole "$behind" || fail "$journal/$name.answer has no number of edits: $last"
         break
     done 8<"$work/names"
@@ -299,7 +308,7 @@ same_history() {
     [ "$count" -lt "$behind" ] || return 0
     fail "nothing was sent: $base has $count edits, and had $behind after the last one of $journal. So it has started again, from its folder.
     If the folder has these edits (rollover.sh renewed the server): start a new journal, another folder in HIPSD_JOURNAL.
-    If it has some of them (it is a copy): docs/OPERATING.md, 'After a loss'.
+    If it has some of them (it is a copy): 'edit.sh rest', by docs/OPERATING.md, 'After a loss'.
     If not: 'edit.sh replay $journal $base' sends them again, in order."
 }
 
@@ -363,8 +372,18 @@ edit() {
 
 # ---- the journal, sent again
 
+# journal_of FOLDER: $journal is that one, nobody else's meanwhile, with its entries' names in $work/names; all are judged.
+journal_of() {
+    [ -d "$1" ] || refuse "there is no folder $1"
+    case $1 in /*) journal=$1 ;; *) journal=./$1 ;; esac
+    umask 077
+    locked "$journal"
+    names "$journal" >"$work/names"
+    while read -r name <&8; do entry "$journal" "$name"; done 8<"$work/names"
+}
+
 # again NAME ADDRESS: sends an entry that was accepted, or never answered, and compares its answer with the one that it had last. Says
-# nothing where they are the same; where edits of others stand before it, its number is another one.
+# nothing where they are the same; where edits of others stand before it, or it had - for its number, the number may be another one.
 again() {
     entry "$journal" "$1"
     first=
@@ -372,25 +391,24 @@ again() {
     [ -z "$first" ] || accepted "$first" || return 0
     was=$(answered "$journal" "$1")
     sends "$edit" "$path" "$journal/$1.body" "$2"
-    { known "$reply" && [ "$reply" != unsent ]; } || fail "$1, $edit $path: not answered. The replay ends here; begin again, with a fresh server"
+    case $reply in unsent | '429 '* | '503 '*) false ;; *) known "$reply" ;; esac ||
+        fail "$1, $edit $path: ${reply:-not answered}. The replay ends here: start the server again over its folder, and replay all journals from the first on"
     sent=$((sent + 1))
     echo "$1 $reply" >>"$work/again"
-    if [ "$others" = 0 ]; then [ "$was" != "$reply" ] || return 0; else [ "${was%% *}" != "${reply%% *}" ] || return 0; fi
+    case $others:$was in
+        0:[0-9][0-9][0-9]' '[!-]*) [ "$was" != "$reply" ] || return 0 ;;
+        *) [ "${was%% *}" != "${reply%% *}" ] || return 0 ;;
+    esac
     echo "$1, $edit $path: was ${was:-never answered}, is $reply"
     differing=$((differing + 1))
 }
 
 # replay FOLDER ADDRESS [EDITS]: nothing is sent before all entries were judged.
 replay() {
-    [ -d "$1" ] || refuse "there is no folder $1"
-    case $1 in /*) journal=$1 ;; *) journal=./$1 ;; esac
     address "$2"
     others=${3:-0}
     whole "$others" || refuse "'$others' is no number of edits"
-    umask 077
-    locked "$journal"
-    names "$journal" >"$work/names"
-    while read -r name <&8; do entry "$journal" "$name"; done 8<"$work/names"
+    journal_of "$1"
     count_edits "${2%/}"
     [ "$count" = "$others" ] || fail "nothing was sent: the server at $2 is no fresh one: it has accepted $count edits.
     If they are those of this journal, nothing is missing. If they are others, there are two ways:
@@ -399,10 +417,72 @@ replay() {
     sent=0 differing=0
     : >"$work/again"
     while read -r name <&8; do again "$name" "${2%/}"; done 8<"$work/names"
-    while read -r name reply <&8; do printf '%s\n' "$reply" | keep "$journal/$name.again"; done 8<"$work/again"
+    while read -r name reply <&8; do
+        {
+            printf '%s\n' "$reply"
+            ! file "$journal/$name.again" || cat "$journal/$name.again"
+        } | keep "$journal/$name.again"
+    done 8<"$work/again"
     sync "$journal"
     echo "$(wc -l <"$work/names") entries: $sent sent again, the others weren't accepted; $differing answered otherwise than before"
     [ "$differing" = 0 ]
+}
+
+# ---- the rest of a journal, behind a copy
+
+# numbers NAME: an entry's name and its numbers, by the last server first; - where it wasn't accepted, or by a server before the journal.
+numbers() {
+    {
+        ! file "$journal/$1.again" || head -c 9000 "$journal/$1.again"
+        if file "$journal/$1.answer"; then head -c 300 "$journal/$1.answer" | head -n 1; else echo; fi
+    } | awk -v name="$1" '{ all = all " " ($1 ~ /^2[0-9][0-9]$/ && $2 ~ /^[0-9]+$/ ? $2 : "-") } END { print name all }'
+}
+
+# behind_copy EDITS LATER: the names of the entries behind the last one that the copy has.
+behind_copy() {
+    awk -v edits="$1" -v column=$(($2 + 2)) '
+        { names[NR] = $1 }
+        $column ~ /^[0-9]+$/ && $column <= edits + 0 { last = NR }
+        END { for (i = last + 1; i <= NR; i++) print names[i] }' "$work/numbers"
+}
+
+# one_answer FOLDER EDITS NEW: ends this if it makes a difference which of the journal's servers was copied.
+one_answer() {
+    replays=$(awk 'NF > most { most = NF } END { print most < 2 ? 0 : most - 2 }' "$work/numbers")
+    for later in $(seq "$replays"); do
+        behind_copy "$2" "$later" | cmp -s - "$work/rest" && continue
+        again=$(find "$journal/" -maxdepth 1 -name '*.again' -print -quit)
+        fail "no journal was made: $1 was replayed, last at $(date -u -r "$again" +%Y-%m-%dT%H:%M:%SZ), and has the numbers of several servers.
+    If the copy is of the server to which it was replayed last: 'edit.sh rest $1 $2 $3 0'.
+    If it is of the server before that one: 'edit.sh rest $1 $2 $3 1', and so on."
+    done
+}
+
+# rest FOLDER EDITS NEW [LATER]: NEW is there whole, or not at all.
+rest() {
+    case $3 in /*) new=${3%/} ;; *) new=./${3%/} ;; esac
+    whole "$2" || refuse "'$2' is no number of edits"
+    whole "${4:-0}" || refuse "'$4' is no number of replays"
+    { [ ! -e "$new" ] && [ ! -L "$new" ]; } || refuse "$3 is there already"
+    journal_of "$1"
+    while read -r name <&8; do numbers "$name"; done 8<"$work/names" >"$work/numbers"
+    behind_copy "$2" "${4:-0}" >"$work/rest"
+    [ -n "${4:-}" ] || one_answer "$@"
+    mkdir "$new.unfinished"
+    made=$new.unfinished
+    while read -r name <&8; do
+        cp "$journal/$name.edit" "$made/"
+        ! file "$journal/$name.body" || cp "$journal/$name.body" "$made/"
+        ! file "$journal/$name.answer" || head -c 300 "$journal/$name.answer" | head -n 1 | sed 's/^\([0-9]* \)[^ ]*/\1-/' >"$made/$name.answer"
+    done 8<"$work/rest"
+    sync -f "$made"
+    mv -T "$made" "$new"
+    made=
+    sync "$(dirname "$new")"
+    all=$(wc -l <"$work/names") kept=$(wc -l <"$work/rest")
+    echo "$3 has the last $kept of $all entries. Next: edit.sh replay $3 ADDRESS, and HIPSD_JOURNAL=$3"
+    [ "$kept" -lt "$all" ] || return 0
+    echo "The copy has those up to: $(cut -c 1-100 "$journal/$(sed -n "$((all - kept))p" "$work/names").edit"). If the copy is older than that, $2 counts the edits of another server"
 }
 
 # ---- what is read
@@ -502,6 +582,10 @@ case $command in
     replay)
         [ $# = 3 ] || wants $# replay FOLDER ADDRESS
         replay "$@"
+        ;;
+    rest)
+        [ $# = 4 ] || wants $# rest FOLDER EDITS NEW
+        rest "$@"
         ;;
     *)
         [ -z "$command" ] || echo "edit.sh: '$command' is no command; there are" >&2

@@ -146,6 +146,7 @@ class Journals(Attack):
                 self.refused(self.run_script("edit.sh", "replay", "journal", self.base))
                 self.assertEqual(self.edits(), before, "something was sent")
                 self.refused(self.run_script("look-back.sh", self.journal))
+                self.refused(self.run_script("edit.sh", "rest", "journal", "0", "new"))
 
     def edits(self):
         """How many edits the server has accepted: no leaf can be removed twice."""
@@ -165,6 +166,8 @@ class Journals(Attack):
         self.refused(self.run_script("edit.sh", "replay", "journal", self.base))
         self.assertEqual(self.edits(), before, "another file was sent")
         self.refused(self.run_script("look-back.sh", self.journal))
+        self.refused(self.run_script("edit.sh", "rest", "journal", "0", "new"))
+        self.assertFalse((self.place / "new").exists(), "another file was copied")
         for path in self.journal.iterdir():
             path.unlink()
         for name in ("lock", "00000001.edit.new", "00000001.answer.new"):

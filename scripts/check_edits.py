@@ -1,12 +1,13 @@
 #!/usr/bin/python3
 """Tries edit.sh and look-back.sh on a bad day: check_edits.py [PROGRAM].
 
-A server that has started again, one that has edits of others, one that isn't there yet or is busy; refusals in words; earlier states by
-their times, and as a folder. PROGRAM is crates/hipsd/out/hipsd if none is named. What it starts it ends, and nothing
+A server that has started again, one that has edits of others, one over a copy, one that isn't there yet or is busy; refusals in words;
+earlier states by their times, and as a folder. PROGRAM is crates/hipsd/out/hipsd if none is named. What it starts it ends, and nothing
 is written outside a folder of its own.
 """
 
 import os
+import re
 import shutil
 import subprocess
 import sys
@@ -35,6 +36,10 @@ class Replies(BaseHTTPRequestHandler):
 
     def do_GET(self):
         self.reply(200, b"hips_order = 5\n")
+
+    def do_POST(self):
+        self.rfile.read(int(self.headers["Content-Length"]))
+        self.reply(412, b"batch 1 precondition failed\n")
 
     def do_PUT(self):
         self.rfile.read(int(self.headers["Content-Length"]))
@@ -65,8 +70,8 @@ class Day(unittest.TestCase):
         for number, tile in enumerate(TILES):
             (self.folder / f"tile{number}").write_bytes(tile)
 
-    def serve(self, port=None):
-        self.server = Server(self.folder, port=port)
+    def serve(self, port=None, survey=None):
+        self.server = Server(self.folder, survey, port)
         self.addCleanup(self.server.end)
         self.base = f"http://{self.server.address}"
 
@@ -75,11 +80,11 @@ class Day(unittest.TestCase):
         self.server.end()
         self.serve()
 
-    def run_script(self, name, *words, **environment):
+    def run_script(self, name, *words, body=b"", **environment):
         told = {"HIPSD": self.base, "HIPSD_PROGRAM": str(check_attacks.PROGRAM), "HIPSD_TRIES": "1", "HIPSD_LOG": "warn", **environment}
         return subprocess.run(
             [EXAMPLES / name, *map(str, words)], cwd=self.folder if name == "edit.sh" else self.server.folder, env={**os.environ, **told},
-            stdin=subprocess.DEVNULL, capture_output=True, timeout=60,
+            input=body, capture_output=True, timeout=60,
         )
 
     def edit(self, *words, status=0, text="", **environment):
@@ -167,6 +172,179 @@ class Anew(Day):
         self.edit("replay", self.journal, self.base, text="4 entries: 4 sent again")
 
 
+class Copied(Day):
+    """A server is lost with its folder, and another one goes on from a copy: the journal's entries that the copy lacks are replayed."""
+
+    def copy(self):
+        """A copy of what is published: its folder, and the number of its edits as an operator reads it in the log."""
+        link = self.folder / "kept"
+        answer = self.run_script("backup.sh", self.server.address, link, HIPSD_LOG="info", HIPSD_SERVERS=str(self.folder), HIPSD_UNITS=str(self.folder))
+        self.assertEqual(answer.returncode, 0, answer)
+        prefix, = re.findall(rb"copied: the peer's Survey-Prefix (\d+)", answer.stderr)
+        return link.resolve(), int(prefix)
+
+    def lost(self, copy):
+        """The server ends, and one begins over the copy."""
+        self.server.end()
+        self.serve(survey=copy)
+
+    def other(self, leaf, tile):
+        """An edit of somebody without a journal."""
+        urlopen(Request(f"{self.base}/{path_of(leaf)}", TILES[tile], method="PUT"), timeout=20)
+
+    def tiles(self):
+        """The tiles of all leaves that are edited here, as published."""
+        self.edit("publish", HIPSD_JOURNAL="")
+        return {leaf: self.served(path_of(leaf)) for leaf in range(1, 10)}
+
+    def rest(self, edits, *later, status=0, text=""):
+        """The rest of the journal, which is the journal from then on."""
+        new = Path(tempfile.mkdtemp(dir=self.folder)) / "rest"
+        self.edit("rest", self.journal, edits, new, *later, status=status, text=text)
+        self.assertEqual(list(new.parent.iterdir()), [new] if status == 0 else [], "a part of a journal is left")
+        if status == 0:
+            self.journal = new
+
+    def replay(self, *others, text):
+        self.edit("replay", self.journal, self.base, *others, text=text)
+
+    def test_an_older_edit_undoes_no_newer_one(self):
+        self.serve()
+        for leaf in (1, 2):
+            self.put(leaf)
+        self.other(1, 3)
+        self.edit("publish")
+        copy, edits = self.copy()
+        self.assertEqual(edits, 3)
+        self.put(2, tile=1)
+        self.edit("remove", 1)
+        self.put(3)
+        self.edit("publish")
+        self.put(4)
+        then = self.tiles()
+        self.lost(copy)
+        self.put(5, status=1, text="edit.sh rest")
+        self.rest(edits, text="the last 5 of 8 entries")
+        self.put(5, status=1, text="has to be replayed first")
+        self.replay(text="5 entries: 5 sent again, the others weren't accepted; 0 answered otherwise")
+        self.assertEqual(self.tiles(), then)
+        self.put(5, text="Survey-Edits: 5")
+        self.assertEqual(self.entries()[-1], "00000009.edit")
+
+    def test_a_batch(self):
+        self.serve()
+        self.put(1)
+        self.put(2)
+        self.edit("publish")
+        copy, edits = self.copy()
+        self.edit("batch", body=b"add 3 %d\n" % len(TILES[1]) + TILES[1] + b"remove 1\nreplace 2 %d\n" % len(TILES[2]) + TILES[2], text="accepted 3")
+        self.edit("add", 3, self.folder / "tile0", status=1)
+        self.edit("add", 1, self.folder / "tile3")
+        then = self.tiles()
+        self.lost(copy)
+        self.rest(edits, text="the last 3 of 6 entries")
+        self.replay(text="3 entries: 2 sent again, the others weren't accepted; 0 answered otherwise")
+        self.assertEqual(self.tiles(), then)
+
+    def test_a_second_loss(self):
+        """Of the server over the first copy, of which there is a second one."""
+        self.serve()
+        for leaf in (1, 2, 3):
+            self.put(leaf)
+        self.edit("publish")
+        first, edits = self.copy()
+        self.put(4)
+        self.put(5)
+        self.lost(first)
+        self.rest(edits)
+        self.replay(text="2 entries: 2 sent again")
+        self.put(1, tile=1)
+        self.edit("publish")
+        self.other(4, 2)
+        self.edit("publish")
+        second, edits = self.copy()
+        self.assertEqual(edits, 4)
+        self.put(6)
+        then = self.tiles()
+        self.lost(second)
+        self.rest(edits, status=1, text="the numbers of several servers")
+        self.rest(edits, 0, text="the last 1 of 6 entries")
+        self.replay(text="1 entries: 1 sent again, the others weren't accepted; 0 answered otherwise")
+        self.assertEqual(self.tiles(), then)
+
+    def test_replayed_since_the_copy(self):
+        """Two replays went to servers later than the one that was copied, whose numbers begin at one again."""
+        self.serve()
+        self.other(9, 1)
+        for leaf in (1, 2):
+            self.put(leaf)
+        self.edit("publish")
+        copy, edits = self.copy()
+        self.put(1, tile=1)
+        then = self.tiles()
+        self.server.end()
+        shutil.rmtree(self.server.folder)
+        self.serve()
+        self.edit("replay", self.journal, self.base, status=1, text="was 201 2, is 201 1")
+        self.put(3)
+        self.again()
+        self.edit("replay", self.journal, self.base, text="5 entries: 5 sent again")
+        self.lost(copy)
+        self.rest(edits, status=1, text=f"edit.sh rest {self.journal} 3 ")
+        self.rest(edits, 2, text="the last 2 of 5 entries")
+        self.replay(text="2 entries: 2 sent again")
+        self.assertEqual(self.tiles(), {**then, 3: self.served(path_of(3))})
+        self.assertIsNotNone(self.served(path_of(3)))
+
+    def test_after_others(self):
+        """The edits of others stand before it."""
+        self.serve()
+        self.put(1)
+        self.edit("publish")
+        copy, edits = self.copy()
+        self.put(1, tile=1)
+        self.put(2)
+        self.lost(copy)
+        self.other(2, 3)
+        self.rest(edits)
+        self.edit("replay", self.journal, self.base, status=1, text="it has accepted 1 edits")
+        self.edit("replay", self.journal, self.base, 1, status=1, text=f"put {path_of(2)}: was 201 -, is 204 3")
+        self.assertEqual(self.tiles()[2][2880:], TILES[0][2880:], "the journal's tile stands")
+
+    def test_without_an_answer(self):
+        """One before the copy isn't sent again, since the copy has it if it was accepted; one behind the copy is."""
+        self.serve()
+        for leaf in (1, 2, 3):
+            self.put(leaf)
+        self.edit("publish")
+        copy, edits = self.copy()
+        self.put(4)
+        self.put(5)
+        for number in (1, 5):
+            (self.journal / f"{number:08}.answer").unlink()
+        then = self.tiles()
+        self.lost(copy)
+        self.rest(edits, text="the last 2 of 6 entries")
+        self.edit("replay", self.journal, self.base, status=1, text=f"put {path_of(4)}: was never answered, is 201 1")
+        self.assertEqual(self.tiles(), then)
+
+    def test_the_words(self):
+        self.serve()
+        self.put(1)
+        there = self.folder / "there"
+        there.mkdir()
+        dangling = self.folder / "dangling"
+        dangling.symlink_to(self.folder / "nothing")
+        for new in (self.journal, there, dangling):
+            self.edit("rest", self.journal, 1, new, status=2, text="is there already")
+        self.assertEqual(list(there.iterdir()), [])
+        self.edit("rest", self.folder / "nothing", 1, self.folder / "new", status=2, text="there is no folder")
+        self.edit("rest", self.journal, "01", self.folder / "new", status=2, text="is no number of edits")
+        self.edit("rest", self.journal, status=2, text="rest wants FOLDER EDITS NEW, and has no EDITS NEW")
+        (self.journal / "00000002.edit").write_text("sing\n")
+        self.rest(1, status=1, text="is no entry of a journal")
+
+
 class Again(Day):
     """An edit that changed nothing is sent again, and no other."""
 
@@ -205,6 +383,17 @@ class Again(Day):
                 server = self.stub((code, b""))
                 self.put(1, status=1, text="it isn't known whether it was accepted", HIPSD_TRIES="6", HIPSD_JOURNAL="")
                 self.assertEqual(server.seen, ["PUT"])
+
+    def test_a_replay_that_breaks_off(self):
+        """No entry is sent after one that the server has no room for at the moment."""
+        self.stub()
+        self.put(1)
+        self.put(2)
+        self.put(3)
+        server = self.stub((201, b""), (503, b"later\n"))
+        self.edit("replay", self.journal, self.base, status=1, text="replay all journals from the first on")
+        self.assertEqual(server.seen, ["PUT"] * 2)
+        self.assertFalse(list(self.journal.glob("*.again")), "a replay that broke off counts")
 
     def test_refusals_in_words(self):
         for reply, text in (
