@@ -4,7 +4,7 @@
 #
 # - hipsd@survey0 serves at a Unix socket that the proxy's group alone reaches, nginx is before it. hipsd-backup.service makes a copy.
 # - rollover.sh renews the server as hipsd@survey1; the next copy is of that. hipsd-renew.service sees that it has room. A restart drains it
-#   first, and says what is lost.
+#   first, and says what is lost. Then it is lost with its folder, and goes on from the copy by the commands of OPERATING.
 # - After the second boot the renewed server runs, with the edits that it began with, and nginx goes to it. Then it is renewed at a port
 #   (hipsd.tcp.conf): rollover.sh stops where hipsd.tcp.nft doesn't name that. It goes back to a Unix socket, and hipsd-renew.service renews
 #   it before its connections are taken.
@@ -192,7 +192,34 @@ systemctl restart hipsd@survey1
 ready --unix-socket /run/hipsd/survey1 http://hipsd/properties
 is 200 code http://localhost/survey/properties
 says hipsd@survey1 'drain.sh: /run/hipsd/survey1 ends, and with it the 1 edits since its start, 1 of them never published'
-systemctl enable --quiet hipsd-backup.timer hipsd-renew.timer
+systemctl enable --quiet --now hipsd-backup.timer hipsd-renew.timer
+
+# Lost with its folder: the commands of OPERATING, 'After a loss', but for the name of the copy and its number of edits. The copy has
+# leaves 8 and 9, the journal leaf 10 too; somebody without a journal has removed leaf 8, which no copy shows.
+export HOME=/root HIPSD=http://localhost/edit HIPSD_JOURNAL=/root/journal
+echo 'machine localhost login editor password secret' >/root/.netrc
+edit() {
+    "$examples/edit.sh" "$@" >/mnt/out/said 2>&1 || wrong "edit.sh $*: $(cat /mnt/out/said)"
+}
+edit put 8 /mnt/out/10.fits
+edit publish
+systemctl start hipsd-backup || wrong "hipsd-backup.service before a loss"
+edit put 10 /mnt/out/10.fits
+curl -s -u editor:secret -X DELETE "http://localhost/edit/$(leaf 8)"
+rm -r "$(readlink -f /var/lib/hipsd/survey1)"/Norder*
+systemctl kill -s KILL hipsd@survey1
+sed -n '/^### After a loss$/,/^## /s/^   \( *[^ ].*\)$/\1/p' /usr/local/share/doc/hipsd/docs/OPERATING.md | grep -vx '```' >/tmp/loss
+grep -cE '^(sudo systemctl st|sudo journalctl|name=|new=|export)' /tmp/loss | grep -qx 6 || wrong "the commands after a loss are others: $(cat /tmp/loss)"
+printf '#!/bin/sh\nexec env "$@"\n' >/usr/local/bin/sudo
+chmod 755 /usr/local/bin/sudo
+journalctl --sync
+copy=$(basename "$(readlink -f /var/lib/hipsd-backup/survey)")
+. <(sed -e "s/survey[.]20261129T094500Z/$copy/" -e 's/ 250 / 1 /' -e "s#examples/#$examples/#g" \
+    -e '/^new=/i ready http://localhost/survey/properties' /tmp/loss) >/mnt/out/said 2>&1
+grep -A 9 "copied: the peer's Survey-Prefix 1\b" /mnt/out/said | grep -qF "survey is $copy" || wrong "the copies aren't listed: $(cat /mnt/out/said)"
+grep -qF '1 entries: 1 sent again, the others weren' /mnt/out/said || wrong "a replay after a loss: $(cat /mnt/out/said)"
+is 'active active active ' systemctl is-active hipsd@survey1 hipsd-backup.timer hipsd-renew.timer
+for number in 8 9 10; do is 200 code "http://localhost/survey/$(leaf $number)"; done
 SHELL
 cat >"$folder/out/part2.sh" <<'SHELL'
 part=2
