@@ -6,7 +6,7 @@ use Rattle.std.specs.List.Sorted.{IsStrictlyIncreasing}
 use Rattle.std.proofs.lemmas.List.Elements.{Contains-append_left, Contains-append_right, Contains-append_cases, Contains-push_cases, All-head, All-tail}
 use Rattle.shared_history.specs.Histories.{places_of}
 use Rattle.shared_history.specs.Laws.{PlacesAreOwn, IsOneSeats, EachIsOneSeats}
-use Rattle.hips_place.specs.Place.{OnePlace, own_at, IsOneSessions}
+use Rattle.hips_place.specs.Place.{OnePlace, owns_of, own_at, IsOneSessions}
 
 nothing_in : {X : Type 0} (x : X) → Contains [] x → ⊥
 nothing_in x h = omega (arith, h.1)
@@ -101,13 +101,14 @@ one_sessions own each owns owners doors below place some within =
     within_owns (sessions ∷ owns) (suc other) another place h = let rest = within_owns owns other another place h in omega (arith, rest)
 
 -- the places are those of the seats, in order
-pub each_door : (owners : List ℕ) (ps : List OnePlace) (from : ℕ) → All (λ p. concat p.owns ≡ places_of p.board.seat.number owners) ps → map (λ (p : OnePlace). p.board.seat.number) ps ≡ range_with_len from (length ps)
-    → (d : ℕ) → d < length ps → concat (slice_index_or (map (λ (p : OnePlace). p.owns) ps) d []) ≡ places_of (from + d) owners
+pub each_door : (owners : List ℕ) (ps : List OnePlace) (from : ℕ) → All (λ p. concat (owns_of p) ≡ places_of p.first.board.seat.number owners) ps
+    → map (λ (p : OnePlace). p.first.board.seat.number) ps ≡ range_with_len from (length ps)
+    → (d : ℕ) → d < length ps → concat (slice_index_or (map owns_of ps) d []) ≡ places_of (from + d) owners
 each_door owners [] from all numbers d below = absurd (omega (arith, below))
 each_door owners (p ∷ ps) from all numbers zero below =
-    let number : p.board.seat.number ≡ from + 0 = (let is : p.board.seat.number ≡ from = cc (numbers) in omega (arith, is)) in
-    All-head (λ p. concat p.owns ≡ places_of p.board.seat.number owners) p ps all ∙ ap (λ (n : ℕ). places_of n owners) number
+    let number : p.first.board.seat.number ≡ from + 0 = (let is : p.first.board.seat.number ≡ from = cc (numbers) in omega (arith, is)) in
+    All-head (λ p. concat (owns_of p) ≡ places_of p.first.board.seat.number owners) p ps all ∙ ap (λ (n : ℕ). places_of n owners) number
 each_door owners (p ∷ ps) from all numbers (suc d) below =
-    let rest : map (λ (p : OnePlace). p.board.seat.number) ps ≡ range_with_len (from + 1) (length ps) = cc (numbers) in
+    let rest : map (λ (p : OnePlace). p.first.board.seat.number) ps ≡ range_with_len (from + 1) (length ps) = cc (numbers) in
     let place : from + 1 + d ≡ from + suc d = omega arith in
-    each_door owners ps (from + 1) (All-tail (λ p. concat p.owns ≡ places_of p.board.seat.number owners) p ps all) rest d (omega (arith, below)) ∙ ap (λ (n : ℕ). places_of n owners) place
+    each_door owners ps (from + 1) (All-tail (λ p. concat (owns_of p) ≡ places_of p.first.board.seat.number owners) p ps all) rest d (omega (arith, below)) ∙ ap (λ (n : ℕ). places_of n owners) place

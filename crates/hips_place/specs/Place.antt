@@ -1,77 +1,28 @@
--- One place of the server: the connections that it takes from its door, serves one after another, and gives back. This
+-- Places of the server: the connections that each takes from its door, serves one after another, and gives back. This
 -- project's profile.
 use Rattle.std.specs.Prelude.{◌≡◌, ◌≢◌, ◌⊎◌, ℕ, ◌+◌, ◌*◌, ◌<◌, ◌≤◌, List, [], ◌∷◌, ◌++◌, length, map, slice_index_or, All, Contains, Option, Some, None, IfSome, option_map, Result, Ok, Err, ⊤}
-use Rattle.std.specs.List.{concat}
-use Rattle.std.specs.Io.KnownBytes.{Appends}
+use Rattle.std.specs.List.{concat, range_with_len}
 use Rattle.survey_conf.specs.Description.{Description}
 use Rattle.survey_link.specs.Link.{Rises}
-use Rattle.survey_link.specs.Door.{Connection, Numbered, AreNumbered, Connections, Takes, NoneWaits, given_back}
+use Rattle.survey_link.specs.Door.{Numbered, AreNumbered, Connections, NoneWaits, given_back}
 use Rattle.survey_link.specs.declared.door.Door.{Ghosts as DoorTells}
 use Rattle.edit_journal.specs.Leaves.{LeafTiles}
 use Rattle.survey_core.specs.History.{SurveyState, opening_state, IsHistory, Begins}
-use Rattle.shared_history.specs.Histories.{places_of}
+use Rattle.survey_core.specs.State.{StateContent}
+use Rattle.shared_history.specs.Histories.{SeatContent, places_of, one_state}
 use Rattle.reader_pin.specs.Board.{BoardSeat, BoardContent, KeepsSeat}
+use Rattle.hips_http.specs.declared.served.Served.{Served}
 use Rattle.hips_http.specs.declared.served.SessionEnd.{SessionEnd}
-use Rattle.hips_http.specs.declared.served.SessionEnd.TheVariants.{OutOfMemory as SessionOutOfMemory}
-use Rattle.hips_http.specs.SessionRun.{Flushes, SessionRun, most_requests}
+use Rattle.hips_http.specs.declared.served.SessionEnd.TheVariants.{OutOfMemory as RanOut}
+use Rattle.hips_http.specs.SessionRun.{IsServed, Goes, most_requests}
 use Rattle.hips_place.specs.declared.place.PlaceEnd.{PlaceEnd}
 use Rattle.hips_place.specs.declared.place.PlaceEnd.TheVariants.{Done, Failed, OutOfMemory}
 use Rattle.hips_place.specs.declared.doors.ServeRefusal.{ServeRefusal}
 use Rattle.hips_place.specs.declared.doors.ServeRefusal.TheVariants.{NotOpened, NotMet}
 
--- ---- a connection
+-- ---- a door
 
--- it is a session with these events of its own, from the states seen before it to those seen then: a prefix of its input was
--- read and the rest is left, what its sink holds grew by what was written, and what it has flushed by what was flushed of
--- that
-pub record IsSession (conf : Description) (opening : LeafTiles) (states : List SurveyState) (taken back : Connection) (states' : List SurveyState) (end : SessionEnd) (own input : List ℕ) : Type 0 where
-  pub read : List ℕ
-  pub rest : List ℕ
-  pub out : List ℕ
-  pub memory_faults : ℕ
-  pub input_is : input ≡ read ++ rest
-  pub left_is : back.unread ≡ Some rest
-  pub appended : Appends taken.written back.written out
-  pub passed : List ℕ
-  pub passed_is : Flushes taken.written taken.flushed back.flushed passed
-  pub run : SessionRun conf opening states
-      (record {
-        read = read;
-        left = rest;
-        written = out;
-        flushed = passed;
-        source_faults = taken.source_faults;
-        source_faults_then = back.source_faults;
-        sink_faults = taken.sink_faults;
-        sink_faults_then = back.sink_faults;
-      })
-      own states' end memory_faults
-
--- a connection as it was taken and as it was given back: the history goes on, by a session where the proof can see the
--- source's bytes
-pub record IsServedOnce (conf : Description) (opening : LeafTiles) (states : List SurveyState) (taken back : Connection) (states' : List SurveyState) (end : SessionEnd) (own : List ℕ) : Type 0 where
-  pub legal : IsHistory opening states'
-  pub begins : Begins states states'
-  pub session : IfSome taken.unread (IsSession conf opening states taken back states' end own)
-
--- the ends that were given back are those that were taken
-pub record HasSameEnds (taken back : Numbered) : Type 0 where
-  pub source : back.source ≡ taken.source
-  pub sink : back.sink ≡ taken.sink
-
--- ---- a place
-
--- connections as they were taken and as they were given back, each over its own two ends, with how they ended and the events of
--- each, lead one after another from the states seen before to those seen then
-abbrev pub PlaceRun : Description → LeafTiles → List SurveyState → List Numbered → List Numbered → List SessionEnd → List (List ℕ) → List SurveyState → Type 0
-PlaceRun conf opening states [] [] [] [] states' = states' ≡ states
-PlaceRun conf opening states (taken ∷ opened) (back ∷ closed) (end ∷ ends) (own ∷ owns) states' = (mid : List SurveyState)
-    × HasSameEnds taken back
-    × IsServedOnce conf opening states taken.told back.told mid end own
-    × PlaceRun conf opening mid opened closed ends owns states'
-PlaceRun conf opening states opened closed ends owns states' = ⊥
-
--- a door has no open connection, where the proof can see them: all that were taken were given back
+-- it has no open connection, where the proof can see them: all that were taken were given back
 abbrev pub AllReturned : Option Connections → Type 0
 AllReturned None = ⊤
 AllReturned (Some told) = length told.returned ≡ length told.taken
@@ -95,114 +46,126 @@ pub record DoorContent : Type 0 where
 abbrev pub door_of : {D I O : Type 0} → DoorTells D I O → D → DoorContent
 door_of told door = record { connections = told.connections door; faults = told.faults door; memory_faults = told.memory_faults door }
 
--- what a place's end says of its door's counts: `Failed` if and only if an accept failed, and `Done` only where none was
--- refused
-abbrev pub EndsBy : DoorContent → DoorContent → PlaceEnd → Type 0
-EndsBy door door' Done = (door'.faults ≡ door.faults) × (door'.memory_faults ≡ door.memory_faults)
-EndsBy door door' Failed = Rises door.faults door'.faults × (door'.memory_faults ≡ door.memory_faults)
-EndsBy door door' OutOfMemory = (door'.faults ≡ door.faults) × (Rises door.memory_faults door'.memory_faults ⊎ (door'.memory_faults ≡ door.memory_faults))
+-- ---- a connection
 
--- the limit of connections is reached, or none is left
-abbrev pub TookAll : ℕ → List Numbered → DoorContent → Type 0
-TookAll most opened door' = (length opened ≡ most) ⊎ NoneWaits door'.connections
+-- what a place goes on from: what its board has seen, and its count of steps
+pub record PlaceMoment : Type 0 where
+  pub board : BoardContent
+  pub steps : ℕ
 
--- what a place's end says of its connections, whatever became of other places. Done: it took all, and no session ran out of
--- memory. Out of memory: an accept ran out of it, or the place took all and a session ran out of it
-abbrev pub EndsAfter : DoorContent → DoorContent → ℕ → List Numbered → List SessionEnd → PlaceEnd → Type 0
-EndsAfter door door' most opened ends Done = TookAll most opened door' × All (λ end. end ≢ SessionOutOfMemory) ends
-EndsAfter door door' most opened ends OutOfMemory = Rises door.memory_faults door'.memory_faults ⊎ (TookAll most opened door' × Contains ends SessionOutOfMemory)
-EndsAfter door door' most opened ends Failed = ⊤
+-- a connection that a place served: as it was taken and as it was given back, what came of it, and the places of its events
+pub record OneSession : Type 0 where
+  pub taken : Numbered
+  pub back : Numbered
+  pub served : Served
+  pub own : List ℕ
+
+-- it was served over its own two ends: the history goes on, with these events of its own, and by a session where the proof can
+-- see the source's bytes
+pub record IsServedOnce (old new : PlaceMoment) (session : OneSession) : Type 0 where
+  pub source : session.back.source ≡ session.taken.source
+  pub sink : session.back.sink ≡ session.taken.sink
+  pub goes : Goes old.board new.board
+  pub own_is : session.own ≡ goes.own
+  pub served : IfSome session.taken.told.unread (λ input.
+      IsServed old.board new.board input session.taken.told session.back.told old.steps new.steps session.served)
+
+-- a connection that was taken like this was served so and given back
+pub record GivesBack (old new : PlaceMoment) (door door' : DoorContent) (taken : Numbered) (end : SessionEnd) : Type 0 where
+  pub session : OneSession
+  pub taken_is : session.taken ≡ taken
+  pub end_is : session.served.end ≡ end
+  pub served : IsServedOnce old new session
+  pub returned : door' ≡ record door { connections = option_map (given_back session.back) door.connections }
+
+-- ---- a place
+
+-- sessions lead from one moment to another, one after another
+abbrev pub PlaceRun : PlaceMoment → List OneSession → PlaceMoment → Type 0
+PlaceRun old [] new = new ≡ old
+PlaceRun old (session ∷ later) new = (mid : PlaceMoment) × IsServedOnce old mid session × PlaceRun mid later new
 
 -- those that ran out of memory come before all others
-abbrev pub OutOfMemoryFirst : List SessionEnd → Type 0
-OutOfMemoryFirst [] = ⊤
-OutOfMemoryFirst (SessionOutOfMemory ∷ ends) = OutOfMemoryFirst ends
-OutOfMemoryFirst (end ∷ ends) = All (λ each. each ≢ SessionOutOfMemory) ends
+pub record OutOfMemoryFirst (sessions : List OneSession) : Type 0 where
+  pub before : List OneSession
+  pub after : List OneSession
+  pub are : sessions ≡ before ++ after
+  pub ran_out : All (λ session. session.served.end ≡ RanOut) before
+  pub others : All (λ session. session.served.end ≢ RanOut) after
 
--- what a place whose sessions had these events of their own did to its board and its door; `most` is its limit of connections
-pub record IsPlace (old new : BoardContent) (door door' : DoorContent) (most : ℕ) (end : PlaceEnd) (owns : List (List ℕ)) : Type 0 where
-  pub opened : List Numbered
-  pub closed : List Numbered
-  pub ends : List SessionEnd
-  pub run : PlaceRun new.conf new.opening old.history opened closed ends owns new.history
-  pub handed : OpenedAndClosed door.connections opened closed door'.connections
-  pub few : length opened ≤ most
-  pub ended : EndsAfter door door' most opened ends end
-  pub memory_first : OutOfMemoryFirst ends
+-- no accept was refused, and the limit of connections is reached or none is left
+pub record TookAll (most : ℕ) (door door' : DoorContent) (sessions : List OneSession) : Type 0 where
+  pub all : (length sessions ≡ most) ⊎ NoneWaits door'.connections
+  pub faults : door'.faults ≡ door.faults
+  pub memory_faults : door'.memory_faults ≡ door.memory_faults
 
--- what is true of it, also where the proof can't see the door's connections: the history that its board sees goes on, by the
--- events of its sessions and those of other boards, with no more of its own than so many connections may make
-pub record PlaceGoes (old new : BoardContent) (most : ℕ) (owns : List (List ℕ)) : Type 0 where
+-- what a place's end says, whatever became of other places. Done: it took all, and no session ran out of memory. Failed: an
+-- accept failed. Out of memory: an accept ran out of it, or the place took all and a session ran out of it
+abbrev pub EndsBy : ℕ → DoorContent → DoorContent → List OneSession → PlaceEnd → Type 0
+EndsBy most door door' sessions Done = TookAll most door door' sessions × All (λ session. session.served.end ≢ RanOut) sessions
+EndsBy most door door' sessions Failed = Rises door.faults door'.faults × (door'.memory_faults ≡ door.memory_faults)
+EndsBy most door door' sessions OutOfMemory = (Rises door.memory_faults door'.memory_faults × (door'.faults ≡ door.faults))
+    ⊎ (TookAll most door door' sessions × Contains (map (λ session. session.served.end) sessions) RanOut)
+
+-- a place: its first and its last moment, its door before and after, the connections that it served, and how it ended
+pub record OnePlace : Type 0 where
+  pub first : PlaceMoment
+  pub last : PlaceMoment
+  pub door : DoorContent
+  pub door_then : DoorContent
+  pub sessions : List OneSession
+  pub end : PlaceEnd
+
+-- the events of each of its sessions
+abbrev pub owns_of : OnePlace → List (List ℕ)
+owns_of place = map (λ session. session.own) place.sessions
+
+-- the history that a board sees goes on, by these events of its own, of so many sessions, and by those of other boards
+pub record PlaceGoes (old new : BoardContent) (owns : List (List ℕ)) : Type 0 where
   pub conf : new.conf ≡ old.conf
   pub opening : new.opening ≡ old.opening
   pub legal : IsHistory new.opening new.history
   pub begins : Begins old.history new.history
   pub seat : KeepsSeat old new
   pub own_is : new.own ≡ old.own ++ concat owns
-  pub few : length (concat owns) ≤ most * most_requests
+  pub few : length (concat owns) ≤ length owns * most_requests
 
--- a place and what it did, where the proof can see its door's connections
-pub record ServesPlace (old new : BoardContent) (door door' : DoorContent) (most : ℕ) (end : PlaceEnd) : Type 0 where
-  pub owns : List (List ℕ)
-  pub goes : PlaceGoes old new most owns
-  pub place : AllReturned door.connections → IsPlace old new door door' most end owns
+-- it took these connections from its door and gave them back, up to this limit, and so it ended
+pub record IsServedPlace (most : ℕ) (place : OnePlace) : Type 0 where
+  pub goes : PlaceGoes place.first.board place.last.board (owns_of place)
+  pub run : PlaceRun place.first place.sessions place.last
+  pub handed : AllReturned place.door.connections → OpenedAndClosed place.door.connections
+      (map (λ session. session.taken) place.sessions) (map (λ session. session.back) place.sessions) place.door_then.connections
+  pub few : length place.sessions ≤ most
+  pub ends : EndsBy most place.door place.door_then place.sessions place.end
+  pub memory_first : OutOfMemoryFirst place.sessions
 
--- ---- the next connection
-
--- a connection was taken and given back
-pub record TakesOne (door door' : Option Connections) (old new : BoardContent) (end : SessionEnd) : Type 0 where
-  pub taken : Numbered
-  pub back : Numbered
-  pub mid : Option Connections
-  pub takes : Takes door mid taken
-  pub returned : door' ≡ option_map (given_back back) mid
-  pub same : HasSameEnds taken back
-  pub served : (own : List ℕ) → new.own ≡ old.own ++ own → IsServedOnce new.conf new.opening old.history taken.told back.told new.history end own
-
--- a connection that was taken like this is served and given back
-pub record GivesBack (door door' : Option Connections) (old new : BoardContent) (taken : Numbered) (end : SessionEnd) : Type 0 where
-  pub back : Numbered
-  pub returned : door' ≡ option_map (given_back back) door
-  pub same : HasSameEnds taken back
-  pub served : (own : List ℕ) → new.own ≡ old.own ++ own → IsServedOnce new.conf new.opening old.history taken.told back.told new.history end own
+-- some sessions were those of such a place
+pub record ServesPlace (first last : PlaceMoment) (door door' : DoorContent) (most : ℕ) (end : PlaceEnd) : Type 0 where
+  pub sessions : List OneSession
+  pub served : IsServedPlace most (record { first = first; last = last; door = door; door_then = door'; sessions = sessions; end = end })
 
 -- ---- the places of a server
 
--- a place: its board and its door before and after, the events of each of its sessions, and how it ended
-pub record OnePlace : Type 0 where
-  pub board : BoardContent
-  pub board_then : BoardContent
-  pub door : DoorContent
-  pub door_then : DoorContent
-  pub owns : List (List ℕ)
-  pub end : PlaceEnd
-
--- it is one with this limit of connections
-pub record IsServedPlace (most : ℕ) (place : OnePlace) : Type 0 where
-  pub served : AllReturned place.door.connections → IsPlace place.board place.board_then place.door place.door_then most place.end place.owns
-  pub goes : PlaceGoes place.board place.board_then most place.owns
-  pub ends_by : EndsBy place.door place.door_then place.end
-
 -- the worse of two ends: `Failed`, before `OutOfMemory`, before `Done`
 abbrev pub worse : PlaceEnd → PlaceEnd → PlaceEnd
+worse Done other = other
 worse Failed other = Failed
 worse OutOfMemory Failed = Failed
-worse OutOfMemory OutOfMemory = OutOfMemory
-worse OutOfMemory Done = OutOfMemory
-worse Done other = other
+worse OutOfMemory other = OutOfMemory
 
 -- places that ended so ended all in all so: `Failed` where one did so; else `OutOfMemory` where one did; else `Done`
-pub record EndAs (ends : List PlaceEnd) (end : PlaceEnd) : Type 0 where
-  pub done : end ≡ Done → All (λ each. each ≡ Done) ends
-  pub failed : end ≡ Failed → Contains ends Failed
-  pub ran_out : end ≡ OutOfMemory → Contains ends OutOfMemory × All (λ each. each ≢ Failed) ends
+abbrev pub EndAs : List PlaceEnd → PlaceEnd → Type 0
+EndAs ends Done = All (λ each. each ≡ Done) ends
+EndAs ends Failed = Contains ends Failed
+EndAs ends OutOfMemory = Contains ends OutOfMemory × All (λ each. each ≢ Failed) ends
 
 -- the places of a server, one for each board and the door beside it, each with this limit of connections
 pub record ArePlaces (most : ℕ) (boards boards' : List BoardContent) (doors doors' : List DoorContent) (end : PlaceEnd) : Type 0 where
   pub places : List OnePlace
   pub each : All (IsServedPlace most) places
-  pub boards_are : map (λ p. p.board) places ≡ boards
-  pub boards_then : map (λ p. p.board_then) places ≡ boards'
+  pub boards_are : map (λ p. p.first.board) places ≡ boards
+  pub boards_then : map (λ p. p.last.board) places ≡ boards'
   pub doors_are : map (λ p. p.door) places ≡ doors
   pub doors_then : map (λ p. p.door_then) places ≡ doors'
   pub ends : EndAs (map (λ p. p.end) places) end
@@ -221,37 +184,12 @@ first_board seat conf opening = record {
   held = None;
 }
 
--- a door before and after, the places of the events of each of its sessions, in order, the states that its place had seen in
--- the end, and how the place ended
-pub record DoorRun : Type 0 where
-  pub door : DoorContent
-  pub door_then : DoorContent
-  pub owns : List (List ℕ)
-  pub seen : List SurveyState
-  pub end : PlaceEnd
-
--- a door: the connections that were opened and closed lead from the survey's first state to those that its place had seen in
--- the end
-pub record ServesDoor (conf : Description) (opening : LeafTiles) (most : ℕ) (served : DoorRun) : Type 0 where
-  pub opened : List Numbered
-  pub closed : List Numbered
-  pub ends : List SessionEnd
-  pub run : PlaceRun conf opening (opening_state ∷ []) opened closed ends served.owns served.seen
-  pub handed : OpenedAndClosed served.door.connections opened closed served.door_then.connections
-  pub few : length opened ≤ most
-  pub ended : EndsAfter served.door served.door_then most opened ends served.end
-  pub memory_first : OutOfMemoryFirst ends
-
--- the doors of a server, each by itself: a legal history of its own, and its run if it had no open connection. All in all
--- their places ended so
+-- the doors of a server, each by itself: the boards of their places begin at the survey's first state
 pub record ServesApart (conf : Description) (opening : LeafTiles) (most : ℕ) (doors doors' : List DoorContent) (end : PlaceEnd) : Type 0 where
-  pub runs : List DoorRun
-  pub doors_are : map (λ run. run.door) runs ≡ doors
-  pub doors_then : map (λ run. run.door_then) runs ≡ doors'
-  pub legal : All (λ run. IsHistory opening run.seen) runs
-  pub each : All (λ run. AllReturned run.door.connections → ServesDoor conf opening most run) runs
-  pub ends_by : All (λ run. EndsBy run.door run.door_then run.end) runs
-  pub ends : EndAs (map (λ run. run.end) runs) end
+  pub boards : List BoardContent
+  pub boards_then : List BoardContent
+  pub first : All (λ board. board ≡ first_board board.seat conf opening) boards
+  pub served : ArePlaces most boards boards_then doors doors' end
 
 -- the places of the events of a session, by the place of its door and its own there
 abbrev pub own_at : List (List (List ℕ)) → ℕ → ℕ → List ℕ
@@ -269,8 +207,8 @@ pub record ServesDoors (conf : Description) (opening : LeafTiles) (most : ℕ) (
   pub apart : ServesApart conf opening most doors doors' end
   pub states : List SurveyState
   pub legal : IsHistory opening states
-  pub begins : All (λ run. Begins run.seen states) apart.runs
-  pub owned : (place : ℕ) → 0 < place → place < length states → IsOneSessions (map (λ run. run.owns) apart.runs) place
+  pub begins : All (λ board. Begins board.history states) apart.boards_then
+  pub owned : (place : ℕ) → 0 < place → place < length states → IsOneSessions (map owns_of apart.served.places) place
 
 -- the doors were served, and their places ended all in all so; or the survey wasn't opened, and they stay; or the boards
 -- couldn't meet in the end
@@ -283,6 +221,13 @@ ServesAs conf opening most doors doors' (Err (NotMet end)) = ServesApart conf op
 abbrev pub SomeRises : List ℕ → List ℕ → Type 0
 SomeRises (old ∷ olds) (new ∷ news) = Rises old new ⊎ SomeRises olds news
 SomeRises olds news = ⊥
+
+-- the seats of a survey that was just opened in its first state
+pub record AreFirstSeats (state : StateContent) (seats : List (SeatContent StateContent)) : Type 0 where
+  pub numbers : map (λ seat. seat.number) seats ≡ range_with_len 0 (length seats)
+  pub seen : All (λ seat. seat.seen ≡ one_state (length seats) state) seats
+  pub batches : state.batches ≡ []
+  pub tip : state.tip ≡ 0
 
 -- what each of the boards has seen is the beginning of the states of one history, each of which but the first has an owner; and
 -- the events of each board are all those of its seat

@@ -1,16 +1,15 @@
 //! The doors of a survey, at once.
-ghost use Rattle.std.specs.Prelude.{◌≡◌, ◌≢◌, ◌<◌, ◌≤◌, List, [], Ok, Err, map, length, All, IfOk, OnOk};
-ghost use Rattle.std.specs.List.{AllZip, range_with_len};
-ghost use Rattle.shared_history.specs.Histories.{SeatContent, one_state};
+ghost use Rattle.std.specs.Prelude.{◌≡◌, ◌≢◌, ◌<◌, ◌≤◌, [], Ok, Err, map, length, All, IfOk, OnOk};
+ghost use Rattle.std.specs.List.{AllZip};
 ghost use Rattle.survey_core.specs.State.{StateContent};
 ghost use Rattle.survey_core.specs.History.{Begins};
 ghost use Rattle.reader_pin.specs.Board.{Stays};
 ghost use Rattle.reader_pin.specs.Shared.{seated};
 ghost use Rattle.hips_place.specs.declared.place.PlaceEnd.TheVariants.{Done, Failed};
 ghost use Rattle.hips_place.specs.declared.doors.ServeRefusal.TheVariants.{NotOpened};
-ghost use Rattle.hips_place.specs.Place.{door_of, ServesDoors, ServesApart, ServesAs, SomeRises, HaveAllMet, OwnsAmong};
+ghost use Rattle.hips_place.specs.Place.{door_of, ServesAs, SomeRises, AreFirstSeats, HaveAllMet, OwnsAmong};
 
-use crate::place::{InConnection, PlaceEnd};
+use crate::place::{InConnection, Means, PlaceEnd};
 use crate::places::serve_places;
 use log::Log;
 use reader_pin::{Board, Shared, Survey, SurveyBook, SurveySeat, open_shared};
@@ -65,17 +64,16 @@ where
     ensures sound { IfOk result (λ end. end ≢ Failed → map D.faults doors.new ≡ map D.faults doors.old) }
     ensures done { result ≡ Ok Done → map D.memory_faults doors.new ≡ map D.memory_faults doors.old }
 {
-    serve_named::<Brand, R, D, G>(rt, alloc, SurveyBook::new(), state, most, gate, doors)
+    let means = Means { rt, alloc, gate };
+    serve_named::<Brand, R, D, G>(&means, SurveyBook::new(), state, most, doors)
 }
 
 // The same, under the name of the survey's book.
 fn serve_named<J, R, D, G>(
-    rt: &R,
-    alloc: Global,
+    means: &Means<'_, '_, R, G>,
     book: SurveyBook,
     state: State,
     most: u32,
-    gate: &G,
     doors: &mut [D],
 ) -> Result<PlaceEnd, ServeRefusal>
 where
@@ -91,28 +89,23 @@ where
     requires most { length doors.old ≤ 64 }
     ensures served { ServesAs state.conf state.opening most (map (door_of D.Door) doors.old) (map (door_of D.Door) doors.new) result }
     ensures kept { result ≡ Err NotOpened → doors.new ≡ doors.old }
-    ensures failed { result ≡ Ok Failed → SomeRises (map D.faults doors.old) (map D.faults doors.new) }
-    ensures sound { IfOk result (λ end. end ≢ Failed → map D.faults doors.new ≡ map D.faults doors.old) }
-    ensures done { result ≡ Ok Done → map D.memory_faults doors.new ≡ map D.memory_faults doors.old }
 {
-    match open_shared::<J, R>(rt, alloc, book, state, doors.len()) {
+    match open_shared::<J, R>(means.rt, means.alloc, book, state, doors.len()) {
         Ok((survey, seats)) => {
-            let ended = serve_seats(rt, alloc, &survey, seats, most, gate, doors);
-            survey.close(rt);
+            let ended = serve_seats(means, &survey, seats, most, doors);
+            survey.close(means.rt);
             ended
         }
         Err(AllocError) => Err(ServeRefusal::NotOpened),
     }
 }
 
-// Serves the doors at the seats of an open survey.
+// Serves the doors at the seats of a survey that was just opened; then the first board meets each other one.
 fn serve_seats<'a, J, R, D, G>(
-    rt: &R,
-    alloc: Global,
+    means: &Means<'_, '_, R, G>,
     survey: &'a Survey<J>,
     seats: Vec<SurveySeat<J>>,
     most: u32,
-    gate: &G,
     doors: &mut [D],
 ) -> Result<PlaceEnd, ServeRefusal>
 where
@@ -124,58 +117,30 @@ where
     G: Gate + Sync,
     requires same { length seats.items ≡ length doors.old }
     requires some { 0 < length doors.old }
-    ensures served { (state : StateContent) → map (λ seat. seat.number) seats.items ≡ range_with_len 0 (length seats.items)
-        → All (λ seat. seat.seen ≡ one_state (length seats.items) state) seats.items → state.batches ≡ [] → state.tip ≡ 0
+    ensures served { (state : StateContent) → AreFirstSeats state seats.items
         → ServesAs state.conf state.opening most (map (door_of D.Door) doors.old) (map (door_of D.Door) doors.new) result }
     ensures kept { result ≡ Err NotOpened → doors.new ≡ doors.old }
-    ensures failed { result ≡ Ok Failed → SomeRises (map D.faults doors.old) (map D.faults doors.new) }
-    ensures sound { IfOk result (λ end. end ≢ Failed → map D.faults doors.new ≡ map D.faults doors.old) }
-    ensures done { result ≡ Ok Done → map D.memory_faults doors.new ≡ map D.memory_faults doors.old }
-{
-    match boards_at(alloc, survey, seats) {
-        Ok(mut boards) => {
-            let boards = boards.as_mut_slice();
-            serve_boards(rt, alloc, most, gate, boards, doors)
-        }
-        Err(AllocError) => Err(ServeRefusal::NotOpened),
-    }
-}
-
-// Serves the doors by the boards at the seats of a survey that was just opened; then the first board meets each other one.
-fn serve_boards<'a, J, R, D, G>(
-    rt: &R,
-    alloc: Global,
-    most: u32,
-    gate: &G,
-    boards: &mut [Shared<'a, J>],
-    doors: &mut [D],
-) -> Result<PlaceEnd, ServeRefusal>
-where
-    J: Naming + Send + Sync,
-    R: Threads + Wait + Sync + Clock + Log,
-    D: Door + Send,
-    D::In: Send,
-    D::Out: Send,
-    G: Gate + Sync,
-    requires same { length boards.old ≡ length doors.old }
-    requires some { 0 < length boards.old }
-    ensures served { (state : StateContent) (seats : List (SeatContent StateContent)) → boards.old ≡ map seated seats
-        → map (λ seat. seat.number) seats ≡ range_with_len 0 (length seats)
-        → All (λ seat. seat.seen ≡ one_state (length seats) state) seats → state.batches ≡ [] → state.tip ≡ 0
-        → ServesAs state.conf state.opening most (map (door_of D.Door) doors.old) (map (door_of D.Door) doors.new) result }
-    ensures opened { result ≢ Err NotOpened }
-    ensures failed { result ≡ Ok Failed → SomeRises (map D.faults doors.old) (map D.faults doors.new) }
-    ensures sound { IfOk result (λ end. end ≢ Failed → map D.faults doors.new ≡ map D.faults doors.old) }
-    ensures done { result ≡ Ok Done → map D.memory_faults doors.new ≡ map D.memory_faults doors.old }
 {
     places_are_own();
     each_is_one_seats();
-    let end = serve_places::<&R, InConnection<&R>, Shared<'a, J>, D, G>(
-        &rt, alloc, 1, most, gate, boards, doors,
-    );
-    match meet_first(boards) {
-        Ok(()) => Ok(end),
-        Err(AllocError) => Err(ServeRefusal::NotMet(end)),
+    match boards_at(means.alloc, survey, seats) {
+        Ok(mut boards) => {
+            let boards = boards.as_mut_slice();
+            let end = serve_places::<&R, InConnection<&R>, Shared<'a, J>, D, G>(
+                &means.rt,
+                means.alloc,
+                1,
+                most,
+                means.gate,
+                boards,
+                doors,
+            );
+            match meet_first(boards) {
+                Ok(()) => Ok(end),
+                Err(AllocError) => Err(ServeRefusal::NotMet(end)),
+            }
+        }
+        Err(AllocError) => Err(ServeRefusal::NotOpened),
     }
 }
 

@@ -1,10 +1,8 @@
 //! One place of the server: the connections of one door, one after another.
-ghost use Rattle.std.specs.Prelude.{◌≡◌, ◌≢◌, ℕ, List, ◌++◌, ◌≤◌, ◌⊎◌, true, false, IfOk, IfSome, IsSome, IsErrOf, MatchOption, OnOk, OnErr, if◌then◌else◌};
-ghost use Rattle.survey_link.specs.Link.{Rises};
-ghost use Rattle.survey_link.specs.Door.{NoneWaits};
+ghost use Rattle.std.specs.Prelude.{◌≡◌, ◌≢◌, ◌≤◌, ◌↔◌, IfSome, IsSome, IsNone};
 ghost use Rattle.hips_http.specs.Moment.{connection_of};
-ghost use Rattle.hips_http.specs.SessionRun.{Goes, room_of};
-ghost use Rattle.hips_place.specs.Place.{EndsBy, IsServedOnce, ServesPlace, TakesOne, GivesBack, door_of, worse};
+ghost use Rattle.hips_http.specs.SessionRun.{room_of};
+ghost use Rattle.hips_place.specs.Place.{GivesBack, ServesPlace, door_of, worse};
 
 use crate::numbered::{NumberedSink, NumberedSource, Numbers};
 use hips_http::{SessionEnd, frame_for, session_in};
@@ -17,7 +15,7 @@ use std::alloc::Global;
 use std::marker::Brand;
 use std::thread::Threads;
 use std::time::Clock;
-use survey_link::{Door, DoorFault, Gate, Sink, Source};
+use survey_link::{Door, DoorFault, Gate};
 
 /// A runtime by which a connection is served: what it logs names the connection's place and its number there.
 pub type InConnection<R> = Span<'static, R, With<'static, With<'static, (), usize>, u32>>;
@@ -60,6 +58,25 @@ impl PlaceEnd {
             (PlaceEnd::Done, PlaceEnd::Done) => PlaceEnd::Done,
         }
     }
+
+    // How a place ends then, if it ends after this session.
+    fn after(self, session: SessionEnd) -> PlaceEnd
+        ensures ran_out { session ≡ SessionEnd.OutOfMemory → result ≡ PlaceEnd.OutOfMemory }
+        ensures other { session ≢ SessionEnd.OutOfMemory → result ≡ self }
+    {
+        match session {
+            SessionEnd::OutOfMemory => PlaceEnd::OutOfMemory,
+            _ => self,
+        }
+    }
+}
+
+/// What connections are served with: threads, the clock and the log, memory, and the gate that publications pass.
+#[derive(Drop)]
+pub(crate) struct Means<'r, 'g, R, G> {
+    pub(crate) rt: &'r R,
+    pub(crate) alloc: Global,
+    pub(crate) gate: &'g G,
 }
 
 /// Takes up to `most` connections from the door, one after another, serves each from the states that the board sees, and
@@ -90,41 +107,96 @@ pub fn serve_place<
     gate: &G,
     steps: &mut Steps,
 ) -> PlaceEnd
-    ensures place { ServesPlace (B.content board.old) (B.content board.new) (door_of D.Door door.old) (door_of D.Door door.new) most result }
-    ensures ends_by { EndsBy (door_of D.Door door.old) (door_of D.Door door.new) result }
+    ensures place { ServesPlace (record { board = B.content board.old; steps = steps.old }) (record { board = B.content board.new; steps = steps.new })
+        (door_of D.Door door.old) (door_of D.Door door.new) most result }
     ensures steps_never_fall { steps.old ≤ steps.new }
 {
     // For the prover: what a board has seen is a history.
     let _legal = board.last();
     let mut frame: Option<Frame> = None;
-    let mut ran_out = false;
+    let mut end = PlaceEnd::Done;
     for count in 0..most {
-        let name = ConnectionName {
-            place,
-            number: count + 1,
-        };
-        match serve_next::<R, N, B, D, G>(rt, alloc, name, &mut frame, board, door, gate, steps) {
-            Ok(Some(end)) => {
-                ran_out = has_run_out(ran_out, end);
-                warn_of_last(rt, name, most);
+        if frame.is_none() {
+            frame = frame_for(alloc, board);
+        }
+        match door.accept() {
+            Ok(Some(connection)) => {
+                let number = count + 1;
+                let rt_within: N = rt.within(place, number);
+                let means = Means {
+                    rt: &rt_within,
+                    alloc,
+                    gate,
+                };
+                let session = serve_connection::<Brand, N, B, D, G>(
+                    &means, &mut frame, board, door, connection, steps,
+                );
+                end = end.after(session);
+                warn_of_last(rt, place, number, most);
             }
-            Ok(None) => return say_ended(rt, place, end_of(ran_out), count),
+            Ok(None) => return say_ended(rt, place, end, count),
             Err(fault) => return say_ended(rt, place, end_by(fault), count),
         }
     }
-    say_ended(rt, place, end_of(ran_out), most)
+    say_ended(rt, place, end, most)
 }
 
-// What the log calls a connection: its place among those of the server, and its number there, both from 1 on.
-#[derive(Clone, Copy)]
-struct ConnectionName {
-    place: usize,
-    number: u32,
+// Serves a connection, whose ends have the numbers of `J`, over the frame, and gives it back; how its session ended. Without a
+// frame that ends out of memory.
+fn serve_connection<
+    J: Numbers,
+    N: Threads + Sync + Clock + Log,
+    B: ChangedWith<N>,
+    D: Door,
+    G: Gate + Sync,
+>(
+    means: &Means<'_, '_, N, G>,
+    frame: &mut Option<Frame>,
+    board: &mut B,
+    door: &mut D,
+    connection: (D::In, D::Out),
+    steps: &mut Steps,
+) -> SessionEnd
+    requires source { D.In.number connection.0 ≡ J.source }
+    requires sink { D.Out.number connection.1 ≡ J.sink }
+    requires room { IfSome frame.old (λ frame. frame.room ≡ room_of (B.content board.old).conf) }
+    ensures room { IfSome frame.new (λ frame. frame.room ≡ room_of (B.content board.new).conf) }
+    ensures gives_back { GivesBack (record { board = B.content board.old; steps = steps.old }) (record { board = B.content board.new; steps = steps.new })
+        (door_of D.Door door.old) (door_of D.Door door.new) (record {
+          source = D.In.number connection.0;
+          sink = D.Out.number connection.1;
+          told = connection_of D.In.Source D.Out.Sink connection.0 connection.1;
+        }) result }
+    ensures ran_out { (result ≡ SessionEnd.OutOfMemory) ↔ IsNone frame.old }
+    ensures kept { IsSome frame.old → IsSome frame.new }
+    ensures steps_never_fall { steps.old ≤ steps.new }
+{
+    let Means { rt, alloc, gate } = *means;
+    let mut input = NumberedSource::<D::In, J>::new(connection.0);
+    let mut output = NumberedSink::<D::Out, J>::new(connection.1);
+    let end = session_in(
+        rt,
+        alloc,
+        frame,
+        board,
+        &mut input,
+        &mut output,
+        gate,
+        steps,
+    )
+    .end;
+    door.done(input.into_inner(), output.into_inner());
+    say_session(rt, end);
+    end
+}
+
+// Logs how a session ended.
+fn say_session<R: Log>(rt: &R, end: SessionEnd) {
+    debug!(rt; target: "ended", "{end:?}");
 }
 
 // Warns once when 80 and once when 95 percent of the connections that a place takes were taken.
-fn warn_of_last<R: Log>(rt: &R, name: ConnectionName, most: u32) {
-    let ConnectionName { place, number } = name;
+fn warn_of_last<R: Log>(rt: &R, place: usize, number: u32, most: u32) {
     let left = most.saturating_sub(number);
     if left > 0 && (number == share_of(most, 80) || number == share_of(most, 95)) {
         warn!(rt; "place {place} has taken {number} of {most} connections: after {left} more it ends. When all places have ended the server ends, and its edits are lost: run rollover.sh before");
@@ -155,25 +227,6 @@ fn say_ended<R: Log>(rt: &R, place: usize, end: PlaceEnd, served: u32) -> PlaceE
     end
 }
 
-// Whether a session has run out of memory: this one, or one before it.
-fn has_run_out(before: bool, end: SessionEnd) -> bool
-    ensures none { result ≡ false → (before ≡ false) × (end ≢ SessionEnd.OutOfMemory) }
-    ensures some { result ≡ true → (before ≡ true) ⊎ (end ≡ SessionEnd.OutOfMemory) }
-{
-    before || end == SessionEnd::OutOfMemory
-}
-
-// How a place ends whose door hasn't failed.
-fn end_of(ran_out: bool) -> PlaceEnd
-    ensures { result ≡ (if ran_out then PlaceEnd.OutOfMemory else PlaceEnd.Done) }
-{
-    if ran_out {
-        PlaceEnd::OutOfMemory
-    } else {
-        PlaceEnd::Done
-    }
-}
-
 // How a place ends whose door refused.
 fn end_by(fault: DoorFault) -> PlaceEnd
     ensures failed { fault ≡ DoorFault.Failed → result ≡ PlaceEnd.Failed }
@@ -183,136 +236,4 @@ fn end_by(fault: DoorFault) -> PlaceEnd
         DoorFault::Failed => PlaceEnd::Failed,
         DoorFault::OutOfMemory => PlaceEnd::OutOfMemory,
     }
-}
-
-// Takes the next connection, serves it and gives it back; how it ended, or `None` where none is left. Where there is no frame,
-// one is asked for before.
-fn serve_next<
-    R: Log + NamesConnections<N>,
-    N: Threads + Sync + Clock + Log + Drop,
-    B: ChangedWith<N>,
-    D: Door,
-    G: Gate + Sync,
->(
-    rt: &R,
-    alloc: Global,
-    name: ConnectionName,
-    frame: &mut Option<Frame>,
-    board: &mut B,
-    door: &mut D,
-    gate: &G,
-    steps: &mut Steps,
-) -> Result<Option<SessionEnd>, DoorFault>
-    requires room { IfSome frame.old (λ frame. frame.room ≡ room_of (B.content board.old).conf) }
-    ensures room { IfSome frame.new (λ frame. frame.room ≡ room_of (B.content board.new).conf) }
-    ensures next { IfOk result (λ next. MatchOption next
-        (NoneWaits (D.connections door.new) × (D.connections door.new ≡ D.connections door.old) × (B.content board.new ≡ B.content board.old))
-        (TakesOne (D.connections door.old) (D.connections door.new) (B.content board.old) (B.content board.new))) }
-    ensures goes { Goes (B.content board.old) (B.content board.new) }
-    ensures frame_stays { IfOk result (λ next. IfSome next (λ end. IsSome frame.old → IsSome frame.new × (end ≢ SessionEnd.OutOfMemory))) }
-    ensures frame_was { IfOk result (λ next. IfSome next (λ end. end ≢ SessionEnd.OutOfMemory → IsSome frame.new)) }
-    ensures kept { OnErr result ((D.connections door.new ≡ D.connections door.old) × (B.content board.new ≡ B.content board.old)) }
-    ensures sound { OnOk result ((D.faults door.new ≡ D.faults door.old) × (D.memory_faults door.new ≡ D.memory_faults door.old)) }
-    ensures failed { IsErrOf result DoorFault.Failed → Rises (D.faults door.old) (D.faults door.new) × (D.memory_faults door.new ≡ D.memory_faults door.old) }
-    ensures ran_out { IsErrOf result DoorFault.OutOfMemory → Rises (D.memory_faults door.old) (D.memory_faults door.new) × (D.faults door.new ≡ D.faults door.old) }
-    ensures steps_never_fall { steps.old ≤ steps.new }
-{
-    // For the prover: what a board has seen is a history.
-    let _legal = board.last();
-    if frame.is_none() {
-        *frame = frame_for(alloc, board);
-    }
-    match door.accept()? {
-        None => Ok(None),
-        Some(connection) => {
-            let end = serve_connection::<Brand, R, N, B, D, G>(
-                rt, alloc, name, frame, board, door, connection, gate, steps,
-            );
-            Ok(Some(end))
-        }
-    }
-}
-
-// Serves a connection, whose ends have the numbers of `J`, and gives it back; how it ended. What is logged meanwhile names it,
-// where edits are logged.
-fn serve_connection<
-    J: Numbers,
-    R: Log + NamesConnections<N>,
-    N: Threads + Sync + Clock + Log + Drop,
-    B: ChangedWith<N>,
-    D: Door,
-    G: Gate + Sync,
->(
-    rt: &R,
-    alloc: Global,
-    name: ConnectionName,
-    frame: &mut Option<Frame>,
-    board: &mut B,
-    door: &mut D,
-    connection: (D::In, D::Out),
-    gate: &G,
-    steps: &mut Steps,
-) -> SessionEnd
-    requires source { D.In.number connection.0 ≡ J.source }
-    requires sink { D.Out.number connection.1 ≡ J.sink }
-    requires room { IfSome frame.old (λ frame. frame.room ≡ room_of (B.content board.old).conf) }
-    ensures room { IfSome frame.new (λ frame. frame.room ≡ room_of (B.content board.new).conf) }
-    ensures gives_back { GivesBack (D.connections door.old) (D.connections door.new) (B.content board.old) (B.content board.new) (record {
-      source = D.In.number connection.0;
-      sink = D.Out.number connection.1;
-      told = record {
-        unread = D.In.left connection.0;
-        written = D.Out.held connection.1;
-        flushed = D.Out.flushed connection.1;
-        source_faults = D.In.faults connection.0;
-        sink_faults = D.Out.faults connection.1;
-      };
-    }) result }
-    ensures goes { Goes (B.content board.old) (B.content board.new) }
-    ensures faults { D.faults door.new ≡ D.faults door.old }
-    ensures memory_faults { D.memory_faults door.new ≡ D.memory_faults door.old }
-    ensures frame_stays { IsSome frame.old → IsSome frame.new × (result ≢ SessionEnd.OutOfMemory) }
-    ensures frame_was { result ≢ SessionEnd.OutOfMemory → IsSome frame.new }
-    ensures steps_never_fall { steps.old ≤ steps.new }
-{
-    let rt: N = rt.within(name.place, name.number);
-    let mut input = NumberedSource::<D::In, J>::new(connection.0);
-    let mut output = NumberedSink::<D::Out, J>::new(connection.1);
-    let end = serve(
-        &rt,
-        alloc,
-        frame,
-        board,
-        &mut input,
-        &mut output,
-        gate,
-        steps,
-    );
-    door.done(input.into_inner(), output.into_inner());
-    debug!(rt; target: "ended", "{end:?}");
-    end
-}
-
-// Serves a connection over the frame; how it ended. Without a frame it ends out of memory.
-fn serve<R: Threads + Sync + Clock + Log, B: ChangedWith<R>, S: Source, K: Sink, G: Gate + Sync>(
-    rt: &R,
-    alloc: Global,
-    frame: &mut Option<Frame>,
-    board: &mut B,
-    source: &mut S,
-    sink: &mut K,
-    gate: &G,
-    steps: &mut Steps,
-) -> SessionEnd
-    requires room { IfSome frame.old (λ frame. frame.room ≡ room_of (B.content board.old).conf) }
-    ensures room { IfSome frame.new (λ frame. frame.room ≡ room_of (B.content board.new).conf) }
-    ensures served { (own : List ℕ) → (B.content board.new).own ≡ (B.content board.old).own ++ own
-        → IsServedOnce (B.content board.new).conf (B.content board.new).opening (B.content board.old).history
-        (connection_of S.Source K.Sink source.old sink.old) (connection_of S.Source K.Sink source.new sink.new) (B.content board.new).history result own }
-    ensures goes { Goes (B.content board.old) (B.content board.new) }
-    ensures frame_stays { IsSome frame.old → IsSome frame.new × (result ≢ SessionEnd.OutOfMemory) }
-    ensures frame_was { result ≢ SessionEnd.OutOfMemory → IsSome frame.new }
-    ensures steps_never_fall { steps.old ≤ steps.new }
-{
-    session_in(rt, alloc, frame, board, source, sink, gate, steps).end
 }

@@ -41,8 +41,21 @@ where
     ensures { ArePlaces most (map B.content boards.old) (map B.content boards.new)
         (map (door_of D.Door) doors.old) (map (door_of D.Door) doors.new) result }
 {
-    if boards.len() < 2 {
-        return serve_first::<R, N, B, D, G>(rt, alloc, first, most, gate, boards, doors);
+    if boards.is_empty() {
+        return PlaceEnd::Done;
+    }
+    if boards.len() == 1 {
+        let mut steps = Steps::new();
+        return serve_place::<R, N, B, D, G>(
+            rt,
+            alloc,
+            first,
+            &mut boards[0],
+            &mut doors[0],
+            most,
+            gate,
+            &mut steps,
+        );
     }
     let middle = boards.len() / 2;
     let (near_boards, far_boards) = boards.split_at_mut(middle);
@@ -142,41 +155,4 @@ where
         },
     );
     near.worse(far)
-}
-
-// Serves the one place, where there is one.
-fn serve_first<
-    R: Log + NamesConnections<N>,
-    N: Threads + Sync + Clock + Log + Drop,
-    B: ChangedWith<N>,
-    D: Door,
-    G: Gate + Sync,
->(
-    rt: &R,
-    alloc: Global,
-    place: usize,
-    most: u32,
-    gate: &G,
-    boards: &mut [B],
-    doors: &mut [D],
-) -> PlaceEnd
-    requires same { length boards.old ≡ length doors.old }
-    requires few { length boards.old < 2 }
-    ensures { ArePlaces most (map B.content boards.old) (map B.content boards.new)
-        (map (door_of D.Door) doors.old) (map (door_of D.Door) doors.new) result }
-{
-    if boards.is_empty() {
-        return PlaceEnd::Done;
-    }
-    let mut steps = Steps::new();
-    serve_place::<R, N, B, D, G>(
-        rt,
-        alloc,
-        place,
-        &mut boards[0],
-        &mut doors[0],
-        most,
-        gate,
-        &mut steps,
-    )
 }

@@ -7,5 +7,9 @@ use Rattle.hips_place.proofs.doors.serve_named.Goals as goal
 pub returns-in-Ok-clause-served : goal.returns-in-Ok-clause-served
 returns-in-Ok-clause-served g c =
     let opened = c.in-Ok.ensures in
-    c.serve_seats-ended.ensures.served c.args.state (rw opened.places opened.numbers)
-    (subst (λ (n : ℕ). All (λ (seat : SeatContent StateContent). seat.seen ≡ one_state n c.args.state) c.in-Ok.seats.items) (sym opened.places) opened.seen) c.requires.first.0 c.requires.first.1
+    c.serve_seats-ended.ensures.served c.args.state (record {
+      numbers = rw opened.places opened.numbers;
+      seen = subst (λ (n : ℕ). All (λ (seat : SeatContent StateContent). seat.seen ≡ one_state n c.args.state) c.in-Ok.seats.items) (sym opened.places) opened.seen;
+      batches = c.requires.first.0;
+      tip = c.requires.first.1;
+    })

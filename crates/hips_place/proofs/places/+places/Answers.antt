@@ -1,6 +1,7 @@
-use Rattle.std.proofs.Common.{map, rules}
+use Rattle.std.proofs.Common.{◌≡◌, length, map, get_or, ap, arith, rules}
+use Rattle.std.proofs.lemmas.Bool.Decides.{nat_tests}
 use Rattle.hips_place.specs.Place.{ArePlaces, door_of}
-use Rattle.hips_place.proofs.PlacesLemmas.{both_places, are_joined}
+use Rattle.hips_place.proofs.PlacesLemmas.{empty_places, first_place, both_places, are_joined}
 use Rattle.hips_place.proofs.places.+places.Goals as goal
 
 pub serve_both-returns : goal.serve_both-returns
@@ -10,6 +11,18 @@ serve_both-returns g t c =
     let near : ArePlaces c.args.most (map content c.args.near_boards.now) (map content c.near_boards-1.given.0) (map told c.args.near_doors.now) (map told c.near_doors-1.given.0) c.join_mut-near.result.0 = search rules in
     let far : ArePlaces c.args.most (map content c.args.far_boards.now) (map content c.far_boards-1.given.0) (map told c.args.far_doors.now) (map told c.far_doors-1.given.0) c.join_mut-near.result.1 = search rules in
     rw c.worse.ensures (both_places c.args.most _ _ _ _ _ _ _ _ _ _ near far)
+
+pub serve_places-returns-then-is_empty : goal.serve_places-returns-then-is_empty
+serve_places-returns-then-is_empty g t c =
+    let none : length c.args.boards.now ≡ 0 = grind (arith, nat_tests, c.is_empty.ensures, c.if-is_empty.true) in
+    empty_places g.B.Board.content (door_of g.D.Door) c.args.most c.args.boards.now c.args.doors.now none (omega arith)
+
+pub serve_places-returns-then-boards-eq1 : goal.serve_places-returns-then-boards-eq1
+serve_places-returns-then-boards-eq1 g t c =
+    let one : length c.args.boards.now ≡ 1 = omega arith in
+    first_place g.B.Board.content (door_of g.D.Door) c.args.most c.args.boards.now c.args.doors.now
+    (get_or c.args.boards.now 0 c.index-boards-0.result) c.serve_place.new.board (get_or c.args.doors.now 0 c.index-doors-0.result) c.serve_place.new.door _ _ c.serve_place.result one (omega arith)
+    (ap (get_or c.args.boards.now 0) c.index-boards-0.is) (ap (get_or c.args.doors.now 0) c.index-doors-0.is) c.serve_place.ensures.place
 
 pub serve_places-returns : goal.serve_places-returns
 serve_places-returns g t c =
