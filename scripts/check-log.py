@@ -614,7 +614,9 @@ def read_until(process, text):
 # How a connection is closed with a reset in place of an end.
 RESETS = struct.pack("ii", 1, 0)
 ROOM = "room: {} of 536870912 bytes of tiles ({} percent) and 0 of 65536 edits (0 percent) are used; {} more tiles of 1024 bytes fit"
-LOADED = info("survey_commands::serve", "loaded 0 leaves in # ms: 2 files are served") + info("hips_http::room", ROOM.format(0, 0, 524_288))
+LOADED = info("survey_commands::serve", "loaded 0 leaves in # ms: 2 files are served")
+LOADED += warn("survey_commands::serve", "the folder has no leaf tiles, so the survey is empty: is it the right folder?")
+LOADED += info("hips_http::room", ROOM.format(0, 0, 524_288))
 GONE = "The edits since the start are lost unless a journal or a copy has them"
 LIMIT = "that is its limit, or none is left"
 FEW_LEFT = (

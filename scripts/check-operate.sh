@@ -808,13 +808,15 @@ addresses() {
     nowhere "can't listen at $folder/none/socket: No such file or directory" "$folder/none/socket"
     (cd "$folder" && nowhere 'can'"'"'t listen at "8080": ' 8080)
     named=$(free_port)
-    "$program" serve "localhost:$named" 1 1 >"$folder/output" 2>"$folder/said" &
+    mkdir "$folder/empty" && cp survey.conf "$folder/empty"
+    (cd "$folder/empty" && exec "$program" serve "localhost:$named" 1 1) >"$folder/output" 2>"$folder/said" &
     ending=$!
     curl -s -o "$folder/body" --retry 20 --retry-delay 1 --retry-connrefused "http://localhost:$named/properties" || blame "serve localhost:$named: $(cat "$folder/said")"
     wait "$ending"
     got=$?
     [ "$got" = 0 ] || blame "serve localhost:$named: status $got: $(cat "$folder/said")"
     grep -qF "The edits since the start are lost unless a journal or a copy has them" "$folder/said" || blame "the end doesn't say what is gone: $(cat "$folder/said")"
+    grep -qF 'WARN  survey_commands::serve] the folder has no leaf tiles' "$folder/said" || blame "an empty folder is served without a warning: $(cat "$folder/said")"
 }
 
 # name_of_two: a name with two addresses, where this may give one. `mirror` and `serve` take the one that they can have.

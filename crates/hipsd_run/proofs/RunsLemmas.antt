@@ -1,6 +1,9 @@
 -- From what was run to what the words ask for.
 use Rattle.std.proofs.Common.{◌≡◌, ◌≢◌, ◌⊎◌, ℕ, ◌≤◌, List, true, false, Option, Some, None, IfSome, inl, inr, length, refl, sym, subst, arith}
+use Rattle.std.specs.Prelude.{nat_eq}
 use Rattle.std.proofs.lemmas.Bool.{false≢true}
+use Rattle.std.proofs.lemmas.Bool.Decides.{nat_tests}
+use Rattle.survey_link.specs.Link.{CountsFault}
 use Rattle.hipsd_run.specs.Command.{Asks, IsCommandFor, doors_of}
 use Rattle.hipsd_run.specs.Runs.{Ends, Runs, RunsUsage, ReportsFaults, RunsWords}
 use Rattle.hipsd_run.specs.declared.command.Command.{Command}
@@ -34,6 +37,10 @@ runs_none words old new status doors none len usage faults =
 -- the status of the usage reports no fault but the sink's
 pub not_blamed : (status : ℕ) → (status ≡ 1) ⊎ (status ≡ 6) → (status ≢ 5) × (status ≢ 7) × (status ≢ 8) × ¬ ((status ≡ 2) ⊎ (status ≡ 3))
 not_blamed status ends = (λ e. absurd (omega arith), λ e. absurd (omega arith), λ e. absurd (omega arith), λ e. absurd (omega arith))
+
+-- an end that stays has failed no more
+pub no_fault : (status own count : ℕ) → status ≢ own → CountsFault (nat_eq status own) count count
+no_fault status own count other = let e : nat_eq status own ≡ false = grind (arith, nat_tests) in rw e refl
 
 -- a status that isn't that of a shelf that wasn't opened
 pub never_opened : {P : Type 0} {status : ℕ} → (status ≢ 2) × (status ≢ 3) → (status ≡ 2) ⊎ (status ≡ 3) → P

@@ -1,9 +1,9 @@
 -- What `run` does to the ends of the program: by cases over the words, and over the command that they ask for.
-use Rattle.std.specs.Prelude.{◌≡◌, ◌≢◌, ◌⊎◌, ℕ, ◌≤◌, false, List, [], ◌∷◌, ◌++◌, Option, IfSome, length, map, take, drop, codes, Vec}
+use Rattle.std.specs.Prelude.{◌≡◌, ◌≢◌, ◌⊎◌, ℕ, ◌≤◌, false, List, [], ◌∷◌, ◌++◌, Option, IfSome, length, map, take, drop, codes, nat_eq, Vec}
 use Rattle.std.specs.declared.alloc.Global.{Global}
 use Rattle.std.specs.Io.KnownBytes.{Appends, IsAtEnd}
 use Rattle.healpix_nested.specs.Cells.{cell_count}
-use Rattle.survey_link.specs.Link.{Rises, AppendsPrefix}
+use Rattle.survey_link.specs.Link.{CountsFault, AppendsPrefix}
 use Rattle.survey_link.specs.Door.{Connection}
 use Rattle.survey_link.specs.Shelf.{ShelfFiles}
 use Rattle.survey_link.specs.declared.source.Source.{Ghosts as SourceGhosts}
@@ -127,12 +127,12 @@ pub record RunsUsage {S H D : Type 0} (old new : Ends S H D) (status : ℕ) : Ty
 
 -- ---- what any command line does
 
--- a status that reports a fault comes only if the count of that fault rose; nothing is read and no connection is taken if the
--- shelf isn't opened; steps never fall
+-- the source's, the sink's, the shelf's count of faults rises if and only if the status is 5, 6, 7; status 8 comes only if a
+-- door's count rose; nothing is read and no connection is taken if the shelf isn't opened; steps never fall
 pub record ReportsFaults {S H D : Type 0} (old new : Ends S H D) (status : ℕ) : Type 0 where
-  pub read_fault : status ≡ 5 → Rises old.connection.source_faults new.connection.source_faults
-  pub write_fault : status ≡ 6 → Rises old.connection.sink_faults new.connection.sink_faults
-  pub shelf_fault : status ≡ 7 → Rises old.shelf_faults new.shelf_faults
+  pub read_fault : CountsFault (nat_eq status 5) old.connection.source_faults new.connection.source_faults
+  pub write_fault : CountsFault (nat_eq status 6) old.connection.sink_faults new.connection.sink_faults
+  pub shelf_fault : CountsFault (nat_eq status 7) old.shelf_faults new.shelf_faults
   pub door_fault : status ≡ 8 → SomeRises (map (λ door. (old.door door).faults) old.doors.items) (map (λ door. (new.door door).faults) new.doors.items)
   pub unread : (status ≡ 2) ⊎ (status ≡ 3) → new.source ≡ old.source
   pub closed : (status ≡ 2) ⊎ ((status ≡ 3) ⊎ (status ≡ 7)) → new.doors.items ≡ old.doors.items

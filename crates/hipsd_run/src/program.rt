@@ -1,7 +1,7 @@
 //! The whole program, over whatever ends it is given.
-ghost use Rattle.std.specs.Prelude.{◌≡◌, ◌≢◌, ◌≤◌};
+ghost use Rattle.std.specs.Prelude.{◌≡◌, ◌≢◌, ◌≤◌, nat_eq};
 ghost use Rattle.healpix_nested.specs.Cells.{cell_count};
-ghost use Rattle.survey_link.specs.Link.{Rises};
+ghost use Rattle.survey_link.specs.Link.{CountsFault};
 ghost use Rattle.leaf_probe.specs.Probe.{IsProbe};
 ghost use Rattle.leaf_probe.specs.Reading.{ReadsToTheEnd};
 ghost use Rattle.hips_http.specs.Moment.{connection_of};
@@ -34,7 +34,7 @@ use survey_link::{Door, Gate, Shelf, Sink, Source};
 /// | 2 | the shelf has no `survey.conf`, and `conf absent` and LF are written; or this has a fault: `conf LINE KIND` and LF |
 /// | 3 | the file of a leaf is refused: `tile PATH FAULT` and LF are written; or there are too many: `leaves N` and LF |
 /// | 4 | `probe`, `past`: the input ends within a record; `session`: within a request; `catalog`: within a line; `mirror`: within a reply |
-/// | 5, 6, 7 | the source's, the sink's, the shelf's count of faults rose |
+/// | 5, 6, 7 | the source's, the sink's, the shelf's count of faults rose, and does so at no other status |
 /// | 8 | `serve`: a door's count of faults rose; the other places went on to their ends |
 /// | 9 | `verify`: the shelf differs from the survey |
 /// | 10 | `probe`: no leaf lies at or under the asked tile |
@@ -100,7 +100,7 @@ where
 // Writes how the program is called.
 fn usage<K: Sink>(sink: &mut K) -> u8
     ensures prints { PrintsUsage (K.held sink.old) (K.held sink.new) (K.flushed sink.new) result }
-    ensures fault { result ≡ 6 → Rises (K.faults sink.old) (K.faults sink.new) }
+    ensures fault { CountsFault (nat_eq result 6) (K.faults sink.old) (K.faults sink.new) }
 {
     match write_out(sink, b"usage: hipsd COMMAND\n") {
         Ok(()) => 1,
@@ -126,8 +126,8 @@ fn run_probe<S: Source, K: Sink>(
     ensures not_opened { (result ≢ 2) × (result ≢ 3) }
     ensures not_shelf { result ≢ 7 }
     ensures not_door { result ≢ 8 }
-    ensures read_fault { result ≡ 5 → Rises (S.faults source.old) (S.faults source.new) }
-    ensures write_fault { result ≡ 6 → Rises (K.faults sink.old) (K.faults sink.new) }
+    ensures read_fault { CountsFault (nat_eq result 5) (S.faults source.old) (S.faults source.new) }
+    ensures write_fault { CountsFault (nat_eq result 6) (K.faults sink.old) (K.faults sink.new) }
     ensures steps_never_fall { steps.old ≤ steps.new }
 {
     match probe(alloc, asked, source, sink, steps) {

@@ -1,11 +1,10 @@
 -- What `session` does: it opens the shelf, and serves one connection, over the source and the sink, by a board of that survey
 -- that nobody else has.
-use Rattle.std.specs.Prelude.{◌≡◌, ◌⊎◌, ℕ, ◌-◌, ◌≤◌, List, [], ◌∷◌, length, Option, Some, None, Result, Ok, Err, IfSome}
+use Rattle.std.specs.Prelude.{◌≡◌, ◌≢◌, ◌⊎◌, ℕ, ◌-◌, List, [], ◌∷◌, length, Option, Some, None, Result, Ok, Err, IfSome}
 use Rattle.std.specs.List.{range_with_len}
 use Rattle.std.specs.Result.{result_err}
 use Rattle.std.specs.Io.KnownBytes.{Appends}
 use Rattle.survey_link.specs.Door.{Connection}
-use Rattle.survey_link.specs.Link.{Rises}
 use Rattle.survey_link.specs.Shelf.{ShelfFiles}
 use Rattle.shelf_io.specs.Opening.{OpenedSurvey, opening, IsRefusedBy}
 use Rattle.shelf_io.specs.declared.refusal.LoadRefusal.{LoadRefusal}
@@ -14,7 +13,7 @@ use Rattle.reader_pin.specs.Board.{BoardContent}
 use Rattle.reader_pin.specs.Solo.{only_seat}
 use Rattle.hips_http.specs.declared.served.SessionEnd.{SessionEnd}
 use Rattle.hips_http.specs.declared.served.SessionEnd.TheVariants.{Closed, Asked, Refused, Cut, Spent, ReadFault, WriteFault, OutOfMemory}
-use Rattle.hips_http.specs.SessionRun.{Exchange, SessionRun, Flushes, input_of}
+use Rattle.hips_http.specs.SessionRun.{Exchange, SessionRun, input_of}
 use Rattle.survey_commands.specs.Survey.{SaysWhy, sink_of}
 
 -- ---- the connection
@@ -43,24 +42,19 @@ end_status (Refused code) = 14
 
 -- ---- the run
 
--- a connection as the proof sees it, whose source had this input; flushing what was written comes after it, at which the sink
--- may fail too
+-- a connection as the proof sees it, whose source had this input, after all that the sink held back was flushed
 pub record IsExchange (input : List ℕ) (old new : Connection) (exchange : Exchange) : Type 0 where
   pub input_is : input ≡ input_of exchange
   pub left : new.unread ≡ Some exchange.left
   pub written : Appends old.written new.written exchange.written
+  pub flushed : Appends old.written new.flushed exchange.flushed
   pub source_faults : exchange.source_faults ≡ old.source_faults
   pub source_faults_then : exchange.source_faults_then ≡ new.source_faults
   pub sink_faults : exchange.sink_faults ≡ old.sink_faults
-  pub sink_faults_then : exchange.sink_faults_then ≤ new.sink_faults
+  pub sink_faults_then : exchange.sink_faults_then ≡ new.sink_faults
 
--- the status is that of the end, and all that was written is flushed; or the sink failed at that, and what the connection had
--- flushed stays
-abbrev pub EndsWith : SessionEnd → ℕ → Exchange → Connection → Connection → Type 0
-EndsWith end status exchange old new = ((status ≡ end_status end) × (new.flushed ≡ new.written))
-    ⊎ ((status ≡ 6) × Rises old.sink_faults new.sink_faults × Flushes old.written old.flushed new.flushed exchange.flushed)
-
--- one connection of the survey was served, whose source had this input
+-- one connection of the survey was served, whose source had this input, and unless a writing failed all that the sink holds was
+-- flushed
 pub record Serves (survey : OpenedSurvey) (input : List ℕ) (old new : Connection) (status : ℕ) : Type 0 where
   pub exchange : Exchange
   pub exchanged : IsExchange input old new exchange
@@ -68,7 +62,12 @@ pub record Serves (survey : OpenedSurvey) (input : List ℕ) (old new : Connecti
   pub end : SessionEnd
   pub memory_faults : ℕ
   pub run : RunsAlone survey exchange states end memory_faults
-  pub ended : EndsWith end status exchange old new
+  pub status_is : status ≡ end_status end
+  pub all_flushed : end ≢ WriteFault → new.flushed ≡ new.written
+
+-- or none was, since the sink failed at what it held back
+abbrev pub FailsToFlush : ℕ → Connection → Connection → Type 0
+FailsToFlush status old new = (status ≡ 6) × (new.unread ≡ old.unread) × (new.written ≡ old.written) × (new.flushed ≡ old.flushed)
 
 -- the files open as this survey, or as none by this refusal, where the proof can see them
 abbrev pub OpensAs : Option ShelfFiles → OpenedSurvey → Type 0
@@ -79,7 +78,8 @@ OpensNot found refusal = IfSome found (λ files. IsRefusedBy (result_err (openin
 
 -- `session`, over the files and an input: the survey that the files open as is served; or they open as none, which is written
 abbrev pub SessionOf : Option ShelfFiles → List ℕ → Connection → Connection → ℕ → Result OpenedSurvey LoadRefusal → Type 0
-SessionOf found input old new status (Ok survey) = OpensAs found survey × Serves survey input old new status
+SessionOf found input old new status (Ok survey) =
+    OpensAs found survey × (Serves survey input old new status ⊎ FailsToFlush status old new)
 SessionOf found input old new status (Err refusal) = OpensNot found refusal × (new.unread ≡ old.unread)
     × SaysWhy refusal status (sink_of old) (sink_of new)
 

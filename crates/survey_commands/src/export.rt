@@ -1,7 +1,8 @@
 //! The command `export`: the survey that the shelf describes is put on the shelf.
-ghost use Rattle.std.specs.Prelude.{◌≡◌, ◌≢◌, ◌≤◌, IsErrOf, Some};
-ghost use Rattle.survey_link.specs.Link.{Rises};
+ghost use Rattle.std.specs.Prelude.{◌≡◌, ◌≢◌, ◌≤◌, nat_eq, Some};
+ghost use Rattle.survey_link.specs.Link.{CountsFault};
 ghost use Rattle.past_session.specs.Run.{sink_bytes};
+ghost use Rattle.shelf_io.specs.Refusals.{at_shelf};
 ghost use Rattle.survey_commands.specs.Survey.{IsExport, SaysExport, RunsExport, export_text};
 
 use crate::output::say;
@@ -32,7 +33,7 @@ impl fmt::Display for Exported {
 /// |---|---|
 /// | 0 | the files are on the shelf, and the line is written |
 /// | 2, 3 | the shelf isn't opened, for its description or for its leaves; a line says why |
-/// | 6, 7 | the sink's, the shelf's count of faults rose |
+/// | 6, 7 | the sink's, the shelf's count of faults rose, and does so at no other status |
 /// | 11 | there was no memory |
 pub fn run_export<R, K, H, G>(
     rt: &R,
@@ -51,8 +52,8 @@ where
     ensures not_usage { result ≢ 1 }
     ensures not_door { result ≢ 8 }
     ensures not_read { result ≢ 5 }
-    ensures write_fault { result ≡ 6 → Rises (K.faults sink.old) (K.faults sink.new) }
-    ensures shelf_fault { result ≡ 7 → Rises (H.faults shelf.old) (H.faults shelf.new) }
+    ensures write_fault { CountsFault (nat_eq result 6) (K.faults sink.old) (K.faults sink.new) }
+    ensures shelf_fault { CountsFault (nat_eq result 7) (H.faults shelf.old) (H.faults shelf.new) }
     ensures steps_never_fall { steps.old ≤ steps.new }
 {
     match export_survey(rt, shelf, gate, steps) {
@@ -73,7 +74,7 @@ where
     H: Shelf,
     G: Gate + Sync,
     ensures outcome { IsExport (H.files shelf.old) (H.files shelf.new) result }
-    ensures failed { IsErrOf result LoadRefusal.ShelfFault → Rises (H.faults shelf.old) (H.faults shelf.new) }
+    ensures faults { CountsFault (at_shelf result) (H.faults shelf.old) (H.faults shelf.new) }
     ensures steps_never_fall { steps.old ≤ steps.new }
 {
     let generation = load(rt, rt.alloc(), shelf, gate, steps)?;

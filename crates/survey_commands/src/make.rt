@@ -1,6 +1,6 @@
 //! The command `make`: a survey is made by its script, and summed up.
-ghost use Rattle.std.specs.Prelude.{◌≡◌, ◌≢◌, ℕ, ◌≤◌, [], IfOk, OnOk};
-ghost use Rattle.survey_link.specs.Link.{Rises};
+ghost use Rattle.std.specs.Prelude.{◌≡◌, ◌≢◌, ℕ, ◌≤◌, [], nat_eq, IfOk, OnOk};
+ghost use Rattle.survey_link.specs.Link.{CountsFault};
 ghost use Rattle.past_session.specs.Run.{sink_bytes};
 ghost use Rattle.shelf_io.specs.Opening.{OpenedSurvey};
 ghost use Rattle.survey_commands.specs.Session.{board_of};
@@ -27,7 +27,7 @@ use survey_make::{read_conf, script};
 /// | Status | Where |
 /// |---|---|
 /// | 0 | the survey is made, and its summary is written |
-/// | 6 | the sink's count of faults rose |
+/// | 6 | the sink's count of faults rose, and does so at no other status |
 /// | 11 | there was no memory, at any time; nothing is written |
 pub fn run_make<R, K, G>(
     rt: &R,
@@ -46,7 +46,7 @@ where
     ensures not_usage { result ≢ 1 }
     ensures not_door { result ≢ 8 }
     ensures not_read { result ≢ 5 }
-    ensures write_fault { result ≡ 6 → Rises (K.faults sink.old) (K.faults sink.new) }
+    ensures write_fault { CountsFault (nat_eq result 6) (K.faults sink.old) (K.faults sink.new) }
     ensures not_shelf { result ≢ 7 }
     ensures steps_never_fall { steps.old ≤ steps.new }
 {

@@ -1,7 +1,7 @@
 //! The command `mirror`: a copy of a peer's survey.
-ghost use Rattle.std.specs.Prelude.{◌≡◌, ◌≢◌, ◌≤◌};
-ghost use Rattle.survey_link.specs.Link.{Rises};
-ghost use Rattle.hips_mirror.specs.declared.refusal.MirrorRefusal.TheVariants.{ReadFault, WriteFault, ShelfFault};
+ghost use Rattle.std.specs.Prelude.{◌≡◌, ◌≢◌, ◌≤◌, nat_eq};
+ghost use Rattle.survey_link.specs.Link.{CountsFault};
+ghost use Rattle.hips_mirror.specs.Mirror.{is_read_fault, is_write_fault, is_shelf_fault};
 ghost use Rattle.hips_http.specs.Moment.{connection_of};
 ghost use Rattle.survey_commands.specs.Mirror.{RunsMirror, copying_of, refusal_status};
 
@@ -19,7 +19,7 @@ use survey_link::{Gate, Shelf, Sink, Source};
 /// |---|---|
 /// | 0 | the shelf's files of a survey are those of the copy |
 /// | 4 | the input ends within a reply |
-/// | 5, 6, 7 | the source's, the sink's, the shelf's count of faults rose |
+/// | 5, 6, 7 | the source's, the sink's, the shelf's count of faults rose, and does so at no other status |
 /// | 11 | there was no memory |
 /// | 21 | a reply is malformed |
 /// | 22, 23, 25 | what was sent as the properties, as the coverage, as a leaf is refused |
@@ -47,9 +47,9 @@ where
     ensures not_usage { result ≢ 1 }
     ensures not_opened { (result ≢ 2) × (result ≢ 3) }
     ensures not_door { result ≢ 8 }
-    ensures read_fault { result ≡ 5 → Rises (S.faults source.old) (S.faults source.new) }
-    ensures write_fault { result ≡ 6 → Rises (K.faults sink.old) (K.faults sink.new) }
-    ensures shelf_fault { result ≡ 7 → Rises (H.faults shelf.old) (H.faults shelf.new) }
+    ensures read_fault { CountsFault (nat_eq result 5) (S.faults source.old) (S.faults source.new) }
+    ensures write_fault { CountsFault (nat_eq result 6) (K.faults sink.old) (K.faults sink.new) }
+    ensures shelf_fault { CountsFault (nat_eq result 7) (H.faults shelf.old) (H.faults shelf.new) }
     ensures steps_never_fall { steps.old ≤ steps.new }
 {
     match mirror(rt, rt.alloc(), source, sink, shelf, gate, steps) {
@@ -65,9 +65,9 @@ where
 fn refusal_status(refusal: &MirrorRefusal) -> u8
     ensures status { result ≡ refusal_status refusal.now }
     ensures others { (result ≢ 0) × (result ≢ 1) × (result ≢ 2) × (result ≢ 3) × (result ≢ 8) }
-    ensures read_fault { result ≡ 5 → refusal.now ≡ ReadFault }
-    ensures write_fault { result ≡ 6 → refusal.now ≡ WriteFault }
-    ensures shelf_fault { result ≡ 7 → refusal.now ≡ ShelfFault }
+    ensures read_fault { nat_eq result 5 ≡ is_read_fault refusal.now }
+    ensures write_fault { nat_eq result 6 ≡ is_write_fault refusal.now }
+    ensures shelf_fault { nat_eq result 7 ≡ is_shelf_fault refusal.now }
 {
     match refusal {
         MirrorRefusal::Reply { .. } => 21,

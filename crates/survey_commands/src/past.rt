@@ -1,15 +1,15 @@
 //! The command `past`: records about past states over the source and the sink.
-ghost use Rattle.std.specs.Prelude.{◌≡◌, ◌≢◌, ◌⊎◌, ℕ, ◌+◌, ◌≤◌, List, Some, [], IfSome, IfOk, IfErr, IsErrOf};
+ghost use Rattle.std.specs.Prelude.{◌≡◌, ◌≢◌, ◌⊎◌, ℕ, ◌+◌, ◌≤◌, List, Some, [], nat_eq, IfSome, IfOk, IfErr};
 ghost use Rattle.std.specs.Arc.{arc_value};
-ghost use Rattle.survey_link.specs.Link.{Rises};
+ghost use Rattle.survey_link.specs.Link.{CountsFault};
 ghost use Rattle.edit_journal.specs.Leaves.{charge_of};
 ghost use Rattle.edit_journal.specs.Faults.{most_charge};
-ghost use Rattle.past_session.specs.Run.{sink_bytes, RunsOver};
-ghost use Rattle.past_session.specs.declared.ending.PastEnd.{PastEnd as Ending};
-ghost use Rattle.shelf_io.specs.Opening.{OpenedSurvey, opening_steps};
+ghost use Rattle.past_session.specs.Run.{is_read_fault, is_write_fault};
+ghost use Rattle.shelf_io.specs.Opening.{opening_steps};
+ghost use Rattle.shelf_io.specs.Refusals.{at_shelf};
 ghost use Rattle.hips_http.specs.Moment.{connection_of};
 ghost use Rattle.survey_commands.specs.Session.{OpensAs, OpensNot};
-ghost use Rattle.survey_commands.specs.Past.{IsPast, RunsPast, RunsPastOver, FlushesPast, AnswersPast, opened_cost, past_status};
+ghost use Rattle.survey_commands.specs.Past.{IsPast, RunsPast, RunsPastOver, FlushesPast, opened_cost, past_status};
 
 use crate::refusing::say_why;
 use generation::Generation;
@@ -31,7 +31,7 @@ use survey_link::{Gate, Shelf, Sink, Source};
 /// | 0 | the input was read to its end, between two records |
 /// | 2, 3 | the shelf isn't opened, for its description or for its leaves; a line says why, and nothing is read |
 /// | 4 | the input ends within a record |
-/// | 5, 6, 7 | the source's, the sink's, the shelf's count of faults rose |
+/// | 5, 6, 7 | the source's, the sink's, the shelf's count of faults rose, and does so at no other status |
 /// | 11 | there was no memory |
 /// | 12 | the input goes on after 65,536 records |
 /// | 17 | a record has no line of its form |
@@ -63,13 +63,17 @@ where
     ensures unread { (result ≡ 2) ⊎ (result ≡ 3) → source.new ≡ source.old }
     ensures not_usage { result ≢ 1 }
     ensures not_door { result ≢ 8 }
-    ensures read_fault { result ≡ 5 → Rises (S.faults source.old) (S.faults source.new) }
-    ensures write_fault { result ≡ 6 → Rises (K.faults sink.old) (K.faults sink.new) }
-    ensures shelf_fault { result ≡ 7 → Rises (H.faults shelf.old) (H.faults shelf.new) }
+    ensures read_fault { CountsFault (nat_eq result 5) (S.faults source.old) (S.faults source.new) }
+    ensures write_fault { CountsFault (nat_eq result 6) (K.faults sink.old) (K.faults sink.new) }
+    ensures shelf_fault { CountsFault (nat_eq result 7) (H.faults shelf.old) (H.faults shelf.new) }
     ensures steps_never_fall { steps.old ≤ steps.new }
 {
     match open_survey(rt, shelf, gate, steps) {
-        Ok(opening) => answer_source(rt, opening, cache, source, sink, gate, steps),
+        Ok(opening) => {
+            let end = past_session(rt, rt.alloc(), opening, cache, source, sink, gate, steps);
+            say_end(rt, end);
+            past_status(end)
+        }
         Err(refusal) => say_why(rt.alloc(), sink, &refusal),
     }
 }
@@ -90,7 +94,7 @@ where
     ensures charge { IfOk result (λ made. charge_of (arc_value made).leaves [] ≤ most_charge) }
     ensures refused { IfErr result (OpensNot (H.files shelf.old)) }
     ensures kept { H.files shelf.new ≡ H.files shelf.old }
-    ensures failed { IsErrOf result LoadRefusal.ShelfFault → Rises (H.faults shelf.old) (H.faults shelf.new) }
+    ensures faults { CountsFault (at_shelf result) (H.faults shelf.old) (H.faults shelf.new) }
     ensures steps { IfOk result (λ made. steps.new ≤ steps.old + opened_cost (record { conf = (arc_value made).conf; leaves = (arc_value made).leaves })) }
     ensures steps_told { IfSome (H.files shelf.old) (λ files. steps.new ≤ steps.old + opening_steps files) }
     ensures steps_never_fall { steps.old ≤ steps.new }
@@ -106,46 +110,12 @@ fn shared(alloc: Global, generation: Generation) -> Result<Arc<Generation>, Allo
     Ok(Arc::new(alloc, generation)?)
 }
 
-// Answers the records about past states of the survey of which this is the first generation, and answers the status.
-fn answer_source<R, S, K, G>(
-    rt: &R,
-    opening: Arc<Generation>,
-    cache: usize,
-    source: &mut S,
-    sink: &mut K,
-    gate: &G,
-    steps: &mut Steps,
-) -> u8
-where
-    R: AllocGlobal + Threads + Sync + Clock + Log,
-    S: Source,
-    K: Sink,
-    G: Gate + Sync,
-    requires cache { IsPast cache }
-    requires first { (arc_value opening).prefix ≡ 0 }
-    requires charge { charge_of (arc_value opening).leaves [] ≤ most_charge }
-    ensures answered { (input : List ℕ) → S.left source.old ≡ Some input
-        → AnswersPast (record { conf = (arc_value opening).conf; leaves = (arc_value opening).leaves }) input
-        (connection_of S.Source K.Sink source.old sink.old) (connection_of S.Source K.Sink source.new sink.new)
-        steps.old steps.new result }
-    ensures over { (end : Ending) × RunsOver (arc_value opening).conf (arc_value opening).leaves (S.left source.old) (S.left source.new)
-        (sink_bytes K.Sink sink.old) (sink_bytes K.Sink sink.new) steps.old steps.new end
-        × (result ≡ past_status end) }
-    ensures flushed { FlushesPast result
-        (connection_of S.Source K.Sink source.old sink.old) (connection_of S.Source K.Sink source.new sink.new) }
-    ensures no_refusal { (result ≢ 1) × (result ≢ 2) × (result ≢ 3) × (result ≢ 7) × (result ≢ 8) }
-    ensures read_fault { result ≡ 5 → Rises (S.faults source.old) (S.faults source.new) }
-    ensures write_fault { result ≡ 6 → Rises (K.faults sink.old) (K.faults sink.new) }
-    ensures steps_never_fall { steps.old ≤ steps.new }
-{
-    let end = past_session(rt, rt.alloc(), opening, cache, source, sink, gate, steps);
-    say_end(rt, end);
-    past_status(end)
-}
-
 // The status of records that ended so.
 fn past_status(end: PastEnd) -> u8
-    ensures { result ≡ past_status end }
+    ensures status { result ≡ past_status end }
+    ensures no_refusal { (result ≢ 1) × (result ≢ 2) × (result ≢ 3) × (result ≢ 7) × (result ≢ 8) }
+    ensures read_fault { nat_eq result 5 ≡ is_read_fault end }
+    ensures write_fault { nat_eq result 6 ≡ is_write_fault end }
 {
     match end {
         PastEnd::Done => 0,

@@ -1,8 +1,8 @@
 //! What is written if the shelf isn't opened.
-ghost use Rattle.std.specs.Prelude.{◌≡◌, ◌≢◌};
-ghost use Rattle.survey_link.specs.Link.{Rises};
+ghost use Rattle.std.specs.Prelude.{◌≡◌, ◌≢◌, nat_eq, Err, ⊤};
+ghost use Rattle.survey_link.specs.Link.{CountsFault};
 ghost use Rattle.past_session.specs.Run.{sink_bytes};
-ghost use Rattle.shelf_io.specs.declared.refusal.LoadRefusal.TheVariants.{ShelfFault};
+ghost use Rattle.shelf_io.specs.Refusals.{at_shelf};
 ghost use Rattle.survey_commands.specs.Survey.{SaysWhy};
 
 use crate::output::say;
@@ -17,8 +17,8 @@ pub fn say_why<K: Sink>(alloc: Global, sink: &mut K, refusal: &LoadRefusal) -> u
     ensures not_usage { result ≢ 1 }
     ensures not_door { result ≢ 8 }
     ensures not_read { result ≢ 5 }
-    ensures write_fault { result ≡ 6 → Rises (K.faults sink.old) (K.faults sink.new) }
-    ensures shelf_fault { result ≡ 7 → refusal.now ≡ ShelfFault }
+    ensures write_fault { CountsFault (nat_eq result 6) (K.faults sink.old) (K.faults sink.new) }
+    ensures shelf_fault { nat_eq result 7 ≡ at_shelf {A = ⊤} (Err refusal.now) }
 {
     match refusal {
         LoadRefusal::NoConf | LoadRefusal::Conf(_) => say(alloc, sink, 2, refusal),

@@ -1,6 +1,6 @@
 //! The command `serve`: the connections of many doors at once, over one survey.
-ghost use Rattle.std.specs.Prelude.{◌≡◌, ◌≢◌, ◌⊎◌, ◌<◌, ◌≤◌, [], map, length, take, drop};
-ghost use Rattle.survey_link.specs.Link.{Rises};
+ghost use Rattle.std.specs.Prelude.{◌≡◌, ◌≢◌, ◌⊎◌, ◌<◌, ◌≤◌, [], nat_eq, map, length, take, drop};
+ghost use Rattle.survey_link.specs.Link.{CountsFault};
 ghost use Rattle.past_session.specs.Run.{sink_bytes};
 ghost use Rattle.hips_place.specs.Place.{SomeRises, door_of};
 ghost use Rattle.shelf_io.specs.Opening.{OpenedSurvey};
@@ -11,7 +11,7 @@ use crate::session::open_state;
 use generation::Generation;
 use hips_http::say_room;
 use hips_place::{PlaceEnd, ServeRefusal, serve_doors};
-use log::{Log, error, info};
+use log::{Log, error, info, warn};
 use parent_rule::Steps;
 use std::sync::Wait;
 use std::thread::Threads;
@@ -26,7 +26,7 @@ use survey_link::{Door, Gate, Shelf, Sink};
 /// |---|---|
 /// | 0 | each place took its connections |
 /// | 2, 3 | the shelf isn't opened, for its description or for its leaves; a line says why, and no connection is taken |
-/// | 6, 7 | the sink's, the shelf's count of faults rose |
+/// | 6, 7 | the sink's, the shelf's count of faults rose, and does so at no other status |
 /// | 8 | a door's count of faults rose; the other places went on to their ends |
 /// | 11 | there was no memory, and no door's count of faults rose: to open the survey, or at a place; or for the places' boards to meet |
 pub fn run_serve<R, K, H, D, G>(
@@ -56,8 +56,8 @@ where
     ensures kept { H.files shelf.new ≡ H.files shelf.old }
     ensures not_usage { result ≢ 1 }
     ensures not_read { result ≢ 5 }
-    ensures write_fault { result ≡ 6 → Rises (K.faults sink.old) (K.faults sink.new) }
-    ensures shelf_fault { result ≡ 7 → Rises (H.faults shelf.old) (H.faults shelf.new) }
+    ensures write_fault { CountsFault (nat_eq result 6) (K.faults sink.old) (K.faults sink.new) }
+    ensures shelf_fault { CountsFault (nat_eq result 7) (H.faults shelf.old) (H.faults shelf.new) }
     ensures door_fault { result ≡ 8 → SomeRises (map D.faults doors.old) (map D.faults doors.new) }
     ensures steps_never_fall { steps.old ≤ steps.new }
 {
@@ -80,6 +80,9 @@ fn say_loaded<R: Clock + Log>(rt: &R, generation: &Generation, begun: Option<Ins
     let took = begun.and_then(|begun| begun.elapsed(rt).ok());
     let millis = took.map_or(0, |took| took.as_millis());
     info!(rt; "loaded {leaves} leaves in {millis} ms: {files} files are served");
+    if leaves == 0 {
+        warn!(rt; "the folder has no leaf tiles, so the survey is empty: is it the right folder?");
+    }
 }
 
 // Serves the doors over the survey of which this is the first state, and answers the status.

@@ -1,12 +1,14 @@
 //! The command `session`: one connection over the source and the sink.
-ghost use Rattle.std.specs.Prelude.{◌≡◌, ◌≢◌, ◌⊎◌, ℕ, ◌≤◌, List, Some, [], IfOk, IfErr, IsErrOf};
-ghost use Rattle.survey_link.specs.Link.{Rises};
+ghost use Rattle.std.specs.Prelude.{◌≡◌, ◌≢◌, ◌⊎◌, ℕ, ◌≤◌, List, Some, [], nat_eq, IfOk, IfErr};
+ghost use Rattle.survey_link.specs.Link.{CountsFault};
 ghost use Rattle.edit_journal.specs.Leaves.{charge_of};
 ghost use Rattle.edit_journal.specs.Faults.{most_charge};
 ghost use Rattle.shelf_io.specs.Opening.{OpenedSurvey};
+ghost use Rattle.shelf_io.specs.Refusals.{at_shelf};
+ghost use Rattle.hips_http.specs.SessionRun.{is_read_fault, is_write_fault};
 ghost use Rattle.hips_http.specs.Moment.{connection_of};
 ghost use Rattle.survey_commands.specs.Serve.{state_of};
-ghost use Rattle.survey_commands.specs.Session.{OpensAs, OpensNot, Serves, RunsSession, board_of, end_status};
+ghost use Rattle.survey_commands.specs.Session.{OpensAs, OpensNot, Serves, FailsToFlush, RunsSession, board_of, end_status};
 
 use crate::refusing::say_why;
 use edit_journal::StartRefusal;
@@ -30,7 +32,7 @@ use survey_link::{Failed, Gate, Shelf, Sink, Source};
 /// | 0 | the input was read to its end, or to a request that asked to close |
 /// | 2, 3 | the shelf isn't opened, for its description or for its leaves; a line says why, and nothing is read |
 /// | 4 | the input ends within a request |
-/// | 5, 6, 7 | the source's, the sink's, the shelf's count of faults rose |
+/// | 5, 6, 7 | the source's, the sink's, the shelf's count of faults rose, and does so at no other status |
 /// | 11 | there was no memory |
 /// | 12 | 65,536 requests were answered, and none asked to close |
 /// | 14 | the framing of a request is refused |
@@ -55,9 +57,9 @@ where
     ensures unread { (result ≡ 2) ⊎ (result ≡ 3) → source.new ≡ source.old }
     ensures not_usage { result ≢ 1 }
     ensures not_door { result ≢ 8 }
-    ensures read_fault { result ≡ 5 → Rises (S.faults source.old) (S.faults source.new) }
-    ensures write_fault { result ≡ 6 → Rises (K.faults sink.old) (K.faults sink.new) }
-    ensures shelf_fault { result ≡ 7 → Rises (H.faults shelf.old) (H.faults shelf.new) }
+    ensures read_fault { CountsFault (nat_eq result 5) (S.faults source.old) (S.faults source.new) }
+    ensures write_fault { CountsFault (nat_eq result 6) (K.faults sink.old) (K.faults sink.new) }
+    ensures shelf_fault { CountsFault (nat_eq result 7) (H.faults shelf.old) (H.faults shelf.new) }
     ensures steps_never_fall { steps.old ≤ steps.new }
 {
     match open_board(rt, shelf, gate, steps) {
@@ -80,7 +82,7 @@ where
     ensures opened { IfOk result (λ board. (survey : OpenedSurvey) × OpensAs (H.files shelf.old) survey × (board ≡ board_of survey)) }
     ensures refused { IfErr result (OpensNot (H.files shelf.old)) }
     ensures kept { H.files shelf.new ≡ H.files shelf.old }
-    ensures failed { IsErrOf result LoadRefusal.ShelfFault → Rises (H.faults shelf.old) (H.faults shelf.new) }
+    ensures faults { CountsFault (at_shelf result) (H.faults shelf.old) (H.faults shelf.new) }
     ensures steps_never_fall { steps.old ≤ steps.new }
 {
     let state = open_state(rt, shelf, gate, steps)?;
@@ -105,7 +107,7 @@ where
     ensures opened { IfOk result (λ state. (survey : OpenedSurvey) × OpensAs (H.files shelf.old) survey × (state ≡ state_of survey)) }
     ensures refused { IfErr result (OpensNot (H.files shelf.old)) }
     ensures kept { H.files shelf.new ≡ H.files shelf.old }
-    ensures failed { IsErrOf result LoadRefusal.ShelfFault → Rises (H.faults shelf.old) (H.faults shelf.new) }
+    ensures faults { CountsFault (at_shelf result) (H.faults shelf.old) (H.faults shelf.new) }
     ensures steps_never_fall { steps.old ≤ steps.new }
 {
     let generation = load(rt, rt.alloc(), shelf, gate, steps)?;
@@ -138,7 +140,8 @@ fn first_state(alloc: Global, generation: Generation) -> Result<State, AllocErro
     }
 }
 
-// Serves one connection by a board that nobody else has, flushes what is written, and answers the status.
+// Flushes what the sink holds back, serves one connection by a board that nobody else has, and answers the status. A flush
+// at the end could fail where the source has failed already.
 fn serve_source<R, S, K, G>(
     rt: &R,
     board: &mut Solo,
@@ -155,24 +158,29 @@ where
     ensures served { (survey : OpenedSurvey) (input : List ℕ) → board.old ≡ board_of survey → S.left source.old ≡ Some input
         → Serves survey input
         (connection_of S.Source K.Sink source.old sink.old) (connection_of S.Source K.Sink source.new sink.new)
-        result }
+        result
+        ⊎ FailsToFlush result (connection_of S.Source K.Sink source.old sink.old) (connection_of S.Source K.Sink source.new sink.new) }
     ensures no_refusal { (result ≢ 1) × (result ≢ 2) × (result ≢ 3) × (result ≢ 7) × (result ≢ 8) }
-    ensures read_fault { result ≡ 5 → Rises (S.faults source.old) (S.faults source.new) }
-    ensures write_fault { result ≡ 6 → Rises (K.faults sink.old) (K.faults sink.new) }
+    ensures read_fault { CountsFault (nat_eq result 5) (S.faults source.old) (S.faults source.new) }
+    ensures write_fault { CountsFault (nat_eq result 6) (K.faults sink.old) (K.faults sink.new) }
     ensures steps_never_fall { steps.old ≤ steps.new }
 {
-    let served = session(rt, rt.alloc(), board, source, sink, gate, steps);
-    // For the prover: what a board has seen is a history.
-    let _alone = board.last();
     match sink.flush() {
-        Ok(()) => end_status(served.end),
+        Ok(()) => {
+            let served = session(rt, rt.alloc(), board, source, sink, gate, steps);
+            // For the prover: what a board has seen is a history.
+            let _alone = board.last();
+            end_status(served.end)
+        }
         Err(Failed) => 6,
     }
 }
 
 // The status of a connection that ended so.
 fn end_status(end: SessionEnd) -> u8
-    ensures { result ≡ end_status end }
+    ensures status { result ≡ end_status end }
+    ensures read_fault { nat_eq result 5 ≡ is_read_fault end }
+    ensures write_fault { nat_eq result 6 ≡ is_write_fault end }
 {
     match end {
         SessionEnd::Closed | SessionEnd::Asked => 0,

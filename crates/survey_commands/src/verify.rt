@@ -1,7 +1,8 @@
 //! The command `verify`: the shelf is compared with the survey that it describes.
-ghost use Rattle.std.specs.Prelude.{◌≡◌, ◌≢◌, ◌≤◌, IsErrOf};
-ghost use Rattle.survey_link.specs.Link.{Rises};
+ghost use Rattle.std.specs.Prelude.{◌≡◌, ◌≢◌, ◌≤◌, nat_eq};
+ghost use Rattle.survey_link.specs.Link.{CountsFault};
 ghost use Rattle.past_session.specs.Run.{sink_bytes};
+ghost use Rattle.shelf_io.specs.Refusals.{at_shelf};
 ghost use Rattle.survey_commands.specs.Survey.{IsComparison, RunsVerify, verdict_status};
 
 use crate::output::say;
@@ -19,7 +20,7 @@ use survey_link::{Gate, Shelf, Sink};
 /// |---|---|
 /// | 0 | it has, and `verified N` and LF are written, N how many they are |
 /// | 2, 3 | the shelf isn't opened, for its description or for its leaves; a line says why |
-/// | 6, 7 | the sink's, the shelf's count of faults rose |
+/// | 6, 7 | the sink's, the shelf's count of faults rose, and does so at no other status |
 /// | 9 | it hasn't, and `differs PATH` and LF are written, of the first path by its spelling |
 /// | 11 | there was no memory |
 pub fn run_verify<R, K, H, G>(
@@ -40,8 +41,8 @@ where
     ensures not_usage { result ≢ 1 }
     ensures not_door { result ≢ 8 }
     ensures not_read { result ≢ 5 }
-    ensures write_fault { result ≡ 6 → Rises (K.faults sink.old) (K.faults sink.new) }
-    ensures shelf_fault { result ≡ 7 → Rises (H.faults shelf.old) (H.faults shelf.new) }
+    ensures write_fault { CountsFault (nat_eq result 6) (K.faults sink.old) (K.faults sink.new) }
+    ensures shelf_fault { CountsFault (nat_eq result 7) (H.faults shelf.old) (H.faults shelf.new) }
     ensures steps_never_fall { steps.old ≤ steps.new }
 {
     match verify_survey(rt, shelf, gate, steps) {
@@ -73,7 +74,7 @@ where
     G: Gate + Sync,
     ensures outcome { IsComparison (H.files shelf.old) result }
     ensures kept { H.files shelf.new ≡ H.files shelf.old }
-    ensures failed { IsErrOf result LoadRefusal.ShelfFault → Rises (H.faults shelf.old) (H.faults shelf.new) }
+    ensures faults { CountsFault (at_shelf result) (H.faults shelf.old) (H.faults shelf.new) }
     ensures steps_never_fall { steps.old ≤ steps.new }
 {
     let generation = load(rt, rt.alloc(), shelf, gate, steps)?;

@@ -3,7 +3,7 @@ use Rattle.std.proofs.Math.Nat.{le_refl}
 use Rattle.hips_place.specs.Place.{SomeRises, door_of}
 use Rattle.survey_commands.specs.Serve.{RunsServe}
 use Rattle.hipsd_run.proofs.DoorsLemmas.{written_back, of_doors}
-use Rattle.hipsd_run.proofs.RunsLemmas.{runs_command, runs_none, not_blamed, never_opened, is_used, if_shown}
+use Rattle.hipsd_run.proofs.RunsLemmas.{runs_command, runs_none, not_blamed, no_fault, never_opened, is_used, if_shown}
 use Rattle.hipsd_run.proofs.program.run.Goals as goal
 
 -- the words ask for no command
@@ -16,9 +16,9 @@ returns-in-None g c =
       runs = runs_none _ _ _ _ _ c.in-None.ensures.none len
           (record { prints = said.prints; source = refl; shelf = refl; doors = refl })
           (record {
-            read_fault = λ e. absurd (blames.0 e);
+            read_fault = no_fault _ _ _ blames.0;
             write_fault = said.fault;
-            shelf_fault = λ e. absurd (blames.1 e);
+            shelf_fault = no_fault _ _ _ blames.1;
             door_fault = λ e. absurd (blames.2 e);
             unread = λ e. absurd (blames.3 e);
             closed = λ _. refl;
@@ -40,7 +40,7 @@ returns-in-Probe g c =
           (record {
             read_fault = done.read_fault;
             write_fault = done.write_fault;
-            shelf_fault = λ e. absurd (done.not_shelf e);
+            shelf_fault = no_fault _ _ _ done.not_shelf;
             door_fault = λ e. absurd (done.not_door e);
             unread = never_opened done.not_opened;
             closed = λ _. refl;
@@ -82,7 +82,7 @@ returns-in-Export g c =
             not_usage = done.not_usage;
           })
           (record {
-            read_fault = λ e. absurd (done.not_read e);
+            read_fault = no_fault _ _ _ done.not_read;
             write_fault = done.write_fault;
             shelf_fault = done.shelf_fault;
             door_fault = λ e. absurd (done.not_door e);
@@ -104,7 +104,7 @@ returns-in-Verify g c =
             not_usage = done.not_usage;
           })
           (record {
-            read_fault = λ e. absurd (done.not_read e);
+            read_fault = no_fault _ _ _ done.not_read;
             write_fault = done.write_fault;
             shelf_fault = done.shelf_fault;
             door_fault = λ e. absurd (done.not_door e);
@@ -126,9 +126,9 @@ returns-in-Make g c =
             not_usage = done.not_usage;
           })
           (record {
-            read_fault = λ e. absurd (done.not_read e);
+            read_fault = no_fault _ _ _ done.not_read;
             write_fault = done.write_fault;
-            shelf_fault = λ e. absurd (done.not_shelf e);
+            shelf_fault = no_fault _ _ _ done.not_shelf;
             door_fault = λ e. absurd (done.not_door e);
             unread = λ _. refl;
             closed = λ _. refl;
@@ -162,7 +162,7 @@ returns-in-Serve g c =
             not_usage = done.not_usage;
           })
           (record {
-            read_fault = λ e. absurd (done.not_read e);
+            read_fault = no_fault _ _ _ done.not_read;
             write_fault = done.write_fault;
             shelf_fault = done.shelf_fault;
             door_fault = λ e. of_doors (λ olds news. SomeRises (map g.D.Door.faults olds) (map g.D.Door.faults news)) _ _ _ _ old new (done.door_fault e);

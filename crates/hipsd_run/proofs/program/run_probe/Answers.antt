@@ -23,7 +23,7 @@ pub returns-in-Err-clause-run : goal.returns-in-Err-clause-run
 returns-in-Err-clause-run g c =
     let fault = c.in-Err.fault in
     let said = c.in-Err.ensures in
-    rw c.status.ensures
+    rw c.status.ensures.status
     (record {
       answers = λ input is. record {
         ended = ends_by fault _ (said.refused input is);
@@ -36,3 +36,9 @@ returns-in-Err-clause-run g c =
       untouched = λ _ other. said.untouched (λ is. other (ap status_of is));
       kept = λ _ other. said.kept (λ is. other (ap status_of is));
     })
+
+pub returns-in-Err-clause-read_fault : goal.returns-in-Err-clause-read_fault
+returns-in-Err-clause-read_fault g c = rw c.status.ensures.read c.in-Err.ensures.read
+
+pub returns-in-Err-clause-write_fault : goal.returns-in-Err-clause-write_fault
+returns-in-Err-clause-write_fault g c = rw c.status.ensures.write c.in-Err.ensures.write

@@ -1,5 +1,6 @@
-use Rattle.std.proofs.Common.{refl, [], Ok, Err}
+use Rattle.std.proofs.Common.{refl, [], Ok, Err, ap, ◌∙◌}
 use Rattle.std.specs.Arc.{arc_value}
+use Rattle.survey_commands.specs.Past.{past_status}
 use Rattle.survey_commands.proofs.PastLemmas.{consumes_none, says_flushed}
 use Rattle.survey_commands.proofs.past.run_past.Goals as goal
 
@@ -11,27 +12,30 @@ returns-in-Ok-clause-run g c = λ input e.
         opens = c.in-Ok.ensures.opened;
         steps_then = _;
         cost = c.in-Ok.ensures.steps;
-        answers = c.answer_source.ensures.answered input e;
+        answers = record { end = c.past_session-end.result; run = c.past_session-end.ensures.run input e; status_is = c.past_status.ensures.status };
       },
     )
 
 pub returns-in-Ok-clause-over : goal.returns-in-Ok-clause-over
 returns-in-Ok-clause-over g c =
     let opening = arc_value c.in-Ok.opening in
-    let over = c.answer_source.ensures.over in
+    let over = c.past_session-end.ensures.over in
     record {
-      came = over.1.came;
-      consumed = over.1.consumed;
+      came = over.came;
+      consumed = over.consumed;
       run = (
         Ok (record { conf = opening.conf; leaves = opening.leaves }),
         record {
           opens = c.in-Ok.ensures.opened;
           steps_then = _;
           cost = c.in-Ok.ensures.steps;
-          answers = record { end = over.0; run = over.1.run; status_is = over.2 };
+          answers = record { end = c.past_session-end.result; run = over.run; status_is = c.past_status.ensures.status };
         },
       );
     }
+
+pub returns-in-Ok-clause-flushed : goal.returns-in-Ok-clause-flushed
+returns-in-Ok-clause-flushed g c = λ other. c.past_session-end.ensures.flushed (λ is. other (c.past_status.ensures.status ∙ ap past_status is))
 
 pub returns-in-Err-clause-run : goal.returns-in-Err-clause-run
 returns-in-Err-clause-run g c = λ input e. (
