@@ -136,6 +136,7 @@ impl<R, N> TcpDoor<R, N> {
     fn want(&mut self, refusal: Refusal) -> DoorFault
         ensures fault { result ≡ DoorFault.OutOfMemory }
         ensures counted { self.new ≡ record self.old { memory_faults = next_count self.old.memory_faults; refusal = Some refusal } }
+        ensures never_falls { self.old.memory_faults ≤ self.new.memory_faults }
     {
         self.memory_faults = self.memory_faults.saturating_add(1);
         self.refusal = Some(refusal);
@@ -247,6 +248,7 @@ where
         ensures failed { IsErrOf result DoorFault.Failed → (self.new.faults ≡ next_count self.old.faults) × (self.new.memory_faults ≡ self.old.memory_faults) }
         ensures cause { IsErrOf result DoorFault.Failed → FailsAccept self.new.refusal }
         ensures wanted { IsErrOf result DoorFault.OutOfMemory → (self.new.memory_faults ≡ next_count self.old.memory_faults) × (self.new.faults ≡ self.old.faults) }
+        ensures want_never_falls { IsErrOf result DoorFault.OutOfMemory → self.old.memory_faults ≤ self.new.memory_faults }
         ensures want_cause { IsErrOf result DoorFault.OutOfMemory → RunsOutOfMemory self.new.refusal }
         ensures never_falls { self.old.faults ≤ self.new.faults }
     {
