@@ -1,0 +1,3 @@
+mod Requests
+mod Sessions
+mod Copies
