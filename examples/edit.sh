@@ -14,7 +14,7 @@
 #     examples/edit.sh rest FOLDER EDITS NEW [LATER]   a journal, in the new folder NEW, of the entries that a copy with EDITS edits lacks
 #
 # HIPSD is the server's address, http://127.0.0.1:8080 if it isn't set; curl takes a password from ~/.netrc. If hipsd listens at a Unix
-# socket, HIPSD_SOCKET is its path, and HIPSD isn't needed.
+# socket, HIPSD_SOCKET is its path, and HIPSD isn't asked.
 # With a folder in HIPSD_JOURNAL each edit, batch and publication is written there and is on the disk before it is sent, and is marked
 # once it is answered. So a server that ended can have its edits again, by `replay`, over the folder that it was started with. If the
 # server has fewer edits than after the journal's last one, it has started again: then nothing is sent. Once others have sent as many,
@@ -33,6 +33,7 @@ export LC_ALL=C
 base=${HIPSD:-http://127.0.0.1:8080}
 base=${base%/}
 socket=${HIPSD_SOCKET:-}
+[ -z "$socket" ] || base=http://hipsd
 journal=${HIPSD_JOURNAL:-}
 tries=${HIPSD_TRIES:-6}
 case $journal in '' | /*) ;; *) journal=./$journal ;; esac

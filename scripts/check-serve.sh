@@ -200,9 +200,9 @@ asks 201 --unix-socket "$folder/socket" -T "$folder/leaf" http://hipsd/Norder5/D
 grep -qF "can't listen at $folder/socket: Address already in use" "$folder/refused" || blame "a Unix socket where a server answers: $(cat "$folder/refused")"
 grep -q 'loaded ' "$folder/refused" && blame "the survey is loaded though another server answers"
 asks 404 --unix-socket "$folder/socket" http://hipsd/Norder5/Dir0/Npix7.fits
-published=$(HIPSD_SOCKET=$folder/socket "$scripts/../examples/edit.sh" publish)
+published=$(HIPSD=https://survey.your.org/edit HIPSD_SOCKET=$folder/socket "$scripts/../examples/edit.sh" publish)
 [ "${published##*[[:cntrl:]]}" = "published 1" ] || blame "edit.sh publish at a Unix socket: $published"
-mkdir "$folder/read" && (cd "$folder/read" && HIPSD_SOCKET=$folder/socket "$scripts/../examples/edit.sh" read properties Norder3/Dir0/Npix0.fits) >"$folder/body"
+mkdir "$folder/read" && (cd "$folder/read" && HIPSD=https://survey.your.org/edit HIPSD_SOCKET=$folder/socket "$scripts/../examples/edit.sh" read properties Norder3/Dir0/Npix0.fits) >"$folder/body"
 cmp -s "$folder/read/Norder3/Dir0/Npix0.fits" "$folder/tile" || blame "edit.sh read at a Unix socket: $(cat "$folder/body")"
 stop
 [ -S "$folder/socket" ] || blame "a server that is killed removes its socket: the next row tries nothing"
