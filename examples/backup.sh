@@ -13,7 +13,7 @@
 # Edits that aren't published aren't copied.
 #
 # --release-date sets hips_release_date to the time of the copy, or keeps that of the last copy if nothing else has changed. Mirrors of
-# others go by this date.
+# others go by this date. The last copy is the one that FOLDER shows, or the folder whose path from / is in HIPSD_LAST.
 #
 # The newest copies stay, and so does every copy in use: one that is the folder of a process, or that a link beside it, a link in
 # HIPSD_SERVERS or a unit of systemd names.
@@ -123,8 +123,9 @@ undated() {
 }
 if [ -n "$release" ]; then
     date=$(date -u +%Y-%m-%dT%H:%MZ)
-    if diff -rq -x properties -x survey.conf "$link/" . >/dev/null 2>&1 && [ "$(undated "$link")" = "$(undated .)" ]; then
-        date=$(sed -n 's/^hips_release_date = //p' "$link/properties")
+    last=${HIPSD_LAST:-$link}
+    if diff -rq -x properties -x survey.conf "$last/" . >/dev/null 2>&1 && [ "$(undated "$last")" = "$(undated .)" ]; then
+        date=$(sed -n 's/^hips_release_date = //p' "$last/properties")
     fi
     sed -i "s/^hips_release_date = .*/hips_release_date = $date/" properties
 fi

@@ -446,6 +446,11 @@ class Rollover(Case):
         self.assertEqual([path.name for path in self.folder.glob("process.*") if path.suffix == f".{self.old}"], [])
         self.assertEqual(self.asks(self.web, "GET", tile_path(5, 8))[0], 200)
 
+        # Nothing was edited since: the release date stays, whatever earlier copies have.
+        for one, other in (self.new, self.old), (self.old, self.new):
+            self.roll(0, "--release-date", f"127.0.0.1:{one}", f"127.0.0.1:{other}")
+            self.assertIn(b"hips_release_date = 2024-05", self.asks(self.web, "GET", "properties")[2])
+
         # To and fro, with backups beside it: the folder of the server that runs stays.
         for one, other in (self.new, self.old), (self.old, self.new):
             self.edit(self.web, one % 100 + 9)
