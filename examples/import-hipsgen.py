@@ -229,7 +229,7 @@ def run(hips, folder, replace):
     print(f"{len(leaves)} leaf tiles; next: cd {folder} && hipsd verify, export or serve")
     dropped = [key for key in found if is_dropped(key)]
     if dropped:
-        print("left out, since hipsd makes these files itself:", ", ".join(dropped))
+        print("keys left out, since they aren't true of what hipsd serves:", ", ".join(dropped))
 
 
 def main():

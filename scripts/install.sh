@@ -143,7 +143,7 @@ remove_all() {
     for path in "$root"/etc/nginx/conf.d/hipsd.conf "$root"/etc/nginx/conf.d/nginx-copy.conf "$root"/etc/nginx/hipsd.* "$root"/etc/nftables-hipsd* \
         "$root"/etc/hipsd "$root"/etc/ssl/private/hipsd.key "$root"/etc/ssl/certs/hipsd.pem "$root"/etc/systemd/system/hipsd* \
         "$root"/etc/systemd/system/*.wants/hipsd* "$root"/var/cache/nginx-hipsd "$root"/var/lib/hipsd "$root"/var/lib/hipsd-backup \
-        "$root"/srv/survey "$root"/srv/catalogue; do
+        "$root"/srv/survey "$root"/srv/catalogue "$root"/srv/restored.*; do
         { [ ! -e "$path" ] && [ ! -L "$path" ]; } || echo "    $path"
     done
     ! grep -qs nftables-hipsd "$root/etc/nftables.conf" ||
