@@ -11,11 +11,10 @@ use small_survey::first_state;
 use std::alloc::Global;
 use std::io::Print;
 use std::marker::Brand;
-use std::sync::{Arc, Wait};
+use std::sync::Wait;
 use std::test::Fail;
 use std::thread::Threads;
 use survey_core::State;
-use tile_pixels::Tile;
 
 /// Opens the small survey for so many boards, runs the test with them, and ends it.
 ///
@@ -29,22 +28,11 @@ pub fn with_boards<R: Threads + Wait + Print + Sync>(
     places: usize,
     tale: Tale,
 ) -> Result<(), Fail> {
-    let tile = tile(alloc)?;
-    start(rt, alloc, &tile, places, tale)
-}
-
-fn start<R: Threads + Wait + Print + Sync>(
-    rt: &R,
-    alloc: Global,
-    tile: &Arc<Tile>,
-    places: usize,
-    tale: Tale,
-) -> Result<(), Fail> {
     if places == 0 || places > 64 {
         return Err("no such places".into());
     }
     let state = first_state(rt, alloc, SURVEY)?;
-    open::<Brand, R>(rt, alloc, SurveyBook::new(), state, tile, places, tale)
+    open::<Brand, R>(rt, alloc, SurveyBook::new(), state, places, tale)
 }
 
 fn open<J: Naming + Send + Sync, R: Threads + Wait + Print + Sync>(
@@ -52,7 +40,6 @@ fn open<J: Naming + Send + Sync, R: Threads + Wait + Print + Sync>(
     alloc: Global,
     book: SurveyBook,
     state: State,
-    tile: &Arc<Tile>,
     places: usize,
     tale: Tale,
 ) -> Result<(), Fail>
@@ -64,9 +51,9 @@ fn open<J: Naming + Send + Sync, R: Threads + Wait + Print + Sync>(
     let (survey, seats): (Survey<J>, Vec<SurveySeat<J>>) = open_shared(
         rt, alloc, book, state, places,
     )?;
-    let told = tell_at(rt, alloc, &survey, seats, tile, tale);
+    let told = tell_at(rt, alloc, &survey, seats, tale);
     survey.close(rt);
-    Ok(told?)
+    told
 }
 
 fn tell_at<J: Naming + Send + Sync, R: Threads + Wait + Print + Sync>(
@@ -74,11 +61,11 @@ fn tell_at<J: Naming + Send + Sync, R: Threads + Wait + Print + Sync>(
     alloc: Global,
     survey: &Survey<J>,
     seats: Vec<SurveySeat<J>>,
-    tile: &Arc<Tile>,
     tale: Tale,
-) -> Result<(), &'static str> {
+) -> Result<(), Fail> {
+    let tile = tile(alloc)?;
     match tellers(alloc, survey, seats) {
-        Ok(mut tellers) => tell(rt, alloc, tile, &mut tellers, tale),
-        Err(_) => Err("no memory"),
+        Ok(mut tellers) => Ok(tell(rt, alloc, &tile, &mut tellers, tale)?),
+        Err(_) => Err("no memory".into()),
     }
 }

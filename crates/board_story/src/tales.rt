@@ -59,31 +59,32 @@ pub fn tell<'a, J: Naming + Send + Sync, R: Threads + Wait + Print + Sync>(
 // The edit that several connections ask for.
 const EDIT: Call = Call::Edit(Asked { kind: PUT, leaf: 7 });
 
-// What a board does in a thread of its own. Where the lock is open, the first one is held at the gate of its publication until
-// the edit of the other is answered.
-fn act<'a, J: Naming, R: Threads + Wait + Sync>(
+// A board edits and publishes.
+fn edit_and_publish<'a, J: Naming, R: Threads + Wait + Sync>(
     rt: &R,
     alloc: Global,
     gate: &TestGate,
     tile: &Arc<Tile>,
-    tale: Tale,
-    at: usize,
     teller: &mut Teller<'a, J>,
 ) {
-    match tale {
-        Tale::Storm => call_all(rt, alloc, gate, tile, at, teller),
-        Tale::OpenLock if at == 1 => {
-            gate.wait_for_entry();
-            let _told = teller.tell(rt, alloc, gate, tile, EDIT);
-            gate.open();
-        }
-        _ => {
-            let _told = teller.tell(rt, alloc, gate, tile, EDIT);
-            let _told = teller.tell(rt, alloc, gate, tile, Call::Publish);
-        }
-    }
+    let _told = teller.tell(rt, alloc, gate, tile, EDIT);
+    let _told = teller.tell(rt, alloc, gate, tile, Call::Publish);
 }
 
+// A board edits while another is held at the gate of its publication, and then opens the gate.
+fn edit_meanwhile<'a, J: Naming, R: Threads + Wait + Sync>(
+    rt: &R,
+    alloc: Global,
+    gate: &TestGate,
+    tile: &Arc<Tile>,
+    teller: &mut Teller<'a, J>,
+) {
+    gate.wait_for_entry();
+    let _told = teller.tell(rt, alloc, gate, tile, EDIT);
+    gate.open();
+}
+
+// What each board does in a thread of its own.
 fn in_threads<'a, J: Naming + Send + Sync, R: Threads + Wait + Sync>(
     rt: &R,
     alloc: Global,
@@ -97,7 +98,11 @@ fn in_threads<'a, J: Naming + Send + Sync, R: Threads + Wait + Sync>(
         rt,
         tellers,
         threads,
-        &|at, teller| { act(rt, alloc, gate, tile, tale, at, teller) },
+        &|at, teller| match tale {
+            Tale::Storm => call_all(rt, alloc, gate, tile, at, teller),
+            Tale::OpenLock if at == 1 => edit_meanwhile(rt, alloc, gate, tile, teller),
+            _ => edit_and_publish(rt, alloc, gate, tile, teller),
+        },
     );
 }
 

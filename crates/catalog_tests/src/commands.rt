@@ -56,15 +56,14 @@ pub(crate) fn run<R: AllocGlobal + Clock + Log>(
 }
 
 /// The run of an input over a shelf, whose source gives so many bytes at a time: whether it ends by that status and writes that
-/// line, or nothing where it is empty.
+/// line, or nothing where the line is empty.
 pub(crate) fn goes<R: AllocGlobal + Clock + Log>(
     rt: &R,
     words: &str,
     input: Vec<u8>,
     piece: usize,
     shelf: &mut MemShelf,
-    status: u8,
-    line: &str,
+    (status, line): (u8, &str),
 ) -> Result<bool, Fail> {
     let alloc = rt.alloc();
     let mut source = MemSource::new(input, piece.max(1), Vec::new(alloc));
@@ -115,7 +114,7 @@ fn puts_the_tiles_of_its_input(rt: HostRuntime) -> Result<(), Fail> {
         let mut shelf = MemShelf::new(alloc, Vec::new(alloc));
         let input = bytes_of(alloc, field(row, 1))?;
         assert!(&rt;
-            goes(&rt, field(row, 0), input, 7, &mut shelf, 0, field(row, 2))?,
+            goes(&rt, field(row, 0), input, 7, &mut shelf, (0, field(row, 2)))?,
             "{row}"
         );
         assert!(&rt; has_files(alloc, &mut shelf, row, 3)?, "{row}");

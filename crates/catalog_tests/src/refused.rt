@@ -67,7 +67,7 @@ fn refuses<R: AllocGlobal + Clock + Log>(
     let said = format!(in alloc; "row {line} {kind};")?;
     let mut shelf = MemShelf::new(alloc, Vec::new(alloc));
     shelf.put("Norder0/Dir0/Npix3.tsv", b"old")?;
-    let ended = goes(rt, "1 2", input, 100, &mut shelf, 16, said.as_str())?;
+    let ended = goes(rt, "1 2", input, 100, &mut shelf, (16, said.as_str()))?;
     Ok(ended && shelf.list(alloc)?.len() == 1)
 }
 
@@ -102,7 +102,7 @@ fn input_cut_within_a_line_ends_by_4(rt: HostRuntime) -> Result<(), Fail> {
         let mut shelf = MemShelf::new(alloc, Vec::new(alloc));
         shelf.put("Norder0/Dir0/Npix3.tsv", b"old")?;
         let is_whole = count == 0 || whole[count - 1] == b'\n';
-        let mut sound = is_whole || goes(&rt, "1 2", input, 3, &mut shelf, 4, "")?;
+        let mut sound = is_whole || goes(&rt, "1 2", input, 3, &mut shelf, (4, ""))?;
         sound = sound && shelf.list(alloc)?.len() == 1;
         assert!(&rt; sound, "cut after {count} bytes");
     }

@@ -49,8 +49,7 @@ fn makes_the_tiles_of_an_earlier_run_its_own(rt: HostRuntime) -> Result<(), Fail
             bytes_of(alloc, INPUT)?,
             100,
             &mut shelf,
-            0,
-            "rows 3 tiles 2;"
+            (0, "rows 3 tiles 2;")
         )?
     );
     assert!(&rt; has_files(alloc, &mut shelf, AFTER, 0)?);
@@ -61,8 +60,7 @@ fn makes_the_tiles_of_an_earlier_run_its_own(rt: HostRuntime) -> Result<(), Fail
             bytes_of(alloc, INPUT)?,
             100,
             &mut shelf,
-            0,
-            "rows 3 tiles 2;"
+            (0, "rows 3 tiles 2;")
         )?
     );
     assert!(&rt; has_files(alloc, &mut shelf, AFTER, 0)?);

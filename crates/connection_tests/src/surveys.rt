@@ -33,20 +33,18 @@ pub(crate) fn serve<B: ChangedWith<R>, R: Threads + Sync + Clock + Log>(
     served.end
 }
 
-// Whether a connection with that input over the board ends so, and what was written is the output.
+// How a connection with that input over the board ends, and what was written.
 fn answers<B: ChangedWith<R>, R: Threads + Sync + Clock + Log>(
     rt: &R,
     alloc: Global,
     board: &mut B,
     input: Vec<u8>,
-    output: &[u8],
-    wanted: SessionEnd,
     steps: &mut Steps,
-) -> Result<bool, Fail> {
+) -> Result<(SessionEnd, MemSink), Fail> {
     let mut sink = MemSink::new(alloc, 16_777_216, Vec::new(alloc))?;
     let mut source = MemSource::new(input, 65_536, Vec::new(alloc));
     let end = serve(rt, alloc, board, &mut source, &mut sink, steps);
-    Ok(end == wanted && sink.bytes() == output)
+    Ok((end, sink))
 }
 
 // Whether these requests have these replies, as one connection over the board that is closed at their end.
@@ -60,7 +58,8 @@ pub(crate) fn asks<B: ChangedWith<R>, R: Threads + Sync + Clock + Log>(
 ) -> Result<bool, Fail> {
     let output = replies(alloc, answered)?;
     let input = requests(alloc, asked)?;
-    answers(rt, alloc, board, input, &output, SessionEnd::Closed, steps)
+    let (end, sink) = answers(rt, alloc, board, input, steps)?;
+    Ok(end == SessionEnd::Closed && sink.bytes() == output.as_slice())
 }
 
 // Whether a connection with that input over the survey with that description ends so, and what was written is the output.
@@ -74,5 +73,6 @@ pub(crate) fn goes<R: Threads + Sync + Clock + Log>(
 ) -> Result<bool, Fail> {
     let mut board = opened(rt, alloc, conf)?;
     let mut steps = Steps::new();
-    answers(rt, alloc, &mut board, input, output, wanted, &mut steps)
+    let (end, sink) = answers(rt, alloc, &mut board, input, &mut steps)?;
+    Ok(end == wanted && sink.bytes() == output)
 }

@@ -82,26 +82,39 @@ fn is_begun(bytes: &[u8], output: &[u8], end: PastEnd) -> bool {
 // The number of a call that there isn't.
 const NO_CALL: u64 = u64::MAX;
 
-// Whether a session that holds two states, with the input in pieces of some size, ends so with this output, where the read
-// and the write or flush with these numbers fail.
+// What a session is given: its input, in pieces of some size, and the numbers of the read and of the write or flush that fail.
+#[derive(Clone, Copy)]
+struct Given<'a> {
+    input: &'a [u8],
+    piece: usize,
+    read: u64,
+    write: u64,
+}
+
+// What a session comes to: its output, all of it unless a write fails, and its end.
+#[derive(Clone, Copy)]
+struct Outcome<'a> {
+    output: &'a [u8],
+    end: PastEnd,
+}
+
+// Whether a session that holds two states comes to that.
 fn ends<R: Threads + Sync + Clock + Log>(
     rt: &R,
     alloc: Global,
     opening: &Arc<Generation>,
-    input: &[u8],
-    piece: usize,
-    read: u64,
-    write: u64,
-    wanted: PastEnd,
-    output: &[u8],
+    given: Given<'_>,
+    wanted: Outcome<'_>,
 ) -> Result<bool, Fail>
-    requires piece { 0 < piece }
+    requires piece { 0 < given.piece }
     requires first { (arc_value opening.now).prefix ≡ 0 }
     requires charge { charge_of (arc_value opening.now).leaves [] ≤ most_charge }
 {
-    let input = Vec::from_slice(alloc, input)?;
-    let mut source = MemSource::new(input, piece, Vec::from_slice(alloc, &[read])?);
-    let mut sink = MemSink::new(alloc, 1_048_576, Vec::from_slice(alloc, &[write])?)?;
+    let input = Vec::from_slice(alloc, given.input)?;
+    let failing = Vec::from_slice(alloc, &[given.read])?;
+    let mut source = MemSource::new(input, given.piece, failing);
+    let failing = Vec::from_slice(alloc, &[given.write])?;
+    let mut sink = MemSink::new(alloc, 1_048_576, failing)?;
     let opening = opening.clone()?;
     let gate = OpenGate::new();
     let mut steps = Steps::new();
@@ -115,7 +128,7 @@ fn ends<R: Threads + Sync + Clock + Log>(
         &gate,
         &mut steps,
     );
-    Ok(end == wanted && is_begun(sink.bytes(), output, end))
+    Ok(end == wanted.end && is_begun(sink.bytes(), wanted.output, end))
 }
 
 // Whether the session of a row does what it says, with the input in pieces of some size.
@@ -131,9 +144,14 @@ fn answers<R: Threads + Sync + Clock + Log>(
     let output = bytes_of(alloc, row.split('|').nth(1).unwrap_or(""))?;
     let end = end_of(row.split('|').nth(2).unwrap_or(""))?;
     let opening = opening(rt, alloc)?;
-    ends(
-        rt, alloc, &opening, &input, piece, NO_CALL, NO_CALL, end, &output,
-    )
+    let given = Given {
+        input: &input,
+        piece,
+        read: NO_CALL,
+        write: NO_CALL,
+    };
+    let output = &output;
+    ends(rt, alloc, &opening, given, Outcome { output, end })
 }
 
 #[test]
@@ -156,35 +174,39 @@ file 5760;%whole 3 0 -32768 -32768 3 -32768%
 edits 2;
 file 380;%properties%0;";
 
-// Whether the output is all that is written where only the first bytes of the input come, and where all come but the read
-// behind these fails. `begun` bytes are whole records.
+// Whether a session comes to that where only the first bytes of the input come; and writes the same where all come but the read
+// behind these fails.
 fn is_cut<R: Threads + Sync + Clock + Log>(
     rt: &R,
     alloc: Global,
     opening: &Arc<Generation>,
     input: &[u8],
     at: usize,
-    begun: usize,
-    output: &[u8],
+    wanted: Outcome<'_>,
 ) -> Result<bool, Fail>
     requires first { (arc_value opening.now).prefix ≡ 0 }
     requires charge { charge_of (arc_value opening.now).leaves [] ≤ most_charge }
 {
-    let end = if at == begun {
-        PastEnd::Done
-    } else {
-        PastEnd::Cut
+    let first = Given {
+        input: input.get(..at).unwrap_or(input),
+        piece: 65_536,
+        read: NO_CALL,
+        write: NO_CALL,
     };
-    let first = input.get(..at).unwrap_or(input);
-    if !ends(
-        rt, alloc, opening, first, 65_536, NO_CALL, NO_CALL, end, output,
-    )? {
+    if !ends(rt, alloc, opening, first, wanted)? {
         return Ok(false);
     }
-    let end = PastEnd::ReadFault;
-    ends(
-        rt, alloc, opening, input, 1, at as u64, NO_CALL, end, output,
-    )
+    let all = Given {
+        input,
+        piece: 1,
+        read: at as u64,
+        write: NO_CALL,
+    };
+    let failed = Outcome {
+        output: wanted.output,
+        end: PastEnd::ReadFault,
+    };
+    ends(rt, alloc, opening, all, failed)
 }
 
 // Each cut within the last record, which begins there.
@@ -200,8 +222,14 @@ fn all_are_cut<R: Threads + Sync + Clock + Log + Abort>(
     requires charge { charge_of (arc_value opening.now).leaves [] ≤ most_charge }
 {
     for at in begun..input.len() {
+        let end = if at == begun {
+            PastEnd::Done
+        } else {
+            PastEnd::Cut
+        };
+        let wanted = Outcome { output, end };
         assert!(rt;
-            is_cut(rt, alloc, opening, input, at, begun, output)?,
+            is_cut(rt, alloc, opening, input, at, wanted)?,
             "cut at {at}"
         );
     }
@@ -226,12 +254,14 @@ fn all_fail<R: Threads + Sync + Clock + Log + Abort>(
         } else {
             PastEnd::WriteFault
         };
-        assert!(rt;
-            ends(
-                rt, alloc, opening, input, 65_536, NO_CALL, write, end, output
-            )?,
-            "write {write}"
-        );
+        let given = Given {
+            input,
+            piece: 65_536,
+            read: NO_CALL,
+            write,
+        };
+        let wanted = Outcome { output, end };
+        assert!(rt; ends(rt, alloc, opening, given, wanted)?, "write {write}");
     }
     Ok(())
 }

@@ -308,16 +308,15 @@ fn is_patched<R: Threads + Sync>(
     alloc: Global,
     depth: Depth,
     tiles: &mut Store<Tile>,
-    cell: u64,
-    four: Option<[i16; 4]>,
-    numbers: &[(usize, i16)],
+    row: &Change,
 ) -> Result<bool, Fail>
-    requires cell { cell < 768 }
     requires tiles { AreOfOrder3 depth 1 tiles.old }
     ensures { IfOk result (λ _. AreOfOrder3 depth 1 tiles.new) }
 {
+    let (cell, four, numbers) = row;
+    let cell = cell % 768;
     let old = mosaic(rt, alloc, depth, 1, tiles)?;
-    change(alloc, depth, tiles, cell, four)?;
+    change(alloc, depth, tiles, cell, *four)?;
     match patch(alloc, depth, 1, &old, &[cell], tiles)? {
         Some(raw) => Ok(has_numbers(&raw, numbers)),
         None => Ok(numbers.is_empty()),
@@ -333,9 +332,9 @@ fn check_changes<R: Threads + Sync + Abort>(
 ) -> Result<(), Fail>
     requires { AreOfOrder3 depth 1 tiles.old }
 {
-    for (cell, four, numbers) in &CHANGES {
-        let patched = is_patched(rt, alloc, depth, tiles, cell % 768, *four, numbers)?;
-        assert!(rt; patched, "cell {cell} as {four:?}");
+    for change in &CHANGES {
+        let patched = is_patched(rt, alloc, depth, tiles, change)?;
+        assert!(rt; patched, "cell {} as {:?}", change.0, change.1);
     }
     Ok(())
 }
@@ -351,7 +350,9 @@ fn patches_what_changed(rt: HostRuntime) -> Result<(), Fail> {
 }
 
 // A cell, its new tile or none, and where numbers are then.
-static CHANGES: [(u64, Option<[i16; 4]>, &[(usize, i16)]); 4] = [
+type Change = (u64, Option<[i16; 4]>, &'static [(usize, i16)]);
+
+static CHANGES: [Change; 4] = [
     (
         26,
         Some([5, 6, 7, 8]),
