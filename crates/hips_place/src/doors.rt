@@ -126,12 +126,16 @@ where
     match boards_at(means.alloc, survey, seats) {
         Ok(mut boards) => {
             let boards = boards.as_mut_slice();
+            // By a reference to the runtime, since each connection's has a copy of it.
+            let by_reference = Means {
+                rt: &means.rt,
+                alloc: means.alloc,
+                gate: means.gate,
+            };
             let end = serve_places::<&R, InConnection<&R>, Shared<'a, J>, D, G>(
-                &means.rt,
-                means.alloc,
+                &by_reference,
                 1,
                 most,
-                means.gate,
                 boards,
                 doors,
             );

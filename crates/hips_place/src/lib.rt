@@ -1,7 +1,7 @@
 //! Places of the server.
 //!
 //! A place serves the connections of one door, one after another, over one board (`serve_place`). The places of a server run at
-//! once (`serve_places`).
+//! once (`serve_doors`).
 #![tactic(auto)]
 
 mod doors;
@@ -10,5 +10,4 @@ mod place;
 mod places;
 
 pub use doors::{ServeRefusal, serve_doors};
-pub use place::{InConnection, NamesConnections, PlaceEnd, serve_place};
-pub use places::serve_places;
+pub use place::{InConnection, Means, NamesConnections, PlaceEnd, serve_place};

@@ -71,12 +71,15 @@ impl PlaceEnd {
     }
 }
 
-/// What connections are served with: threads, the clock and the log, memory, and the gate that publications pass.
+/// What a server works with.
 #[derive(Drop)]
-pub(crate) struct Means<'r, 'g, R, G> {
-    pub(crate) rt: &'r R,
-    pub(crate) alloc: Global,
-    pub(crate) gate: &'g G,
+pub struct Means<'r, 'g, R, G> {
+    /// Threads, the clock and the log.
+    pub rt: &'r R,
+    /// Memory.
+    pub alloc: Global,
+    /// The gate that publications pass.
+    pub gate: &'g G,
 }
 
 /// Takes up to `most` connections from the door, one after another, serves each from the states that the board sees, and
