@@ -19,7 +19,7 @@ few_doors words (Make n m) asks = omega arith
 few_doors words (Past n) asks = omega arith
 few_doors words (Catalog k n) asks = omega arith
 few_doors words Mirror asks = omega arith
-few_doors words (Serve n m) asks = let range : IsServe n m = asks.in_range in omega arith
+few_doors words (Serve asked) asks = let range : IsServe asked.connections asked.places = asks.in_range in omega arith
 
 -- the status 1 is that of words that ask for nothing
 pub usage_only : {S H D : Type 0} (words : List (List ℕ)) (old new : Ends S H D) (status : ℕ)

@@ -49,7 +49,7 @@ where
     R::Reader: Drop,
 {
     match command_for(words, DOORS) {
-        Some(Command::Serve { .. }) => {
+        Some(Command::Serve(_)) => {
             say_version(rt);
             if can_listen(rt, net, second_word(words)) {
                 run_words(rt, net, words)

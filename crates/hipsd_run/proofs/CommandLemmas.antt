@@ -13,6 +13,7 @@ use Rattle.leaf_probe.specs.Probe.{IsProbe}
 use Rattle.leaf_probe.specs.declared.asked.Probe.{Probe}
 use Rattle.survey_commands.specs.Make.{IsMake}
 use Rattle.survey_commands.specs.Serve.{IsServe}
+use Rattle.survey_commands.specs.declared.serve.AskedPlaces.{AskedPlaces}
 use Rattle.survey_commands.specs.Past.{IsPast}
 use Rattle.hipsd_run.specs.declared.command.Command.{Command}
 use Rattle.hipsd_run.specs.declared.command.Command.TheVariants.{Probe as ProbeCommand, Session, Export, Verify, Make, Serve, Past, Catalog, Mirror}
@@ -84,7 +85,7 @@ no_command top n order npix none (Session, asks) = let e = asks.spelled in cc
 no_command top n order npix none (Export, asks) = let e = asks.spelled in cc
 no_command top n order npix none (Verify, asks) = let e = asks.spelled in cc
 no_command top n order npix none (Make number edits, asks) = let e = asks.spelled in cc
-no_command top n order npix none (Serve connections places, asks) = let e = asks.spelled in cc
+no_command top n order npix none (Serve asked, asks) = let e = asks.spelled in cc
 no_command top n order npix none (Past cache, asks) = let e = asks.spelled in cc
 no_command top n order npix none (Catalog top' per_tile, asks) = let e = asks.spelled in cc
 no_command top n order npix none (Mirror, asks) = let e = asks.spelled in cc
@@ -98,7 +99,7 @@ no_make number edits none (Session, asks) = let e = asks.spelled in cc
 no_make number edits none (Export, asks) = let e = asks.spelled in cc
 no_make number edits none (Verify, asks) = let e = asks.spelled in cc
 no_make number edits none (Make n m, asks) = none n m asks
-no_make number edits none (Serve connections places, asks) = let e = asks.spelled in cc
+no_make number edits none (Serve asked, asks) = let e = asks.spelled in cc
 no_make number edits none (Past cache, asks) = let e = asks.spelled in cc
 no_make number edits none (Catalog top' per_tile, asks) = let e = asks.spelled in cc
 no_make number edits none (Mirror, asks) = let e = asks.spelled in cc
@@ -111,20 +112,20 @@ no_make_command (Some command) number edits none = tt
 
 -- words that begin with `serve` and ask for no doors ask for nothing
 no_serve : (address connections places : List ℕ)
-    → ((n m : ℕ) → ¬ Asks (codes "serve" ∷ address ∷ connections ∷ places ∷ []) (Serve n m))
+    → ((asked : AskedPlaces) → ¬ Asks (codes "serve" ∷ address ∷ connections ∷ places ∷ []) (Serve asked))
     → ¬ IsCommand (codes "serve" ∷ address ∷ connections ∷ places ∷ [])
 no_serve address connections places none (ProbeCommand asked, asks) = let e = asks.spelled in cc
 no_serve address connections places none (Session, asks) = let e = asks.spelled in cc
 no_serve address connections places none (Export, asks) = let e = asks.spelled in cc
 no_serve address connections places none (Verify, asks) = let e = asks.spelled in cc
 no_serve address connections places none (Make number edits, asks) = let e = asks.spelled in cc
-no_serve address connections places none (Serve n m, asks) = none n m asks
+no_serve address connections places none (Serve asked, asks) = none asked asks
 no_serve address connections places none (Past cache, asks) = let e = asks.spelled in cc
 no_serve address connections places none (Catalog top' per_tile, asks) = let e = asks.spelled in cc
 no_serve address connections places none (Mirror, asks) = let e = asks.spelled in cc
 
 no_serve_command : (found : Option Command) (address connections places : List ℕ)
-    → IfNone found ((n m : ℕ) → ¬ Asks (codes "serve" ∷ address ∷ connections ∷ places ∷ []) (Serve n m))
+    → IfNone found ((asked : AskedPlaces) → ¬ Asks (codes "serve" ∷ address ∷ connections ∷ places ∷ []) (Serve asked))
     → IfNone found (¬ IsCommand (codes "serve" ∷ address ∷ connections ∷ places ∷ []))
 no_serve_command None address connections places none = no_serve address connections places none
 no_serve_command (Some command) address connections places none = tt
@@ -136,7 +137,7 @@ no_past cache none (Session, asks) = let e = asks.spelled in cc
 no_past cache none (Export, asks) = let e = asks.spelled in cc
 no_past cache none (Verify, asks) = let e = asks.spelled in cc
 no_past cache none (Make number edits, asks) = let e = asks.spelled in cc
-no_past cache none (Serve connections places, asks) = let e = asks.spelled in cc
+no_past cache none (Serve asked, asks) = let e = asks.spelled in cc
 no_past cache none (Past n, asks) = none n asks
 no_past cache none (Catalog top per_tile, asks) = let e = asks.spelled in cc
 no_past cache none (Mirror, asks) = let e = asks.spelled in cc
@@ -154,7 +155,7 @@ no_catalog top per_tile none (Session, asks) = let e = asks.spelled in cc
 no_catalog top per_tile none (Export, asks) = let e = asks.spelled in cc
 no_catalog top per_tile none (Verify, asks) = let e = asks.spelled in cc
 no_catalog top per_tile none (Make number edits, asks) = let e = asks.spelled in cc
-no_catalog top per_tile none (Serve connections places, asks) = let e = asks.spelled in cc
+no_catalog top per_tile none (Serve asked, asks) = let e = asks.spelled in cc
 no_catalog top per_tile none (Past cache, asks) = let e = asks.spelled in cc
 no_catalog top per_tile none (Catalog k n, asks) = none k n asks
 no_catalog top per_tile none (Mirror, asks) = let e = asks.spelled in cc
@@ -192,14 +193,16 @@ same_make words n m n' m' asks asks' =
     (decimal_injective n n' (omega arith) (omega arith) number, decimal_injective m m' (omega arith) (omega arith) edits)
 
 -- words ask for one number of connections and of doors only
-pub same_serve : (words : List (List ℕ)) (n m n' m' : ℕ) → Asks words (Serve n m) → Asks words (Serve n' m') → (n ≡ n') × (m ≡ m')
-same_serve words n m n' m' asks asks' =
-    let e : words_of asks.address (Serve n m) ≡ words_of asks'.address (Serve n' m') = sym asks.spelled ∙ asks'.spelled in
-    let connections : decimal n ≡ decimal n' = cc in
-    let places : decimal m ≡ decimal m' = cc in
-    let range : IsServe n m = asks.in_range in
-    let range' : IsServe n' m' = asks'.in_range in
-    (decimal_injective n n' (omega arith) (omega arith) connections, decimal_injective m m' (omega arith) (omega arith) places)
+pub same_serve : (words : List (List ℕ)) (a b : AskedPlaces) → Asks words (Serve a) → Asks words (Serve b) → a ≡ b
+same_serve words a b asks_a asks_b =
+    let e : words_of asks_a.address (Serve a) ≡ words_of asks_b.address (Serve b) = sym asks_a.spelled ∙ asks_b.spelled in
+    let connections : decimal a.connections ≡ decimal b.connections = cc in
+    let places : decimal a.places ≡ decimal b.places = cc in
+    let range_a : IsServe a.connections a.places = asks_a.in_range in
+    let range_b : IsServe b.connections b.places = asks_b.in_range in
+    let same_connections : a.connections ≡ b.connections = decimal_injective a.connections b.connections (omega arith) (omega arith) connections in
+    let same_places : a.places ≡ b.places = decimal_injective a.places b.places (omega arith) (omega arith) places in
+    λ i. record { connections = same_connections i; places = same_places i }
 
 -- words ask for one cache only
 pub same_past : (words : List (List ℕ)) (n n' : ℕ) → Asks words (Past n) → Asks words (Past n') → n ≡ n'
@@ -231,7 +234,7 @@ sign_for Session = 115
 sign_for Export = 101
 sign_for Verify = 118
 sign_for (Make number edits) = 2109
-sign_for (Serve connections places) = 3115
+sign_for (Serve asked) = 3115
 sign_for (Past cache) = 1112
 sign_for (Catalog top per_tile) = 2099
 sign_for Mirror = 1109
@@ -242,7 +245,7 @@ sign-words_of address Session = refl
 sign-words_of address Export = refl
 sign-words_of address Verify = refl
 sign-words_of address (Make number edits) = refl
-sign-words_of address (Serve connections places) = refl
+sign-words_of address (Serve asked) = refl
 sign-words_of address (Past cache) = refl
 sign-words_of address (Catalog top per_tile) = refl
 sign-words_of address Mirror = refl
@@ -261,9 +264,7 @@ same_command words Verify Verify asks_a asks_b = refl
 same_command words (Make n m) (Make n' m') asks_a asks_b =
     let same = same_make words n m n' m' asks_a asks_b in
     λ i. Make (same.0 i) (same.1 i)
-same_command words (Serve n m) (Serve n' m') asks_a asks_b =
-    let same = same_serve words n m n' m' asks_a asks_b in
-    λ i. Serve (same.0 i) (same.1 i)
+same_command words (Serve a) (Serve b) asks_a asks_b = ap (λ p. Serve p) (same_serve words a b asks_a asks_b)
 same_command words (Past n) (Past n') asks_a asks_b = ap (λ p. Past p) (same_past words n n' asks_a asks_b)
 same_command words (Catalog k n) (Catalog k' n') asks_a asks_b =
     let same = same_catalog words k n k' n' asks_a asks_b in
@@ -289,8 +290,8 @@ serve_command None address connections places asks = tt
 serve_command (Some command) address connections places asks = asks address
 
 none_at : (found : Option Command) (address connections places : List ℕ)
-    → IfNone found ((any : List ℕ) (n m : ℕ) → ¬ Asks (codes "serve" ∷ any ∷ connections ∷ places ∷ []) (Serve n m))
-    → IfNone found ((n m : ℕ) → ¬ Asks (codes "serve" ∷ address ∷ connections ∷ places ∷ []) (Serve n m))
+    → IfNone found ((any : List ℕ) (asked : AskedPlaces) → ¬ Asks (codes "serve" ∷ any ∷ connections ∷ places ∷ []) (Serve asked))
+    → IfNone found ((asked : AskedPlaces) → ¬ Asks (codes "serve" ∷ address ∷ connections ∷ places ∷ []) (Serve asked))
 none_at None address connections places none = none address
 none_at (Some command) address connections places none = tt
 
@@ -303,6 +304,6 @@ serve_words words name address connections places found third fourth is named is
 
 pub no_serve_words : (words : List (String Global)) (name address connections places : String Global) (found : Option Command) (third fourth : List ℕ)
     → words ≡ name ∷ address ∷ connections ∷ places ∷ [] → string_bytes name ≡ codes "serve" → third ≡ string_bytes connections → fourth ≡ string_bytes places
-    → IfNone found ((any : List ℕ) (n m : ℕ) → ¬ Asks (codes "serve" ∷ any ∷ third ∷ fourth ∷ []) (Serve n m)) → IfNone found (¬ IsCommand (texts words))
+    → IfNone found ((any : List ℕ) (asked : AskedPlaces) → ¬ Asks (codes "serve" ∷ any ∷ third ∷ fourth ∷ []) (Serve asked)) → IfNone found (¬ IsCommand (texts words))
 no_serve_words words name address connections places found third fourth is named is_third is_fourth none =
     rw (is, named, ← is_third, ← is_fourth) (no_serve_command found (string_bytes address) third fourth (none_at found (string_bytes address) third fourth none))

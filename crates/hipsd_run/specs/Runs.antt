@@ -85,8 +85,8 @@ Does Session old new status = IfSome old.connection.unread (λ input. RunsSessio
 Does Export old new status = RunsExport old.files new.files status (sink_of old.connection) (sink_of new.connection)
 Does Verify old new status = RunsVerify old.files status (sink_of old.connection) (sink_of new.connection)
 Does (Make number edits) old new status = RunsMake number edits status (sink_of old.connection) (sink_of new.connection)
-Does (Serve connections places) old new status =
-    RunsServe old.files connections (first_doors places old) (first_doors places new) status (sink_of old.connection) (sink_of new.connection)
+Does (Serve asked) old new status =
+    RunsServe old.files asked.connections (first_doors asked.places old) (first_doors asked.places new) status (sink_of old.connection) (sink_of new.connection)
 Does (Past cache) old new status = DoesPast old new status
 Does (Catalog top per_tile) old new status = DoesCatalog top per_tile old new status
 Does Mirror old new status = RunsMirror (copying_of old.connection new.connection old.files new.files old.steps new.steps) status

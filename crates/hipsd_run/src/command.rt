@@ -2,10 +2,12 @@
 ghost use Rattle.std.specs.Prelude.{◌≡◌, ◌≢◌, ℕ, ◌≤◌, List, [], ◌∷◌, IfSome, IfNone, MatchOption, codes, decimal};
 ghost use Rattle.hipsd_run.specs.Command.{texts, Asks, IsCommand, IsCommandFor, doors_of};
 ghost use Rattle.leaf_probe.specs.declared.asked.Probe.{Probe as AskedProbe};
+ghost use Rattle.survey_commands.specs.declared.serve.AskedPlaces.{AskedPlaces as Places};
 ghost use Rattle.hipsd_run.specs.declared.command.Command.TheVariants.{Probe as ProbeCommand, Make, Serve, Past, Catalog};
 
 use decimal_scale::plain_decimal;
 use leaf_probe::Probe;
+use survey_commands::AskedPlaces;
 
 /// What the words of a command line ask for.
 #[derive(Clone, Copy, Debug, PartialEq, Eq)]
@@ -26,12 +28,7 @@ pub enum Command {
         edits: u32,
     },
     /// Connections are served at many doors at once.
-    Serve {
-        /// How many connections of each door.
-        connections: u32,
-        /// How many doors.
-        places: usize,
-    },
+    Serve(AskedPlaces),
     /// Files of past states are read.
     Past {
         /// How many generations may be held.
@@ -54,7 +51,7 @@ impl Command {
         ensures { result ≡ doors_of self }
     {
         match self {
-            Command::Serve { places, .. } => places,
+            Command::Serve(asked) => asked.places,
             _ => 0,
         }
     }
@@ -169,18 +166,18 @@ fn read_make(number: &str, edits: &str) -> Option<Command>
 // What the words after `serve` and its address ask for.
 fn read_serve(connections: &str, places: &str) -> Option<Command>
     ensures asked { IfSome result (λ command. (address : List ℕ) → Asks (codes "serve" ∷ address ∷ connections.now ∷ places.now ∷ []) command) }
-    ensures none { IfNone result ((address : List ℕ) (n : ℕ) (m : ℕ)
-        → ¬ Asks (codes "serve" ∷ address ∷ connections.now ∷ places.now ∷ []) (Serve n m)) }
+    ensures none { IfNone result ((address : List ℕ) (asked : Places)
+        → ¬ Asks (codes "serve" ∷ address ∷ connections.now ∷ places.now ∷ []) (Serve asked)) }
 {
     let connections = plain_decimal(connections.as_bytes())?;
     let places = small_number(places, 1, 64)?;
     if 1 <= connections && connections <= 65_536 {
         let connections = connections as u32;
         let places = usize::from(places);
-        Some(Command::Serve {
+        Some(Command::Serve(AskedPlaces {
             connections,
             places,
-        })
+        }))
     } else {
         None
     }

@@ -13,6 +13,7 @@ ghost use Rattle.hipsd_run.specs.Runs.{RunsWords, PrintsUsage, ends_of};
 use crate::command::{Command, command_for};
 use crate::help::say_commands;
 use catalog_command::run_catalog;
+use hips_place::Means;
 use leaf_probe::{Probe, probe, write_out};
 use log::Log;
 use parent_rule::Steps;
@@ -73,6 +74,11 @@ where
         (ends_of S.Source K.Sink H.Shelf (door_of D.Door) source.new sink.new shelf.new doors.new steps.new)
         result }
 {
+    let means = Means {
+        rt,
+        alloc: rt.alloc(),
+        gate,
+    };
     match command_for(words, doors.len()) {
         None => {
             say_commands(rt, words);
@@ -84,11 +90,8 @@ where
             Command::Export => run_export(rt, sink, shelf, gate, steps),
             Command::Verify => run_verify(rt, sink, shelf, gate, steps),
             Command::Make { number, edits } => run_make(rt, number, edits, sink, gate, steps),
-            Command::Serve {
-                connections,
-                places,
-            } => run_serve(rt, connections, places, sink, shelf, gate, steps, doors),
-            Command::Past { cache } => run_past(rt, cache, source, sink, shelf, gate, steps),
+            Command::Serve(asked) => run_serve(&means, asked, sink, shelf, steps, doors),
+            Command::Past { cache } => run_past(&means, cache, source, sink, shelf, steps),
             Command::Catalog { top, per_tile } => {
                 run_catalog(rt, top, per_tile, source, sink, shelf)
             }

@@ -21,6 +21,6 @@ pub use export::run_export;
 pub use make::run_make;
 pub use mirror::run_mirror;
 pub use past::run_past;
-pub use serve::run_serve;
+pub use serve::{AskedPlaces, run_serve};
 pub use session::run_session;
 pub use verify::run_verify;

@@ -13,6 +13,7 @@ ghost use Rattle.survey_commands.specs.Past.{IsPast, RunsPast, RunsPastOver, Flu
 
 use crate::refusing::say_why;
 use generation::Generation;
+use hips_place::Means;
 use log::{Log, error};
 use parent_rule::Steps;
 use past_session::{PastEnd, past_session};
@@ -36,16 +37,15 @@ use survey_link::{Gate, Shelf, Sink, Source};
 /// | 12 | the input goes on after 65,536 records |
 /// | 17 | a record has no line of its form |
 pub fn run_past<R, S, K, H, G>(
-    rt: &R,
+    means: &Means<'_, '_, R, G>,
     cache: usize,
     source: &mut S,
     sink: &mut K,
     shelf: &mut H,
-    gate: &G,
     steps: &mut Steps,
 ) -> u8
 where
-    R: AllocGlobal + Threads + Sync + Clock + Log,
+    R: Threads + Sync + Clock + Log,
     S: Source,
     K: Sink,
     H: Shelf,
@@ -68,25 +68,25 @@ where
     ensures shelf_fault { CountsFault (nat_eq result 7) (H.faults shelf.old) (H.faults shelf.new) }
     ensures steps_never_fall { steps.old ≤ steps.new }
 {
-    match open_survey(rt, shelf, gate, steps) {
+    let Means { rt, alloc, gate } = *means;
+    match open_survey(means, shelf, steps) {
         Ok(opening) => {
-            let end = past_session(rt, rt.alloc(), opening, cache, source, sink, gate, steps);
+            let end = past_session(rt, alloc, opening, cache, source, sink, gate, steps);
             say_end(rt, end);
             past_status(end)
         }
-        Err(refusal) => say_why(rt.alloc(), sink, &refusal),
+        Err(refusal) => say_why(alloc, sink, &refusal),
     }
 }
 
 // The first generation of the survey that the shelf describes.
 fn open_survey<R, H, G>(
-    rt: &R,
+    means: &Means<'_, '_, R, G>,
     shelf: &mut H,
-    gate: &G,
     steps: &mut Steps,
 ) -> Result<Arc<Generation>, LoadRefusal>
 where
-    R: AllocGlobal + Threads + Sync + Clock + Log,
+    R: Threads + Sync + Clock + Log,
     H: Shelf,
     G: Gate + Sync,
     ensures opened { IfOk result (λ made. OpensAs (H.files shelf.old) (record { conf = (arc_value made).conf; leaves = (arc_value made).leaves })) }
@@ -99,8 +99,9 @@ where
     ensures steps_told { IfSome (H.files shelf.old) (λ files. steps.new ≤ steps.old + opening_steps files) }
     ensures steps_never_fall { steps.old ≤ steps.new }
 {
-    let generation = load(rt, rt.alloc(), shelf, gate, steps)?;
-    Ok(shared(rt.alloc(), generation)?)
+    let Means { rt, alloc, gate } = *means;
+    let generation = load(rt, alloc, shelf, gate, steps)?;
+    Ok(shared(alloc, generation)?)
 }
 
 // The generation, so that several own it.

@@ -10,7 +10,7 @@ use crate::refusing::say_why;
 use crate::session::open_state;
 use generation::Generation;
 use hips_http::say_room;
-use hips_place::{PlaceEnd, ServeRefusal, serve_doors};
+use hips_place::{Means, PlaceEnd, ServeRefusal, serve_doors};
 use log::{Log, error, info, warn};
 use parent_rule::Steps;
 use std::sync::Wait;
@@ -19,8 +19,17 @@ use std::time::{Clock, Instant};
 use survey_core::State;
 use survey_link::{Door, Gate, Shelf, Sink};
 
-/// Opens the shelf, serves the first of the doors, so many as there are places, at once over its survey, up to `connections`
-/// connections of each, and answers the status.
+/// What `serve` is asked for: so many places, with up to so many connections at each.
+#[derive(Clone, Copy, Debug, PartialEq, Eq)]
+pub struct AskedPlaces {
+    /// How many connections of each door.
+    pub connections: u32,
+    /// How many doors.
+    pub places: usize,
+}
+
+/// Opens the shelf, serves the first of the doors, so many as there are places, at once over its survey, up to
+/// `asked.connections` connections of each, and answers the status.
 ///
 /// | Status | Where |
 /// |---|---|
@@ -30,12 +39,10 @@ use survey_link::{Door, Gate, Shelf, Sink};
 /// | 8 | a door's count of faults rose; the other places went on to their ends |
 /// | 11 | there was no memory, and no door's count of faults rose: to open the survey, or at a place; or for the places' boards to meet |
 pub fn run_serve<R, K, H, D, G>(
-    rt: &R,
-    connections: u32,
-    places: usize,
+    means: &Means<'_, '_, R, G>,
+    asked: AskedPlaces,
     sink: &mut K,
     shelf: &mut H,
-    gate: &G,
     steps: &mut Steps,
     doors: &mut [D],
 ) -> u8
@@ -47,11 +54,11 @@ where
     D::In: Send,
     D::Out: Send,
     G: Gate + Sync,
-    requires asked { IsServe connections places }
-    requires there { places ≤ length doors.old }
-    ensures run { RunsServe (H.files shelf.old) connections (map (door_of D.Door) (take places doors.old)) (map (door_of D.Door) (take places doors.new)) result
+    requires asked { IsServe asked.connections asked.places }
+    requires there { asked.places ≤ length doors.old }
+    ensures run { RunsServe (H.files shelf.old) asked.connections (map (door_of D.Door) (take asked.places doors.old)) (map (door_of D.Door) (take asked.places doors.new)) result
         (sink_bytes K.Sink sink.old) (sink_bytes K.Sink sink.new) }
-    ensures beyond { drop places doors.new ≡ drop places doors.old }
+    ensures beyond { drop asked.places doors.new ≡ drop asked.places doors.old }
     ensures closed { (result ≡ 2) ⊎ ((result ≡ 3) ⊎ (result ≡ 7)) → doors.new ≡ doors.old }
     ensures kept { H.files shelf.new ≡ H.files shelf.old }
     ensures not_usage { result ≢ 1 }
@@ -61,15 +68,16 @@ where
     ensures door_fault { result ≡ 8 → SomeRises (map D.faults doors.old) (map D.faults doors.new) }
     ensures steps_never_fall { steps.old ≤ steps.new }
 {
-    let (served, _) = doors.split_at_mut(places);
+    let Means { rt, alloc, gate } = *means;
+    let (served, _) = doors.split_at_mut(asked.places);
     let begun = Instant::now(rt).ok();
     match open_state(rt, shelf, gate, steps) {
         Ok(state) => {
             say_loaded(rt, state.generation(), begun);
             say_room(rt, &state);
-            serve_state(rt, state, connections, gate, served)
+            serve_state(means, state, asked.connections, served)
         }
-        Err(refusal) => say_why(rt.alloc(), sink, &refusal),
+        Err(refusal) => say_why(alloc, sink, &refusal),
     }
 }
 
@@ -86,9 +94,14 @@ fn say_loaded<R: Clock + Log>(rt: &R, generation: &Generation, begun: Option<Ins
 }
 
 // Serves the doors over the survey of which this is the first state, and answers the status.
-fn serve_state<R, D, G>(rt: &R, state: State, connections: u32, gate: &G, doors: &mut [D]) -> u8
+fn serve_state<R, D, G>(
+    means: &Means<'_, '_, R, G>,
+    state: State,
+    connections: u32,
+    doors: &mut [D],
+) -> u8
 where
-    R: AllocGlobal + Threads + Wait + Sync + Clock + Log,
+    R: Threads + Wait + Sync + Clock + Log,
     D: Door + Send,
     D::In: Send,
     D::Out: Send,
@@ -101,8 +114,9 @@ where
     ensures status { (result ≡ 0) ⊎ ((result ≡ 8) ⊎ (result ≡ 11)) }
     ensures door_fault { result ≡ 8 → SomeRises (map D.faults doors.old) (map D.faults doors.new) }
 {
+    let Means { rt, alloc, gate } = *means;
     info!(rt; "{} places, up to {connections} connections at each", doors.len());
-    let served = serve_doors(rt, rt.alloc(), state, connections, gate, doors);
+    let served = serve_doors(rt, alloc, state, connections, gate, doors);
     match &served {
         Ok(end) => {
             info!(rt; "all places have ended: {end:?}. The edits since the start are lost unless a journal or a copy has them");

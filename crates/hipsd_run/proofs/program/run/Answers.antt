@@ -147,8 +147,8 @@ returns-in-Serve g c =
       runs = runs_command _ _ _ _ _ _ _ c.in-Serve.is c.in-Some.ensures.asked c.in-Some.ensures.fits len
           (record {
             does = of_doors
-                (λ olds news. RunsServe (g.H.Shelf.files c.args.shelf.now) c.in-Serve.connections (map (door_of g.D.Door) (take c.in-Serve.places olds))
-                (map (door_of g.D.Door) (take c.in-Serve.places news)) c.run_serve.result
+                (λ olds news. RunsServe (g.H.Shelf.files c.args.shelf.now) c.in-Serve.asked.connections (map (door_of g.D.Door) (take c.in-Serve.asked.places olds))
+                (map (door_of g.D.Door) (take c.in-Serve.asked.places news)) c.run_serve.result
                 (record { held = g.K.Sink.held c.args.sink.now; flushed = g.K.Sink.flushed c.args.sink.now })
                 (record { held = g.K.Sink.held c.run_serve.new.sink; flushed = g.K.Sink.flushed c.run_serve.new.sink }))
                 _ _ _ _ old new done.run;
@@ -157,7 +157,7 @@ returns-in-Serve g c =
               shelf = is_used;
               files = λ _. done.kept;
               doors = is_used;
-              beyond = ap (drop c.in-Serve.places) new ∙ done.beyond ∙ ap (drop c.in-Serve.places) old;
+              beyond = ap (drop c.in-Serve.asked.places) new ∙ done.beyond ∙ ap (drop c.in-Serve.asked.places) old;
             };
             not_usage = done.not_usage;
           })

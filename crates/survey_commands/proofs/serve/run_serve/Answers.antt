@@ -13,14 +13,14 @@ returns-in-Ok-clause-run g c =
     let opened = c.in-Ok.ensures.opened in
     let split = c.split_at_mut-served in
     let served = c.serve_state.ensures.served opened.0 opened.2 in
-    let len : length c.serve_state.new.doors ≡ c.args.places = omega (arith, split.ensures.front_len, c.serve_state.auto.doors) in
-    let new = first_of c.args.places c.serve_state.new.doors split.result.1.now len in (
+    let len : length c.serve_state.new.doors ≡ c.args.asked.places = omega (arith, split.ensures.front_len, c.serve_state.auto.doors) in
+    let new = first_of c.args.asked.places c.serve_state.new.doors split.result.1.now len in (
       Ok opened.0,
       (
         opened.1,
-        subst (λ xs. Serves opened.0 c.args.connections (map (door_of g.D.Door) xs) (map (door_of g.D.Door) (take c.args.places (c.serve_state.new.doors ++ split.result.1.now))) c.serve_state.result)
+        subst (λ xs. Serves opened.0 c.args.asked.connections (map (door_of g.D.Door) xs) (map (door_of g.D.Door) (take c.args.asked.places (c.serve_state.new.doors ++ split.result.1.now))) c.serve_state.result)
             split.ensures.front
-            (subst (λ xs. Serves opened.0 c.args.connections (map (door_of g.D.Door) split.result.0.now) (map (door_of g.D.Door) xs) c.serve_state.result) (sym new) served),
+            (subst (λ xs. Serves opened.0 c.args.asked.connections (map (door_of g.D.Door) split.result.0.now) (map (door_of g.D.Door) xs) c.serve_state.result) (sym new) served),
         refl,
       ),
     )
@@ -34,5 +34,5 @@ returns-in-Ok-clause-door_fault g c = λ e.
 pub returns-in-Err-clause-run : goal.returns-in-Err-clause-run
 returns-in-Err-clause-run g c = (
   Err c.in-Err.refusal,
-  (c.in-Err.ensures.refused, ap (λ xs. map (door_of g.D.Door) (take c.args.places xs)) (sym c.split_at_mut-served.ensures.value), c.say_why.ensures.said),
+  (c.in-Err.ensures.refused, ap (λ xs. map (door_of g.D.Door) (take c.args.asked.places xs)) (sym c.split_at_mut-served.ensures.value), c.say_why.ensures.said),
 )
