@@ -11,7 +11,8 @@
 # --when renews the server only if it has taken that percentage of the edits that it can take, or one of its places that percentage of its
 # connections. It can take 65,536 edits, and its leaves at the start and the tiles of its edits may be 536,870,912 bytes; an edit that
 # removes a leaf is counted as a tile too. The connections are known by the warnings in its log, at 80 and 95 percent.
-# --release-date sets hips_release_date of the new server to the time of the copy, or keeps it if the copy has what OLD began with.
+# --release-date sets hips_release_date of the new server to the time of the copy, or keeps it if OLD has taken no edit, or the copy has
+# what OLD began with.
 #
 # 1. Edits are paused at the proxy by the file HIPSD_PAUSED. Edits in progress end.
 # 2. What was accepted is published, and backup.sh copies it into HIPSD_SERVERS, where a link with the name of NEW points to it. If an
@@ -178,7 +179,9 @@ copied=
 for _ in 1 2 3; do
     count=$(published "$old")
     [ -n "$count" ] || fail "nothing is published at $old: $(head -c 200 "$work/body" 2>/dev/null)"
-    HIPSD_KEEP=1 HIPSD_LAST=$(realpath "$servers/${old##*[:/]}") "$here/backup.sh" ${release:+"$release"} "${old#unix:}" "$servers/${new##*[:/]}" ||
+    dated=$release
+    [ "$count" != 0 ] || dated=
+    HIPSD_KEEP=1 HIPSD_LAST=$(realpath "$servers/${old##*[:/]}") "$here/backup.sh" ${dated:+"$dated"} "${old#unix:}" "$servers/${new##*[:/]}" ||
         fail "there is no copy"
     if [ "$(edits "$old")" = "$count" ]; then
         copied=yes
@@ -204,7 +207,7 @@ fi
 for path in properties Moc.fits; do
     ask "$old" "$path" -f -o "$work/old" --max-time 60 || fail "$path can't be read at $old"
     ask "$new" "$path" -f -o "$work/new" --max-time 60 || fail "$path can't be read at $new"
-    [ -z "$release" ] || sed -i '/^hips_release_date = /d' "$work/old" "$work/new"
+    [ -z "$dated" ] || sed -i '/^hips_release_date = /d' "$work/old" "$work/new"
     cmp -s "$work/old" "$work/new" || fail "the server at $new has another $path"
 done
 [ "$(edits "$new")" = 0 ] || fail "somebody has edited at $new"

@@ -463,6 +463,11 @@ class Rollover(Case):
         self.assertLessEqual(len(list((self.folder / "servers").glob("*Z"))), 3)
         self.assertNotIn(b"hips_release_date = 2024-05", self.asks(self.web, "GET", "properties")[2])
 
+    def test_a_renewal_without_edits_keeps_the_release_date(self):
+        """The first server's folder has its leaves alone, and the copy all files."""
+        self.roll(0, "--release-date", f"127.0.0.1:{self.old}", f"127.0.0.1:{self.new}")
+        self.assertIn(b"hips_release_date = 2024-05", self.asks(self.web, "GET", "properties")[2])
+
     def stays(self, said, text):
         """The first server goes on, as it was."""
         self.assertIn(text, said)
