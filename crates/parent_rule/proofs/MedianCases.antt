@@ -1,53 +1,58 @@
--- The lower median of four numbers of which some may be blank: by which are left, where a blank one is the most there can be.
-use Rattle.std.proofs.Common.{◌≡◌, ℕ, ◌+◌, ◌<◌, ◌≤◌, Bool, true, false, cond, not, List, [], ◌∷◌, length, refl, sym, ap, ◌∙◌, arith, ℤ, ◌≤ℤ◌, FitsSigned, to_z, of_z}
-use Rattle.std.proofs.lemmas.Int.{ints, clamps, to_z-of_z}
+-- The lower median of four numbers of which some may be blank: by which are kept, where a blank one is the most there can be.
+use Rattle.std.proofs.Common.{◌≡◌, ℕ, zero, suc, ◌<◌, ◌≤◌, Bool, IsTrue, true, false, cond, [], ◌∷◌, refl, sym, ap, ◌∙◌, arith, ℤ, pos, ◌≤ℤ◌, slice_index_or}
+use Rattle.std.proofs.lemmas.Int.{ints, clamps}
 use Rattle.std.specs.Int.{int_min, int_max}
-use Rattle.std.specs.Ordering.{int_eq}
-use Rattle.parent_rule.specs.Combined.{combined, not_blank, lower_median}
-use Rattle.parent_rule.specs.Weighed.{Behind}
+use Rattle.std.specs.Ordering.{ord_min, ord_max, int_cmp, is_lt}
+use Rattle.std.proofs.Common.{Ordering, Less, Equal, Greater, int_lt}
+use Rattle.parent_rule.specs.Combined.{combined, ascending, lower_median}
+use Rattle.parent_rule.specs.Kept.{kept_of_four, count_kept}
 use Rattle.parent_rule.specs.declared.combine.Combine.TheVariants.{Median}
-use Rattle.parent_rule.proofs.Cases.{combined_none, combined_median}
-use mir.Syntax.{Width}
-use Rattle.parent_rule.proofs.Medians.{median_of_two, median_of_three, median_of_four}
+use Rattle.parent_rule.proofs.Cases.{combined_median}
+use Rattle.parent_rule.proofs.FourNumbers.{Flagged, kept_is, some_kept}
+use Rattle.parent_rule.proofs.Medians.{median_of_two, median_of_three, median_of_four, least_of_four}
 
--- the numbers that are left
-abbrev left : Bool → ℤ → List ℤ → List ℤ
-left k v vs = cond k (v ∷ vs) vs
+is_lt_int_cmp : (x y : ℤ) → is_lt (int_cmp x y) ≡ int_lt x y
+is_lt_int_cmp x y = elim (int_lt x y) as (λ b. is_lt (cond b Less (cond (int_lt y x) Greater Equal)) ≡ b) [
+  | true ↦ refl
+  | false ↦ elim (int_lt y x) as (λ b. is_lt (cond b Greater Equal) ≡ false) [
+    | true ↦ refl
+    | false ↦ refl
+  ]
+]
 
-abbrev left_four : Bool → Bool → Bool → Bool → ℤ → ℤ → ℤ → ℤ → List ℤ
-left_four ka kb kc kd a b c d = left ka a (left kb b (left kc c (left kd d [])))
+-- values whose numbers are in their order: what is chosen of two by it
+chosen : {T : Type 0} (cmp : T → T → Ordering) (value : T → ℤ) → ((a b : T) → cmp a b ≡ int_cmp (value a) (value b)) → (a b x y : T) → value (cond (is_lt (cmp a b)) x y) ≡ cond (int_lt (value a) (value b)) (value x) (value y)
+chosen cmp value law a b x y =
+    ap (λ b. value (cond b x y)) (ap is_lt (law a b) ∙ is_lt_int_cmp (value a) (value b))
+    ∙ elim (int_lt (value a) (value b)) as (λ b. value (cond b x y) ≡ cond b (value x) (value y)) [
+      | true ↦ refl
+      | false ↦ refl
+    ]
 
-abbrev count_four : Bool → Bool → Bool → Bool → ℕ
-count_four ka kb kc kd = cond ka 1 0 + cond kb 1 0 + cond kc 1 0 + cond kd 1 0
+-- the least and the greatest of two values
+pub value_min : {T : Type 0} (cmp : T → T → Ordering) (value : T → ℤ) → ((a b : T) → cmp a b ≡ int_cmp (value a) (value b)) → (a b least : T) → least ≡ ord_min cmp a b → value least ≡ int_min (value a) (value b)
+value_min cmp value law a b least is = ap value is ∙ chosen cmp value law b a b a
 
--- the least of four, and the one above it
+pub value_max : {T : Type 0} (cmp : T → T → Ordering) (value : T → ℤ) → ((a b : T) → cmp a b ≡ int_cmp (value a) (value b)) → (a b greatest : T) → greatest ≡ ord_max cmp a b → value greatest ≡ int_max (value a) (value b)
+value_max cmp value law a b greatest is = ap value is ∙ chosen cmp value law b a a b
+
+-- the least of four numbers, and the one above it
 abbrev pub first_of : ℤ → ℤ → ℤ → ℤ → ℤ
 first_of a b c d = int_min a (int_min b (int_min c d))
 
 abbrev pub second_of : ℤ → ℤ → ℤ → ℤ → ℤ
 second_of a b c d = int_max (int_min b (int_min c d)) (int_min a (int_max (int_min c d) (int_min b (int_max c d))))
 
-count_is_length : (ka kb kc kd : Bool) (a b c d : ℤ) → count_four ka kb kc kd ≡ length (left_four ka kb kc kd a b c d)
-count_is_length true true true true a b c d = refl
-count_is_length true true true false a b c d = refl
-count_is_length true true false true a b c d = refl
-count_is_length true true false false a b c d = refl
-count_is_length true false true true a b c d = refl
-count_is_length true false true false a b c d = refl
-count_is_length true false false true a b c d = refl
-count_is_length true false false false a b c d = refl
-count_is_length false true true true a b c d = refl
-count_is_length false true true false a b c d = refl
-count_is_length false true false true a b c d = refl
-count_is_length false true false false a b c d = refl
-count_is_length false false true true a b c d = refl
-count_is_length false false true false a b c d = refl
-count_is_length false false false true a b c d = refl
-count_is_length false false false false a b c d = refl
+-- they are the first two in ascending order
+pub first_in_order : (a b c d : ℤ) → first_of a b c d ≡ slice_index_or (ascending (a ∷ b ∷ c ∷ d ∷ [])) 0 (pos 0)
+first_in_order a b c d = least_of_four a b c d (pos 0)
 
--- one or two are left
-first_is : (ka kb kc kd : Bool) (a b c d most blank : ℤ) → a ≤ℤ most → b ≤ℤ most → c ≤ℤ most → d ≤ℤ most → 0 < count_four ka kb kc kd → count_four ka kb kc kd ≤ 2
-    → first_of (cond ka a most) (cond kb b most) (cond kc c most) (cond kd d most) ≡ lower_median blank (left_four ka kb kc kd a b c d)
+pub second_in_order : (a b c d : ℤ) → second_of a b c d ≡ slice_index_or (ascending (a ∷ b ∷ c ∷ d ∷ [])) 1 (pos 0)
+second_in_order a b c d = median_of_four a b c d (pos 0)
+
+-- one or two are kept
+first_is : (ka kb kc kd : Bool) (a b c d most blank : ℤ) → a ≤ℤ most → b ≤ℤ most → c ≤ℤ most → d ≤ℤ most → 0 < count_kept ka kb kc kd → count_kept ka kb kc kd ≤ 2
+    → first_of (cond ka a most) (cond kb b most) (cond kc c most) (cond kd d most) ≡ lower_median blank (kept_of_four ka kb kc kd a b c d)
 first_is true true true true a b c d most blank ha hb hc hd some few = absurd (omega arith)
 first_is true true true false a b c d most blank ha hb hc hd some few = absurd (omega arith)
 first_is true true false true a b c d most blank ha hb hc hd some few = absurd (omega arith)
@@ -71,9 +76,9 @@ at_most most low b high hl hb = omega (arith, ints, clamps)
 absorbed : (b low v : ℤ) → int_max (int_min b low) (int_max low v) ≡ int_max low v
 absorbed b low v = omega (arith, ints, clamps)
 
--- three or four are left
-second_is : (ka kb kc kd : Bool) (a b c d most blank : ℤ) → a ≤ℤ most → b ≤ℤ most → c ≤ℤ most → d ≤ℤ most → 0 < count_four ka kb kc kd → 2 < count_four ka kb kc kd
-    → second_of (cond ka a most) (cond kb b most) (cond kc c most) (cond kd d most) ≡ lower_median blank (left_four ka kb kc kd a b c d)
+-- three or four are kept
+second_is : (ka kb kc kd : Bool) (a b c d most blank : ℤ) → a ≤ℤ most → b ≤ℤ most → c ≤ℤ most → d ≤ℤ most → 0 < count_kept ka kb kc kd → 2 < count_kept ka kb kc kd
+    → second_of (cond ka a most) (cond kb b most) (cond kc c most) (cond kd d most) ≡ lower_median blank (kept_of_four ka kb kc kd a b c d)
 second_is true true true true a b c d most blank ha hb hc hd some few = median_of_four a b c d blank
 second_is true true true false a b c d most blank ha hb hc hd some few =
     let low : int_min c most ≡ c = omega (arith, ints, clamps) in
@@ -121,47 +126,39 @@ second_is false false true false a b c d most blank ha hb hc hd some few = absur
 second_is false false false true a b c d most blank ha hb hc hd some few = absurd (omega arith)
 second_is false false false false a b c d most blank ha hb hc hd some few = absurd (omega arith)
 
--- how many are left, and the median, from where the four are placed
-pub record FourBehind (most blank a b c d pa pb pc pd : ℤ) (na nb nc nd : ℕ) : Type 0 where
-  pub first : Behind most blank a pa na
-  pub second : Behind most blank b pb nb
-  pub third : Behind most blank c pc nc
-  pub fourth : Behind most blank d pd nd
+-- what a flag that is false says of the count
+pub some_from : (none : Bool) (count : ℕ) → (count ≡ 0 → IsTrue none) → none ≡ false → 0 < count
+some_from none zero says is = let e : none ≡ true = says refl in cc
+some_from none (suc n) says is = omega arith
+
+pub more_from : (few : Bool) (count : ℕ) → (count ≤ 2 → IsTrue few) → few ≡ false → 2 < count
+more_from few zero says is = let e : few ≡ true = says (omega arith) in cc
+more_from few (suc zero) says is = let e : few ≡ true = says (omega arith) in cc
+more_from few (suc (suc zero)) says is = let e : few ≡ true = says (omega arith) in cc
+more_from few (suc (suc (suc n))) says is = omega arith
+
+-- four numbers, none above the greatest, each where it is placed: behind the others where it is blank
+pub record Placed (most a b c d : ℤ) (fa fb fc fd : Bool) (pa pb pc pd : ℤ) : Type 0 where
+  pub first : pa ≡ cond fa a most
+  pub second : pb ≡ cond fb b most
+  pub third : pc ≡ cond fc c most
+  pub fourth : pd ≡ cond fd d most
   pub most_a : a ≤ℤ most
   pub most_b : b ≤ℤ most
   pub most_c : c ≤ℤ most
   pub most_d : d ≤ℤ most
 
-the_count : (most blank a b c d pa pb pc pd : ℤ) (na nb nc nd : ℕ) → FourBehind most blank a b c d pa pb pc pd na nb nc nd
-    → na + nb + nc + nd ≡ count_four (not (int_eq a blank)) (not (int_eq b blank)) (not (int_eq c blank)) (not (int_eq d blank))
-the_count most blank a b c d pa pb pc pd na nb nc nd f = rw (f.first.count_is, f.second.count_is, f.third.count_is, f.fourth.count_is) refl
+pub first_kept : (most blank a b c d : ℤ) (fa fb fc fd : Bool) (pa pb pc pd : ℤ) → Flagged blank a b c d fa fb fc fd → Placed most a b c d fa fb fc fd pa pb pc pd → 0 < count_kept fa fb fc fd → count_kept fa fb fc fd ≤ 2
+    → slice_index_or (ascending (pa ∷ pb ∷ pc ∷ pd ∷ [])) 0 (pos 0) ≡ combined Median blank (a ∷ b ∷ c ∷ d ∷ [])
+first_kept most blank a b c d fa fb fc fd pa pb pc pd f p some few =
+    sym (first_in_order pa pb pc pd) ∙ rw (p.first, p.second, p.third, p.fourth)
+    (first_is fa fb fc fd a b c d most blank p.most_a p.most_b p.most_c p.most_d some few
+    ∙ sym (combined_median Median blank (a ∷ b ∷ c ∷ d ∷ []) (kept_of_four fa fb fc fd a b c d) refl (kept_is blank a b c d fa fb fc fd f) (some_kept fa fb fc fd a b c d some)))
 
-pub none_behind : (most blank a b c d pa pb pc pd : ℤ) (na nb nc nd : ℕ) → FourBehind most blank a b c d pa pb pc pd na nb nc nd → na + nb + nc + nd ≡ 0 → blank ≡ combined Median blank (a ∷ b ∷ c ∷ d ∷ [])
-none_behind most blank a b c d pa pb pc pd na nb nc nd f none =
-    sym (combined_none Median blank (a ∷ b ∷ c ∷ d ∷ []) _ refl
-    (sym (count_is_length (not (int_eq a blank)) (not (int_eq b blank)) (not (int_eq c blank)) (not (int_eq d blank)) a b c d) ∙ sym (the_count most blank a b c d pa pb pc pd na nb nc nd f) ∙ none))
-
-some_left : (most blank a b c d pa pb pc pd : ℤ) (na nb nc nd : ℕ) → FourBehind most blank a b c d pa pb pc pd na nb nc nd → 0 < na + nb + nc + nd → 0 < length (not_blank blank (a ∷ b ∷ c ∷ d ∷ []))
-some_left most blank a b c d pa pb pc pd na nb nc nd f some =
-    rw (← count_is_length (not (int_eq a blank)) (not (int_eq b blank)) (not (int_eq c blank)) (not (int_eq d blank)) a b c d, ← the_count most blank a b c d pa pb pc pd na nb nc nd f) some
-
-pub first_behind : (most blank a b c d pa pb pc pd : ℤ) (na nb nc nd : ℕ) → FourBehind most blank a b c d pa pb pc pd na nb nc nd → 0 < na + nb + nc + nd → na + nb + nc + nd ≤ 2
-    → first_of pa pb pc pd ≡ combined Median blank (a ∷ b ∷ c ∷ d ∷ [])
-first_behind most blank a b c d pa pb pc pd na nb nc nd f some few =
-    let count = the_count most blank a b c d pa pb pc pd na nb nc nd f in
-    rw (f.first.placed_is, f.second.placed_is, f.third.placed_is, f.fourth.placed_is)
-    (first_is (not (int_eq a blank)) (not (int_eq b blank)) (not (int_eq c blank)) (not (int_eq d blank)) a b c d most blank f.most_a f.most_b f.most_c f.most_d (rw (← count) some) (rw (← count) few)
-    ∙ sym (combined_median Median blank (a ∷ b ∷ c ∷ d ∷ []) _ refl refl (some_left most blank a b c d pa pb pc pd na nb nc nd f some)))
-
-pub second_behind : (most blank a b c d pa pb pc pd : ℤ) (na nb nc nd : ℕ) → FourBehind most blank a b c d pa pb pc pd na nb nc nd → 2 < na + nb + nc + nd
-    → second_of pa pb pc pd ≡ combined Median blank (a ∷ b ∷ c ∷ d ∷ [])
-second_behind most blank a b c d pa pb pc pd na nb nc nd f more =
-    let count = the_count most blank a b c d pa pb pc pd na nb nc nd f in
-    let some : 0 < na + nb + nc + nd = omega arith in
-    rw (f.first.placed_is, f.second.placed_is, f.third.placed_is, f.fourth.placed_is)
-    (second_is (not (int_eq a blank)) (not (int_eq b blank)) (not (int_eq c blank)) (not (int_eq d blank)) a b c d most blank f.most_a f.most_b f.most_c f.most_d (rw (← count) some) (rw (← count) more)
-    ∙ sym (combined_median Median blank (a ∷ b ∷ c ∷ d ∷ []) _ refl refl (some_left most blank a b c d pa pb pc pd na nb nc nd f some)))
-
--- a number comes back from the bits that it was passed by
-pub behind_back : (w : Width) (most blank v placed : ℤ) (count : ℕ) → FitsSigned w blank → FitsSigned w v → Behind most (to_z w (of_z w blank)) (to_z w (of_z w v)) placed count → Behind most blank v placed count
-behind_back w most blank v placed count fits-blank fits is = rw (← to_z-of_z w blank fits-blank, ← to_z-of_z w v fits) is
+pub second_kept : (most blank a b c d : ℤ) (fa fb fc fd : Bool) (pa pb pc pd : ℤ) → Flagged blank a b c d fa fb fc fd → Placed most a b c d fa fb fc fd pa pb pc pd → 2 < count_kept fa fb fc fd
+    → slice_index_or (ascending (pa ∷ pb ∷ pc ∷ pd ∷ [])) 1 (pos 0) ≡ combined Median blank (a ∷ b ∷ c ∷ d ∷ [])
+second_kept most blank a b c d fa fb fc fd pa pb pc pd f p more =
+    let some : 0 < count_kept fa fb fc fd = omega arith in
+    sym (second_in_order pa pb pc pd) ∙ rw (p.first, p.second, p.third, p.fourth)
+    (second_is fa fb fc fd a b c d most blank p.most_a p.most_b p.most_c p.most_d some more
+    ∙ sym (combined_median Median blank (a ∷ b ∷ c ∷ d ∷ []) (kept_of_four fa fb fc fd a b c d) refl (kept_is blank a b c d fa fb fc fd f) (some_kept fa fb fc fd a b c d some)))

@@ -4,6 +4,10 @@ use Rattle.std.proofs.lemmas.Int.{ints, clamps}
 use Rattle.std.specs.Int.{int_min, int_max}
 use Rattle.parent_rule.specs.Combined.{placed, ascending, lower_median}
 
+-- a number placed before or behind the first of a list: which one is first
+first : (a x none : ℤ) (rest : List ℤ) → get_or (placed a (x ∷ rest)) 0 none ≡ int_min a x
+first a x none rest = grind (arith, ints)
+
 -- a number placed before, between or behind two numbers in order: which one is second
 second : (a x y blank : ℤ) (rest : List ℤ) → x ≤ℤ y → get_or (placed a (x ∷ y ∷ rest)) 1 blank ≡ int_max x (int_min a y)
 second a x y blank rest le = grind (arith, ints)
@@ -28,6 +32,11 @@ pub median_of_four : (a b c d blank : ℤ) → int_max (int_min b (int_min c d))
 median_of_four a b c d blank =
     rw (pair, three b (int_min c d) (int_max c d) (int_min-le-int_max c d))
     (sym (second a (int_min b (int_min c d)) (int_max (int_min c d) (int_min b (int_max c d))) blank (int_max b (int_max c d) ∷ []) (omega (arith, ints, clamps))))
+
+pub least_of_four : (a b c d none : ℤ) → int_min a (int_min b (int_min c d)) ≡ get_or (ascending (a ∷ b ∷ c ∷ d ∷ [])) 0 none
+least_of_four a b c d none =
+    rw (pair, three b (int_min c d) (int_max c d) (int_min-le-int_max c d))
+    (sym (first a (int_min b (int_min c d)) none (int_max (int_min c d) (int_min b (int_max c d)) ∷ int_max b (int_max c d) ∷ [])))
 
 -- a list of three or four numbers is these
 listed_three : (vs : List ℤ) → length vs ≡ 3 → vs ≡ get_or vs 0 (pos 0) ∷ get_or vs 1 (pos 0) ∷ get_or vs 2 (pos 0) ∷ []

@@ -1,5 +1,5 @@
 pub mod Depth
 pub mod Combined
-pub mod Weighed
+pub mod Kept
 pub mod CombinedLaws
 pub mod Permit

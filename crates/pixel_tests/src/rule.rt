@@ -4,8 +4,7 @@ ghost use Rattle.parent_rule.specs.Depth.{IsNumber};
 
 use parent_rule::Combine::{self, Mean, Median};
 use parent_rule::{
-    Depth, Permit, Steps, mean_of_full_i16, mean_of_full_i32, mean_of_full_u8, mean_of_i16,
-    mean_of_i32, mean_of_u8, mean_rows, mean4, median_of_i16, median_of_i32, median_of_u8,
+    Depth, Permit, PixelNumber, Steps, mean_of_four, mean_of_full, mean_rows, mean4, median_of_four,
 };
 
 // Whether each is a number of the depth.
@@ -218,17 +217,18 @@ static FOURS_OF_8: [(Combine, u8, [u8; 4], u8); 13] = [
 ];
 
 // Whether the four give that one, without a blank also by the form of the mean for such.
-fn give_8(combine: Combine, blank: u8, four: &[u8; 4], wanted: u8) -> bool {
+fn give_at<N: PixelNumber>(combine: Combine, blank: N, four: &[N; 4], wanted: N) -> bool {
     let [a, b, c, d] = *four;
     if combine == Median {
-        return median_of_u8(a, b, c, d, blank) == wanted;
+        return median_of_four(a, b, c, d, blank) == wanted;
     }
-    if a != blank && b != blank && c != blank && d != blank {
-        if mean_of_full_u8(a, b, c, d, blank) != wanted {
+    let no = blank.wide();
+    if a.wide() != no && b.wide() != no && c.wide() != no && d.wide() != no {
+        if mean_of_full(a, b, c, d, blank) != wanted {
             return false;
         }
     }
-    mean_of_u8(a, b, c, d, blank) == wanted
+    mean_of_four(a, b, c, d, blank) == wanted
 }
 
 // The same of numbers of 16 bits.
@@ -248,19 +248,6 @@ static FOURS_OF_16: [(Combine, i16, [i16; 4], i16); 13] = [
     (Median, B16, [9, -4, B16, 0], 0),
 ];
 
-fn give_16(combine: Combine, blank: i16, four: &[i16; 4], wanted: i16) -> bool {
-    let [a, b, c, d] = *four;
-    if combine == Median {
-        return median_of_i16(a, b, c, d, blank) == wanted;
-    }
-    if a != blank && b != blank && c != blank && d != blank {
-        if mean_of_full_i16(a, b, c, d, blank) != wanted {
-            return false;
-        }
-    }
-    mean_of_i16(a, b, c, d, blank) == wanted
-}
-
 const MOST: i32 = 2147483647;
 
 // The same of numbers of 32 bits.
@@ -279,36 +266,23 @@ static FOURS_OF_32: [(Combine, i32, [i32; 4], i32); 12] = [
     (Median, B32, [4, 4, 4, B32], 4),
 ];
 
-fn give_32(combine: Combine, blank: i32, four: &[i32; 4], wanted: i32) -> bool {
-    let [a, b, c, d] = *four;
-    if combine == Median {
-        return median_of_i32(a, b, c, d, blank) == wanted;
-    }
-    if a != blank && b != blank && c != blank && d != blank {
-        if mean_of_full_i32(a, b, c, d, blank) != wanted {
-            return false;
-        }
-    }
-    mean_of_i32(a, b, c, d, blank) == wanted
-}
-
 #[test]
 fn combines_four_of_each_width(rt: HostRuntime) {
     for (combine, blank, four, wanted) in &FOURS_OF_8 {
         assert!(rt;
-            give_8(*combine, *blank, four, *wanted),
+            give_at(*combine, *blank, four, *wanted),
             "{four:?}, blank {blank}"
         );
     }
     for (combine, blank, four, wanted) in &FOURS_OF_16 {
         assert!(rt;
-            give_16(*combine, *blank, four, *wanted),
+            give_at(*combine, *blank, four, *wanted),
             "{four:?}, blank {blank}"
         );
     }
     for (combine, blank, four, wanted) in &FOURS_OF_32 {
         assert!(rt;
-            give_32(*combine, *blank, four, *wanted),
+            give_at(*combine, *blank, four, *wanted),
             "{four:?}, blank {blank}"
         );
     }

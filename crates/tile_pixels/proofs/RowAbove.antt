@@ -1,7 +1,7 @@
 -- The row above two rows of stored numbers, number by number.
 use Rattle.std.proofs.Common.{◌≡◌, ℕ, ◌+◌, ◌-◌, ◌*◌, ◌/◌, ◌%◌, ◌<◌, ◌≤◌, List, [], ◌∷◌, ◌++◌, length, take, drop, get_or, refl, sym, ap, ◌∙◌, arith, ℤ, pos, length-append}
 use Rattle.std.proofs.Math.Nat.{add-mul, mul_comm}
-use Rattle.std.proofs.lemmas.List.{append_assoc, take_all, take_at, take_rest, length-take-le, get_or-drop}
+use Rattle.std.proofs.lemmas.List.{append_assoc, take_at, take_rest, length-take-le, get_or-drop}
 use Rattle.std.proofs.lemmas.Nat.{row_fits}
 use Rattle.std.proofs.lemmas.List.FromFn.{length-map-range_with_len, get_or-map-range_with_len}
 use Rattle.parent_rule.specs.Combined.{combined}

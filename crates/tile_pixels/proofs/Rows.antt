@@ -1,15 +1,11 @@
 -- The loops over a row.
-use Rattle.std.proofs.Common.{◌≡◌, ℕ, ◌+◌, ◌-◌, ◌*◌, ◌/◌, ◌<◌, ◌≤◌, List, [], ◌∷◌, ◌++◌, length, take, drop, set, get_or, All, sym, subst, ap, ◌∙◌, arith, ℤ, pos, negsuc, length-append, w8, w64, Fits, FitsSigned, IsTrue, to_z, of_z}
-use Rattle.std.proofs.lemmas.Int.{ints, to_z-of_z}
-use Rattle.std.proofs.lemmas.List.{append_assoc, append-nil, take_all, take_at, take_more, take_more_set, take_rest, length-take-le}
-use Rattle.std.proofs.Math.Nat.{mul_comm}
+use Rattle.std.proofs.Common.{◌≡◌, ℕ, ◌+◌, ◌*◌, ◌/◌, ◌<◌, ◌≤◌, List, [], ◌∷◌, ◌++◌, length, take, drop, set, get_or, All, sym, subst, ap, ◌∙◌, arith, ℤ, pos, w8, Fits, IsTrue}
+use Rattle.std.proofs.lemmas.List.{append-nil, take_all, take_more}
 use Rattle.std.proofs.lemmas.List.Edits.{fill_by_more}
 use Rattle.std.proofs.lemmas.List.Elements.{All-same}
 use Rattle.parent_rule.specs.Depth.{is_bitpix, IsNumber}
 use Rattle.tile_pixels.specs.Stored.{number_from, numbers_from, number_bytes, stored_bytes}
 use Rattle.tile_pixels.specs.StoredLaws.{AreBytes, numbers_from-numbers, numbers_from-places, numbers_from-stored_bytes, stored_bytes-append, stored_bytes-cons, stored_bytes-nil}
-use lib.IntN.{nat_abs}
-use mir.Syntax.{Width}
 
 -- what a slice of bytes holds
 pub are_bytes : (bytes : List ℕ) → ((k : ℕ) → Fits w8 (get_or bytes k 0)) → AreBytes bytes

@@ -9,7 +9,7 @@ use crate::full_means::store_full_means;
 use crate::means::holds;
 use crate::stored::Stored;
 use byteorder::{ByteOrder, LittleEndian};
-use parent_rule::mean_of_u8;
+use parent_rule::mean_of_four;
 
 /// Stores the row of means above two rows.
 pub fn store_byte_means(top: &[u8], bottom: &[u8], count: usize, blank: u8, out: &mut [u8])
@@ -51,7 +51,7 @@ fn store_means_of_pairs(
     ensures { out.new ≡ stored_bytes 8 (row_above Mean 8 (pos blank) (length out.old) top.now bottom.now) }
 {
     for i in 0..out.len() {
-        let mean = mean_of_u8(
+        let mean = mean_of_four(
             (upper[i] % 256) as u8,
             (lower[i] % 256) as u8,
             (upper[i] / 256) as u8,

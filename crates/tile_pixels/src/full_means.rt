@@ -5,6 +5,7 @@ ghost use Rattle.tile_pixels.specs.Stored.{stored_at, stored_bytes};
 ghost use Rattle.tile_pixels.specs.Lines.{row_above};
 
 use crate::stored::Stored;
+use parent_rule::mean_of_full;
 
 /// Stores the row of means above two rows in which no number is blank.
 pub fn store_full_means<N: Stored>(
@@ -25,6 +26,6 @@ pub fn store_full_means<N: Stored>(
     for i in 0..count {
         let (a, c) = N::read_pair(top, i);
         let (b, d) = N::read_pair(bottom, i);
-        N::mean_of_full(a, b, c, d, blank).write(out, i);
+        mean_of_full(a, b, c, d, blank).write(out, i);
     }
 }

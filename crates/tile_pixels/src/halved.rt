@@ -5,7 +5,7 @@ ghost use Rattle.parent_rule.specs.Combined.{combined, square_at};
 ghost use Rattle.parent_rule.specs.declared.combine.Combine.TheVariants.{Mean, Median};
 
 use crate::stored::Stored;
-use parent_rule::{Combine, Depth, mean_rows};
+use parent_rule::{Combine, Depth, PixelNumber, mean_of_four, mean_rows, median_of_four};
 
 /// What `mean_rows` makes of two rows.
 pub fn combine_rows(top: &[i64], bottom: &[i64], depth: Depth, out: &mut [i64])
@@ -44,7 +44,7 @@ fn means<N: Stored>(top: &[i64], bottom: &[i64], blank: N, out: &mut [i64])
     ensures numbers { All (IsNumber N.bits) out.new }
 {
     for (i, place) in out.iter_mut().enumerate() {
-        let mean = N::mean(
+        let mean = mean_of_four(
             N::of(top[2 * i]),
             N::of(bottom[2 * i]),
             N::of(top[2 * i + 1]),
@@ -66,7 +66,7 @@ fn medians<N: Stored>(top: &[i64], bottom: &[i64], blank: N, out: &mut [i64])
     ensures numbers { All (IsNumber N.bits) out.new }
 {
     for (i, place) in out.iter_mut().enumerate() {
-        let median = N::median(
+        let median = median_of_four(
             N::of(top[2 * i]),
             N::of(bottom[2 * i]),
             N::of(top[2 * i + 1]),

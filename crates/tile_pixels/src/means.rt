@@ -1,11 +1,12 @@
 //! The row of means above two rows of stored numbers of one width, from their bytes to its bytes.
-ghost use Rattle.std.specs.Prelude.{◌≡◌, ◌≢◌, ◌<◌, ◌≤◌, ◌*◌, ◌/◌, ℕ, length, false};
+ghost use Rattle.std.specs.Prelude.{◌≡◌, ◌≢◌, ◌↔◌, ◌<◌, ◌≤◌, ◌*◌, ◌/◌, ℕ, length, false, IsTrue};
 ghost use Rattle.parent_rule.specs.declared.combine.Combine.TheVariants.{Mean};
 ghost use Rattle.tile_pixels.specs.Stored.{stored_at, stored_bytes};
 ghost use Rattle.tile_pixels.specs.Lines.{row_above};
 
 use crate::full_means::store_full_means;
 use crate::stored::Stored;
+use parent_rule::mean_of_four;
 
 /// Stores the row of means above two rows. Rows without a blank are common, and their means take half the time.
 pub fn store_means<N: Stored>(top: &[u8], bottom: &[u8], count: usize, blank: N, out: &mut [u8])
@@ -29,9 +30,17 @@ pub fn holds<N: Stored>(row: &[u8], count: usize, number: N) -> bool
 {
     let mut found = false;
     for place in 0..count {
-        found |= N::read(row, place).same(number);
+        found |= same(N::read(row, place), number);
     }
     found
+}
+
+// Whether two are the same number.
+#[inline(always)]
+fn same<N: Stored>(a: N, b: N) -> bool
+    ensures { IsTrue result ↔ (N.value a ≡ N.value b) }
+{
+    a == b
 }
 
 // Any rows.
@@ -45,6 +54,6 @@ fn store_some_means<N: Stored>(top: &[u8], bottom: &[u8], count: usize, blank: N
     for i in 0..count {
         let (a, c) = N::read_pair(top, i);
         let (b, d) = N::read_pair(bottom, i);
-        N::mean(a, b, c, d, blank).write(out, i);
+        mean_of_four(a, b, c, d, blank).write(out, i);
     }
 }

@@ -5,6 +5,7 @@ ghost use Rattle.tile_pixels.specs.Stored.{stored_bytes};
 ghost use Rattle.tile_pixels.specs.Lines.{row_above};
 
 use crate::stored::Stored;
+use parent_rule::median_of_four;
 
 /// Stores the row of lower medians above two rows.
 pub fn store_medians<N: Stored>(top: &[u8], bottom: &[u8], count: usize, blank: N, out: &mut [u8])
@@ -17,6 +18,6 @@ pub fn store_medians<N: Stored>(top: &[u8], bottom: &[u8], count: usize, blank: 
     for i in 0..count {
         let (a, c) = N::read_pair(top, i);
         let (b, d) = N::read_pair(bottom, i);
-        N::median(a, b, c, d, blank).write(out, i);
+        median_of_four(a, b, c, d, blank).write(out, i);
     }
 }

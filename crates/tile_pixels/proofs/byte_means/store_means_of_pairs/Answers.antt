@@ -16,7 +16,7 @@ loop-i-preserved c =
     let top = are_bytes c.args.top.now c.type_inv.top in
     let bottom = are_bytes c.args.bottom.now c.type_inv.bottom in
     above_more Mean 8 (pos c.args.blank) (length c.args.out.now) i c.args.top.now c.args.bottom.now c.loop-i.out c.write.new.row _ _ _ _ _ below
-    c.mean_of_u8-mean.ensures
+    c.mean_of_four-mean.ensures
     (first_of_word c.args.top.now i _ top (c.requires.upper_pairs i in_upper)) (first_of_word c.args.bottom.now i _ bottom (c.requires.lower_pairs i in_lower))
     (second_of_word c.args.top.now i _ top (c.requires.upper_pairs i in_upper)) (second_of_word c.args.bottom.now i _ bottom (c.requires.lower_pairs i in_lower))
     c.loop-i.invariant c.write.ensures

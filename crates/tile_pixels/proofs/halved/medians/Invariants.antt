@@ -8,6 +8,6 @@ use Rattle.tile_pixels.proofs.halved.medians.Given as goal
 
 abbrev pub invariant-loop-i : goal.invariant-loop-i
 invariant-loop-i g l = record {
-  combined : (k : ℕ) → k < l.i → slice_get l.out k ≡ Some (combined Median (g.N.Stored.value l.blank) (square_at l.top l.bottom k));
-  numbers : AllWithin (IsNumber g.N.Stored.bits) l.out 0 l.i;
+  combined : (k : ℕ) → k < l.i → slice_get l.out k ≡ Some (combined Median (g.N.PixelNumber.value l.blank) (square_at l.top l.bottom k));
+  numbers : AllWithin (IsNumber g.N.PixelNumber.bits) l.out 0 l.i;
 }

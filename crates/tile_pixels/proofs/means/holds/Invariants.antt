@@ -4,4 +4,4 @@ use Rattle.tile_pixels.specs.Stored.{stored_at}
 use Rattle.tile_pixels.proofs.means.holds.Given as goal
 
 abbrev pub invariant-loop-place : goal.invariant-loop-place
-invariant-loop-place g l = l.found ≡ false → (k : ℕ) → k < l.place → stored_at g.N.Stored.bits l.row k ≢ g.N.Stored.value l.number
+invariant-loop-place g l = l.found ≡ false → (k : ℕ) → k < l.place → stored_at g.N.PixelNumber.bits l.row k ≢ g.N.PixelNumber.value l.number

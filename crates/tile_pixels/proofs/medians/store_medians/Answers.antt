@@ -4,23 +4,23 @@ use Rattle.tile_pixels.proofs.RowAbove.{above_none, above_more, above_all, place
 use Rattle.tile_pixels.proofs.medians.store_medians.Goals as goal
 
 pub read_pair-a-requires : goal.read_pair-a-requires
-read_pair-a-requires g c = pair_fits c.loop-i.i c.args.count (g.N.Stored.bits / 8) _ (omega arith) c.requires.top
+read_pair-a-requires g c = pair_fits c.loop-i.i c.args.count (g.N.PixelNumber.bits / 8) _ (omega arith) c.requires.top
 
 pub read_pair-b-requires : goal.read_pair-b-requires
-read_pair-b-requires g c = pair_fits c.loop-i.i c.args.count (g.N.Stored.bits / 8) _ (omega arith) c.requires.bottom
+read_pair-b-requires g c = pair_fits c.loop-i.i c.args.count (g.N.PixelNumber.bits / 8) _ (omega arith) c.requires.bottom
 
 pub write-requires : goal.write-requires
-write-requires g c = place_fits c.loop-i.i c.args.count (g.N.Stored.bits / 8) _ (omega arith) (c.loop-i.auto.out ∙ c.requires.out)
+write-requires g c = place_fits c.loop-i.i c.args.count (g.N.PixelNumber.bits / 8) _ (omega arith) (c.loop-i.auto.out ∙ c.requires.out)
 
 pub loop-i-init : goal.loop-i-init
-loop-i-init g c = above_none g.N.Stored.bits c.args.out.now
+loop-i-init g c = above_none g.N.PixelNumber.bits c.args.out.now
 
 pub loop-i-preserved : goal.loop-i-preserved
 loop-i-preserved g c =
-    above_more Median g.N.Stored.bits (g.N.Stored.value c.args.blank) c.args.count c.loop-i.i c.args.top.now c.args.bottom.now c.loop-i.out c.write.new.row _ _ _ _ _ c.loop-i-test.true
-    c.median.ensures c.read_pair-a.ensures.first c.read_pair-b.ensures.first c.read_pair-a.ensures.second c.read_pair-b.ensures.second c.loop-i.invariant c.write.ensures
+    above_more Median g.N.PixelNumber.bits (g.N.PixelNumber.value c.args.blank) c.args.count c.loop-i.i c.args.top.now c.args.bottom.now c.loop-i.out c.write.new.row _ _ _ _ _ c.loop-i-test.true
+    c.median_of_four.ensures c.read_pair-a.ensures.first c.read_pair-b.ensures.first c.read_pair-a.ensures.second c.read_pair-b.ensures.second c.loop-i.invariant c.write.ensures
 
 pub returns : goal.returns
 returns g c =
     let end : c.loop-i.i ≡ c.args.count = omega arith in
-    above_all Median g.N.Stored.bits (g.N.Stored.value c.args.blank) c.args.count c.loop-i.i c.args.top.now c.args.bottom.now c.loop-i.out end (c.loop-i.auto.out ∙ c.requires.out) c.loop-i.invariant
+    above_all Median g.N.PixelNumber.bits (g.N.PixelNumber.value c.args.blank) c.args.count c.loop-i.i c.args.top.now c.args.bottom.now c.loop-i.out end (c.loop-i.auto.out ∙ c.requires.out) c.loop-i.invariant
