@@ -157,21 +157,32 @@ no [a/b.unfinished]
 no [.unfinished]
 ";
 
-// A runtime that refuses the first look behind a link by an error of this kind, and counts them.
+// A runtime that counts looks behind links and openings, and refuses one of them by an error of this kind.
 #[derive(Drop)]
 struct Looks<'a, R> {
     rt: &'a R,
+    refused: u32,
     refusal: ErrorKind,
     count: Cell<u32>,
 }
 
 impl<'a, R> Looks<'a, R> {
-    fn new(rt: &'a R, refusal: ErrorKind) -> Looks<'a, R> {
+    fn new(rt: &'a R, refused: u32, refusal: ErrorKind) -> Looks<'a, R> {
         Looks {
             rt,
+            refused,
             refusal,
             count: Cell::new(0),
         }
+    }
+
+    // Counts a look or an opening, and refuses it if it is the one.
+    fn pass(&self) -> io::Result<()> {
+        self.count.set(self.count.get().saturating_add(1));
+        if self.count.get() == self.refused {
+            return Err(self.refusal.into());
+        }
+        Ok(())
     }
 }
 
@@ -189,6 +200,7 @@ impl<'a, R: Files> Files for Looks<'a, R> {
     type Dir = R::Dir;
 
     fn open_file(&self, how: &OpenOptions, path: &str) -> io::Result<R::File> {
+        self.pass()?;
         self.rt.open_file(how, path)
     }
 
@@ -197,10 +209,7 @@ impl<'a, R: Files> Files for Looks<'a, R> {
     }
 
     fn metadata(&self, path: &str) -> io::Result<Metadata> {
-        self.count.set(self.count.get().saturating_add(1));
-        if self.count.get() == 1 {
-            return Err(self.refusal.into());
-        }
+        self.pass()?;
         self.rt.metadata(path)
     }
 
@@ -251,13 +260,14 @@ impl<'a, R: Log> Log for Looks<'a, R> {
     }
 }
 
-// What a shelf answers to `get` where the first look is refused by an error of this kind, and how many there were.
+// What a shelf answers to `get` where one of its looks and openings is refused by an error of this kind, and how many there were.
 fn answer_of<R: Files + AllocGlobal + Log>(
     rt: &R,
+    refused: u32,
     refusal: ErrorKind,
     path: &str,
 ) -> (&'static str, u32) {
-    let looks = Looks::new(rt, refusal);
+    let looks = Looks::new(rt, refused, refusal);
     let answer = match FolderShelf::here(&looks).get(rt.alloc(), path) {
         Ok(Some(_)) => "there",
         Ok(None) => "absent",
@@ -269,7 +279,7 @@ fn answer_of<R: Files + AllocGlobal + Log>(
 
 // Whether the shelf looks for a file with that path, which it doesn't find. Where it doesn't look it fails.
 fn is_looked_for<R: Files + AllocGlobal + Log>(rt: &R, path: &str) -> Option<bool> {
-    match answer_of(rt, ErrorKind::NotFound, path) {
+    match answer_of(rt, 1, ErrorKind::NotFound, path) {
         ("absent", 1) => Some(true),
         ("failed", 0) => Some(false),
         _ => None,
@@ -288,20 +298,25 @@ fn paths_that_stay_in_the_folder(rt: HostRuntime) {
     assert!(rt; is_looked_for(&rt, "a\0b") == Some(false));
 }
 
-// Each kind of error by which the first look is refused, what the shelf answers, and how often it looks.
-static REFUSALS: [(ErrorKind, &str, u32); 4] = [
-    (ErrorKind::Interrupted, "there", 2),
-    (ErrorKind::NotFound, "absent", 1),
-    (ErrorKind::OutOfMemory, "out of memory", 1),
-    (ErrorKind::IsADirectory, "failed", 1),
+// Whether the look (1) or the opening behind it (2) is refused, by which kind of error; what the shelf answers, and how often it
+// looks and opens in all.
+static REFUSALS: [(u32, ErrorKind, &str, u32); 8] = [
+    (1, ErrorKind::Interrupted, "there", 3),
+    (1, ErrorKind::NotFound, "absent", 1),
+    (1, ErrorKind::OutOfMemory, "out of memory", 1),
+    (1, ErrorKind::IsADirectory, "failed", 1),
+    (2, ErrorKind::Interrupted, "there", 4),
+    (2, ErrorKind::NotFound, "absent", 2),
+    (2, ErrorKind::OutOfMemory, "out of memory", 2),
+    (2, ErrorKind::IsADirectory, "failed", 2),
 ];
 
 #[test]
 fn an_interrupted_call_is_made_again(rt: HostRuntime) -> Result<(), Fail> {
     fs::write(&rt, "twice", "two")?;
-    for (refusal, answer, count) in &REFUSALS {
-        let (given, looked) = answer_of(&rt, *refusal, "twice");
-        assert!(rt; given == *answer && looked == *count, "{answer}");
+    for (refused, refusal, answer, count) in &REFUSALS {
+        let (given, looked) = answer_of(&rt, *refused, *refusal, "twice");
+        assert!(rt; given == *answer && looked == *count, "{refused} {answer}");
     }
     fs::remove_file(&rt, "twice")?;
     Ok(())
