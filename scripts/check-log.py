@@ -194,7 +194,7 @@ def wrong_words(check):
 
 def levels(check):
     known = "is none of off, error, warn, info, debug and trace: info is used"
-    exported = info("shelf_io::words", "2 of 2 files written, 0 were the same; 0 removed")
+    exported = info("shelf_io::logging", "2 of 2 files written, 0 were the same; 0 removed")
     check.run(["export"], exported)
     check.run(["export"], warn("hipsd", f'HIPSD_LOG = "loud" {known}') + exported, level="loud")
     check.run(["export"], warn("hipsd", f"HIPSD_LOG {known}") + exported, level=b"\xff")
@@ -275,27 +275,27 @@ LEAVES = [
 
 
 def descriptions(check):
-    check.run(["verify"], error("shelf_io::words", "there is no file survey.conf, which describes the survey"), files={})
+    check.run(["verify"], error("shelf_io::logging", "there is no file survey.conf, which describes the survey"), files={})
     for row in DESCRIPTIONS.strip().splitlines():
         old, new, more, told = row.split("|")
         text = SURVEY.description().decode()
         number = text.splitlines().index(old) + 1 if old else len(text.splitlines()) + 1
         text = text.replace(old, new, 1) if old else f"{text}{more}\n"
         told = told.replace("L,", f"{number},", 1).replace("FLOATING", FLOATING)
-        check.run(["verify"], error("shelf_io::words", f"survey.conf: {told}"), files={"survey.conf": text.encode()})
+        check.run(["verify"], error("shelf_io::logging", f"survey.conf: {told}"), files={"survey.conf": text.encode()})
     keys = "creator_did, obs_title, hips_release_date, hips_status, hips_order, survey_bitpix, survey_blank"
-    check.run(["verify"], error("shelf_io::words", f"survey.conf: missing: {keys}"), files={"survey.conf": b"# none"})
+    check.run(["verify"], error("shelf_io::logging", f"survey.conf: missing: {keys}"), files={"survey.conf": b"# none"})
     extra = {"survey.conf": SURVEY.description() + b"hips_frames = equatorial\nobs_tilte = x\nhips_orrder_min = 0\nhips_tile_fromat = fits\nob_title = x\n"}
     likely = ("hips_frames", "hips_frame"), ("hips_orrder_min", "hips_order_min"), ("ob_title", "obs_title")
-    known = warn("shelf_io::words", *(f"survey.conf: the key {key} has no meaning here; {it} is a known one" for key, it in likely))
-    check.run(["export"], known + info("shelf_io::words", "2 of 2 files written, 0 were the same; 0 removed"), files=extra)
+    known = warn("shelf_io::logging", *(f"survey.conf: the key {key} has no meaning here; {it} is a known one" for key, it in likely))
+    check.run(["export"], known + info("shelf_io::logging", "2 of 2 files written, 0 were the same; 0 removed"), files=extra)
 
 
 def folders(check):
     leaf = tile_path(4, 0)
     for data, fault, look in LEAVES:
         said = f"{leaf} is no tile of this survey ({fault}); it has {len(data)} bytes and looks like {look}"
-        check.run(["verify"], error("shelf_io::words", said), files=CONF | {leaf: data})
+        check.run(["verify"], error("shelf_io::logging", said), files=CONF | {leaf: data})
     near = "files that look like tiles and are none: {}, as {}; tile 7 would be Norder4/Dir0/Npix7.fits, and "
     near += "Dir is the greatest multiple of 10000 up to the number"
     above = "{} tiles are of an order above 4, that of the leaves, as {}: they aren't read, and export removes them"
@@ -303,7 +303,7 @@ def folders(check):
     other = "no tile is of order 4, that of the leaves: with hips_order = {} in survey.conf the {} tiles of order {} would be the leaves"
     strays = "{} files aren't of this survey, and export removes them: {}"
     removed = warn("shelf_io::differences", strays.format(1, "1 tiles of order 5"))
-    written = info("shelf_io::words", "2 of 2 files written, 0 were the same; 1 removed")
+    written = info("shelf_io::logging", "2 of 2 files written, 0 were the same; 1 removed")
     said = warn("shelf_io::near_leaf", near.format(1, one), other.format(5, 1, 5))
     check.run(["export"], said + removed + written, files=CONF | {one: b"", deep: b""})
     lower = {tile_path(3, npix): b"" for npix in range(3)} | {tile_path(2, 0): b"", "Norder3/Allsky.fits": b""}
@@ -320,7 +320,7 @@ def folders(check):
     (folder / "Norder3").mkdir()
     (folder / "Norder3/Allsky.link").symlink_to("nowhere")
     removed = warn("shelf_io::differences", strays.format(2, "1 tiles of order 6, 1 tiles of order 5"))
-    check.run(["export"], said + removed + info("shelf_io::words", "2 of 5 files written, 3 were the same; 2 removed"), folder=folder)
+    check.run(["export"], said + removed + info("shelf_io::logging", "2 of 5 files written, 3 were the same; 2 removed"), folder=folder)
     check.run(["verify"], said[:1], folder=folder)
 
 
@@ -366,14 +366,14 @@ def special_files(check):
     (folder / tile_path(4, 2)).symlink_to("nowhere")
     os.mkfifo(folder / tile_path(4, 3))
     said = warn("survey_link::listing", ODD.format(3, "~"))
-    check.run(["export"], said + info("shelf_io::words", "# of 5 files written, # were the same; 0 removed"), folder=folder)
+    check.run(["export"], said + info("shelf_io::logging", "# of 5 files written, # were the same; 0 removed"), folder=folder)
 
 
 def too_many(check):
     """257 leaves of 512 by 512 pixels of 64 bits, of which none is read."""
     many = {tile_path(4, npix): b"" for npix in range(257)}
     said = f"the 257 leaves need {257 << 21} bytes, and {1 << 29} are allowed"
-    check.run(["verify"], error("shelf_io::words", said), files={"survey.conf": WIDE} | many)
+    check.run(["verify"], error("shelf_io::logging", said), files={"survey.conf": WIDE} | many)
 
 
 def folder_faults(check):
@@ -388,7 +388,7 @@ def folder_faults(check):
         check.run(words.split(), odd + error("hipsd::faults", fault), files=files, given=b"5\t0\ta\t\n")
     peer = Peer(replies({}))
     peer.start()
-    said = info("hips_mirror::saying", BUILDING % 0, COPIED) + warn("survey_link::listing", ODD.format(1, "Moc.fits"))
+    said = info("hips_mirror::logging", BUILDING % 0, COPIED) + warn("survey_link::listing", ODD.format(1, "Moc.fits"))
     said += error("hipsd::faults", "can't read Moc.fits: it is no regular file")
     check.run(["mirror", peer.address], said, files={"Moc.fits/file": b""})
     peer.join()
@@ -405,20 +405,20 @@ def folder_faults(check):
 def progress(check):
     leaves = {tile_path(4, npix): image(2, 2, [npix] * 4, ("ORDER", 4), ("NPIX", npix)) for npix in range(3)}
     # Three leaves, one tile above them, the mosaic, the coverage file and the properties.
-    read = info("shelf_io::progress", *(f"leaves read: {at} of 3" for at in range(1, 4)))
-    written = info("shelf_io::progress", *(f"files compared and written: {at} of 7" for at in range(1, 8)))
-    said = read + written + info("shelf_io::words", "4 of 7 files written, 3 were the same; 0 removed")
+    read = info("command_output::progress", *(f"leaves read: {at} of 3" for at in range(1, 4)))
+    written = info("command_output::progress", *(f"files compared and written: {at} of 7" for at in range(1, 8)))
+    said = read + written + info("shelf_io::logging", "4 of 7 files written, 3 were the same; 0 removed")
     folder = check.run(["export"], said, files=CONF | leaves, pace=SECOND)
-    check.run(["verify"], read + info("shelf_io::progress", *(f"files compared: {at} of 7" for at in range(1, 8))), folder=folder, pace=SECOND)
+    check.run(["verify"], read + info("command_output::progress", *(f"files compared: {at} of 7" for at in range(1, 8))), folder=folder, pace=SECOND)
     rows = b"1\t0\ta\t\n2\t1\tb\t\n"
-    said = info("catalog_command::progress", "lines read: 1", "lines read: 2", "tiles written: 1", "tiles written: 2")
-    check.run(["catalog", "1", "1"], said + info("catalog_command::words", "2 rows in 2 tiles"), given=rows, pace=SECOND)
+    said = info("command_output::progress", "lines read: 1", "lines read: 2", "tiles written: 1", "tiles written: 2")
+    check.run(["catalog", "1", "1"], said + info("catalog_command::logging", "2 rows in 2 tiles"), given=rows, pace=SECOND)
     # By a clock of 0.4 seconds each third part is said, of those that are counted from the last one that was.
-    said = info("shelf_io::progress", "leaves read: 3 of 3", "files compared: 3 of 7", "files compared: 6 of 7")
+    said = info("command_output::progress", "leaves read: 3 of 3", "files compared: 3 of 7", "files compared: 6 of 7")
     check.run(["verify"], said, folder=folder, pace=400)
     rows = b"".join(b"%d\t%d\ta%d\t\n" % (row, row, row) for row in range(7))
-    said = info("catalog_command::progress", *(f"lines read: {at}" for at in (3, 6)), *(f"tiles written: {at}" for at in (3, 6)))
-    check.run(["catalog", "1", "1"], said + info("catalog_command::words", "7 rows in 7 tiles"), given=rows, pace=400)
+    said = info("command_output::progress", *(f"lines read: {at}" for at in (3, 6)), *(f"tiles written: {at}" for at in (3, 6)))
+    check.run(["catalog", "1", "1"], said + info("catalog_command::logging", "7 rows in 7 tiles"), given=rows, pace=400)
 
 
 # ---- the lines of a catalogue
@@ -440,13 +440,13 @@ ROWS = [
 def catalogues(check):
     for given, line, kind, fault in ROWS:
         given = given if given.endswith(b"\n") else given + b"\n"
-        check.run(["catalog", "1", "1"], error("catalog_command::words", f"line {line} (kind {kind}): {fault}"), given=given, level="error")
+        check.run(["catalog", "1", "1"], error("catalog_command::logging", f"line {line} (kind {kind}): {fault}"), given=given, level="error")
     full = b"".join(b"5\t0\t%d\t\n" % row for row in range(1_000_001))
     said = "line 1000001 (kind 8): a catalogue has at most 1000000 rows"
-    check.run(["catalog", "1", "1"], error("catalog_command::words", said), given=full, level="error")
+    check.run(["catalog", "1", "1"], error("catalog_command::logging", said), given=full, level="error")
     cut = "the last line has no line feed: the input may be cut off"
-    check.run(["catalog", "1", "1"], error("catalog_command::words", cut), given=b"5\t0\ta\t")
-    check.run(["catalog", "1", "1"], info("catalog_command::words", "1 rows in 1 tiles"), given=b"5\t0\ta\t\n")
+    check.run(["catalog", "1", "1"], error("catalog_command::logging", cut), given=b"5\t0\ta\t")
+    check.run(["catalog", "1", "1"], info("catalog_command::logging", "1 rows in 1 tiles"), given=b"5\t0\ta\t\n")
 
 
 # ---- records of the past
@@ -457,9 +457,9 @@ def records(check):
     reads = b"read 1 properties\nread 2 properties\nread 0 properties\nread 2 x\n"
     made = [f"state {k} was made from state {base}: {tiles} tiles built in # ms" for k, base, tiles in ((1, 0, 1), (2, 1, 1), (0, 0, 0))]
     check.run(["past", "2"], [], given=batch + batch + reads)
-    check.run(["past", "2"], debug("past_reads::saying", *made), given=batch + batch + reads, level="debug")
+    check.run(["past", "2"], debug("past_reads::logging", *made), given=batch + batch + reads, level="debug")
     made = [line.replace("#", "1000") for line in made]
-    check.run(["past", "2"], debug("past_reads::saying", *made), given=batch + batch + reads, level="debug", pace=SECOND)
+    check.run(["past", "2"], debug("past_reads::logging", *made), given=batch + batch + reads, level="debug", pace=SECOND)
     form = 'record 1, counted from 0, is malformed: its line must be "batch LENGTH" or "read K PATH", up to 128 bytes with its line feed, '
     form += "numbers in plain decimals, K below 2^32, LENGTH up to that of the longest batch of this survey"
     check.run(["past", "1"], error("survey_commands::past", form), given=b"read 1 x\nlook\n")
@@ -509,7 +509,7 @@ def accepted(line):
     return line.split()[0] in ("PUT", "DELETE") and line.split()[2] in ("201", "204")
 
 
-PUBLISHED = info("hips_http::saying", "published 4 edits, 4 of 4 in all: 1 tiles built in # ms")
+PUBLISHED = info("hips_http::logging", "published 4 edits, 4 of 4 in all: 1 tiles built in # ms")
 # Heads that are refused by their framing, with the code and its reason.
 REFUSED = [
     (b"GET / HTTP/2.0\r\nHost: a\r\n\r\n", 505, "http_version_not_supported"),
@@ -660,7 +660,7 @@ def servers(check):
         name = f"connection{{place=1 number={number}}}:"
         wanted += debug("client", f"{name} 127.0.0.1:#")
         published = f"{name} published 1 edits, 1 of 1 in all: 1 tiles built in # ms"
-        wanted += info("hips_http::saying", published) if b"publish" in requests else []
+        wanted += info("hips_http::logging", published) if b"publish" in requests else []
         for answer in answers:
             wanted += info("hips_http::room", f"{name} edit 1 puts {LEAF_ASKED[1:]}") if accepted(answer) else []
             wanted += debug("request", f"{name} {answer}")
@@ -786,7 +786,7 @@ def publications(check):
     for number in (1, 2):
         name = "connection{place=~ number=1}:"
         wanted += info("hips_http::room", f"{name} edit {number} puts {LEAF_ASKED[1:]}")
-        wanted += info("hips_http::saying", f"{name} published 1 edits, {number} of {number} in all: 1 tiles built in # ms")
+        wanted += info("hips_http::logging", f"{name} published 1 edits, {number} of {number} in all: 1 tiles built in # ms")
     wanted += took(1) * 3
     wanted += info("survey_commands::serve", f"all places have ended: Done. {GONE}")
     check.compare(["serve"], said, wanted)
@@ -827,7 +827,7 @@ def addresses(check):
     check.run(["serve", f"localhost:{port}", "1", "1"], THIS + error("hipsd", f"can't listen at localhost:{port}: {REFUSAL}"))
     for server in taken:
         server.close()
-    absent = error("shelf_io::words", "there is no file survey.conf, which describes the survey")
+    absent = error("shelf_io::logging", "there is no file survey.conf, which describes the survey")
     check.run(["serve", "127.0.0.1:0", "1", "1"], THIS + absent, files={})
 
 
@@ -912,11 +912,11 @@ def large(check):
     survey = Survey("log", "Survey log", top=4, low=3, width=512)
     tiles = [image(512, 512, [npix] * 262_144, ("ORDER", 4), ("NPIX", npix)) for npix in (0, 1)]
     first = [replied(b"pinned 7\n"), replied(survey.properties([0, 1])), replied(survey.coverage([0, 1])), replied(tiles[0])]
-    parts = info("hips_mirror::progress", "leaves copied: 1 of 2, 0 MB", "leaves copied: 2 of 2, 1 MB")
+    parts = info("command_output::progress", "leaves copied: 1 of 2", "leaves copied: 2 of 2")
     fault = "GET /Norder4/Dir0/Npix1.fits (request 4): the body is no tile of the survey: 1 header 1"
     for last, said in (
-        (tiles[1], parts + error("hips_mirror::saying", "GET /Norder3/Allsky.fits (request 5): the connection ended within the reply")),
-        (b"none", parts[:1] + error("hips_mirror::saying", fault)),
+        (tiles[1], parts + error("hips_mirror::logging", "GET /Norder3/Allsky.fits (request 5): the connection ended within the reply")),
+        (b"none", parts[:1] + error("hips_mirror::logging", fault)),
     ):
         peer = Peer([*first, replied(last)])
         peer.start()
@@ -934,16 +934,16 @@ def copies(check):
         check.run(["mirror", address], [line.replace("PEER", address) for line in wanted], files={}, pace=pace)
         peer.join()
 
-    built = info("hips_mirror::saying", BUILDING % 1)
+    built = info("hips_mirror::logging", BUILDING % 1)
 
     def refused(text, told=(), **given):
-        copied([*told, *error("hips_mirror::saying", text)], **given)
+        copied([*told, *error("hips_mirror::logging", text)], **given)
 
-    whole = info("shelf_io::words", "5 of 5 files written, 0 were the same; 0 removed")
+    whole = info("shelf_io::logging", "5 of 5 files written, 0 were the same; 0 removed")
     whole += info("survey_commands::mirror", "the folder has the copy: 5 files")
-    same = info("hips_mirror::saying", COPIED)
-    parts = info("hips_mirror::progress", "leaves copied: 1 of 1, 0 MB") + built + same
-    parts += info("shelf_io::progress", *(f"files compared and written: {at} of 5" for at in range(1, 6)))
+    same = info("hips_mirror::logging", COPIED)
+    parts = info("command_output::progress", "leaves copied: 1 of 1") + built + same
+    parts += info("command_output::progress", *(f"files compared and written: {at} of 5" for at in range(1, 6)))
     copied(built + same + whole)
     copied(built + same + whole, host="localhost")
     copied(parts + whole, pace=SECOND)
@@ -978,7 +978,7 @@ def copies(check):
     refused(f"GET /properties (request 1): {differs}", built, properties=replied(SURVEY.properties([0, 1])))
     refused(f"GET /Norder3/Allsky.fits (request 4): {differs}", built, mosaic=replied(SURVEY.mosaic({0: [1, 2, 3, 9]})))
     broken = "can't read what PEER sends: the connection broke off, or it was silent for too long"
-    half = error("hips_mirror::saying", "GET /properties (request 1): the reply didn't come, or not whole")
+    half = error("hips_mirror::logging", "GET /properties (request 1): the reply didn't come, or not whole")
     copied(half + error("hipsd::faults", broken), properties=None)
     # A peer that is silent.
     copied(half + error("hipsd::faults", broken), properties=b"")

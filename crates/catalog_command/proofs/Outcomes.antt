@@ -5,6 +5,7 @@ use Rattle.survey_link.specs.Link.{CountsFault}
 use Rattle.survey_link.specs.Shelf.{ShelfFiles, shelf_failed}
 use Rattle.survey_link.specs.declared.faults.LinkFault.{LinkFault}
 use Rattle.survey_link.specs.declared.faults.LinkFault.TheVariants.{Failed, OutOfMemory as NoMemory}
+use Rattle.command_output.specs.Output.{SinkBytes}
 use Rattle.hips_catalog.specs.Catalogue.{Catalogue}
 use Rattle.catalog_command.specs.declared.refusal.CatalogRefusal.{CatalogRefusal}
 use Rattle.catalog_command.specs.declared.refusal.CatalogRefusal.TheVariants.{Cut, Line, ReadFault, ShelfFault, OutOfMemory}
@@ -52,9 +53,9 @@ module _ (top per_tile : ℕ) (left left' : Option (List ℕ)) (old new : Option
       of_each _ _ left left' (λ input given. ok_and (catalogue_of top per_tile input) catalogue (λ c. (counts ≡ counts_of c) × OnFiles (IsReplaced c) old new) given (counted, done)) gives
 
   -- and what came of it was said
-  pub runs : (outcome : Result Counts CatalogRefusal) (status : ℕ) (held held' flushed flushed' : Option (List ℕ)) → Outcome new outcome → SaysOutcome outcome status held held' flushed flushed'
-      → OfInput (λ input. RunsCatalog top per_tile input old new status held held' flushed flushed') left left'
-  runs outcome status held held' flushed flushed' is said = of_each _ _ left left' (λ input given. (outcome, (given, said))) is
+  pub runs : (outcome : Result Counts CatalogRefusal) (status : ℕ) (sink sink' : SinkBytes) → Outcome new outcome → SaysOutcome outcome status sink sink'
+      → OfInput (λ input. RunsCatalog top per_tile input old new status sink sink') left left'
+  runs outcome status sink sink' is said = of_each _ _ left left' (λ input given. (outcome, (given, said))) is
 
 -- ---- counts of the shelf's faults
 

@@ -1,8 +1,7 @@
 -- What `catalog` does: it reads lines, and puts the tiles of their catalogue on the shelf.
-use Rattle.std.specs.Prelude.{◌≡◌, ◌⊎◌, ℕ, List, [], ◌∷◌, ◌++◌, length, Option, Result, Ok, Err, IsOkAnd, codes, decimal}
-use Rattle.std.specs.Io.KnownBytes.{Appends}
-use Rattle.survey_link.specs.Link.{AppendsPrefix}
+use Rattle.std.specs.Prelude.{◌≡◌, ◌⊎◌, ℕ, List, ◌++◌, length, Option, Result, Ok, Err, IsOkAnd, codes, decimal}
 use Rattle.survey_link.specs.Shelf.{ShelfFiles}
+use Rattle.command_output.specs.Output.{SinkBytes, line_of, Says, EndsBy}
 use Rattle.hips_catalog.specs.Catalogue.{Catalogue, existing_tiles}
 use Rattle.hips_catalog.specs.Texts.{fault_number}
 use Rattle.catalog_command.specs.declared.refusal.LineFault.{LineFault}
@@ -31,30 +30,7 @@ bad_line_text bad = codes "row " ++ (decimal bad.line ++ (codes " " ++ decimal (
 abbrev pub counts_text : Counts → List ℕ
 counts_text counts = codes "rows " ++ (decimal counts.rows ++ (codes " tiles " ++ decimal counts.tiles))
 
--- a text as a line
-abbrev pub line_of : List ℕ → List ℕ
-line_of text = text ++ 10 ∷ []
-
--- the line was written and all that the sink holds was flushed
-pub record IsWritten (line : List ℕ) (held held' handed' : Option (List ℕ)) : Type 0 where
-  pub appended : Appends held held' line
-  pub flushed : handed' ≡ held'
-
--- nothing was written
-pub record IsSilent (held held' handed handed' : Option (List ℕ)) : Type 0 where
-  pub kept : held' ≡ held
-  pub flushed : handed' ≡ handed
-
--- the line was written, and the status is the command's own; or the sink failed at it, or there was no memory for it
-abbrev pub Says : ℕ → List ℕ → ℕ → Option (List ℕ) → Option (List ℕ) → Option (List ℕ) → Option (List ℕ) → Type 0
-Says own line status held held' handed handed' = ((status ≡ own) × IsWritten line held held' handed')
-    ⊎ (((status ≡ 6) × AppendsPrefix held held' line) ⊎ ((status ≡ 11) × IsSilent held held' handed handed'))
-
--- the status and nothing else
-abbrev pub EndsBy : ℕ → ℕ → Option (List ℕ) → Option (List ℕ) → Option (List ℕ) → Option (List ℕ) → Type 0
-EndsBy own status held held' handed handed' = (status ≡ own) × IsSilent held held' handed handed'
-
-abbrev pub SaysOutcome : Result Counts CatalogRefusal → ℕ → Option (List ℕ) → Option (List ℕ) → Option (List ℕ) → Option (List ℕ) → Type 0
+abbrev pub SaysOutcome : Result Counts CatalogRefusal → ℕ → SinkBytes → SinkBytes → Type 0
 SaysOutcome (Ok counts) = Says 0 (line_of (counts_text counts))
 SaysOutcome (Err (Line bad)) = Says 16 (line_of (bad_line_text bad))
 SaysOutcome (Err Cut) = EndsBy 4
@@ -77,8 +53,7 @@ IsOutcome given old new (Err ReadFault) = new ≡ old
 IsOutcome given old new (Err ShelfFault) = IsOkAnd given (λ catalogue. OnFiles (IsUnfinished catalogue) old new)
 IsOutcome given old new (Err OutOfMemory) = (new ≡ old) ⊎ IsOkAnd given (λ catalogue. OnFiles (IsUnfinished catalogue) old new)
 
--- `catalog`, of this input, over the files before and after, with its status, what the sink holds before and after, and what was
--- flushed
-abbrev pub RunsCatalog : ℕ → ℕ → List ℕ → Option ShelfFiles → Option ShelfFiles → ℕ → Option (List ℕ) → Option (List ℕ) → Option (List ℕ) → Option (List ℕ) → Type 0
-RunsCatalog top per_tile input old new status held held' handed handed' =
-    (outcome : Result Counts CatalogRefusal) × (IsOutcome (catalogue_of top per_tile input) old new outcome × SaysOutcome outcome status held held' handed handed')
+-- `catalog`, of this input, over the files before and after, with its status, and the sink before and after
+abbrev pub RunsCatalog : ℕ → ℕ → List ℕ → Option ShelfFiles → Option ShelfFiles → ℕ → SinkBytes → SinkBytes → Type 0
+RunsCatalog top per_tile input old new status sink sink' =
+    (outcome : Result Counts CatalogRefusal) × (IsOutcome (catalogue_of top per_tile input) old new outcome × SaysOutcome outcome status sink sink')

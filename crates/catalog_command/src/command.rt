@@ -2,17 +2,18 @@
 ghost use Rattle.std.specs.Prelude.{◌≡◌, ◌≢◌, ℕ, ◌≤◌, List, Some, IfOk, OnOk, nat_eq, Err};
 ghost use Rattle.std.specs.Io.KnownBytes.{IsAtEnd};
 ghost use Rattle.survey_link.specs.Link.{CountsFault};
+ghost use Rattle.command_output.specs.Output.{sink_bytes};
 ghost use Rattle.catalog_command.specs.Input.{OfInput};
 ghost use Rattle.catalog_command.specs.Lines.{catalogue_of};
 ghost use Rattle.catalog_command.specs.Stops.{read_failed, stopped_at_shelf};
 ghost use Rattle.catalog_command.specs.Run.{RunsCatalog, IsOutcome, SaysOutcome};
 
 use crate::counts::Counts;
-use crate::output::say;
+use crate::logging::{say_stop, say_written};
 use crate::reading::read_catalog;
 use crate::refusal::CatalogRefusal;
 use crate::tiles::put_tiles;
-use crate::words::{say_stop, say_written};
+use command_output::say;
 use log::Log;
 use std::alloc::Global;
 use std::time::Clock;
@@ -47,7 +48,7 @@ where
     requires least { 1 ≤ per_tile }
     requires most { per_tile ≤ 4096 }
     ensures run { OfInput (λ input. RunsCatalog top per_tile input (H.files shelf.old) (H.files shelf.new) result
-        (K.held sink.old) (K.held sink.new) (K.flushed sink.old) (K.flushed sink.new)) (S.left source.old) (S.left source.new) }
+        (sink_bytes K.Sink sink.old) (sink_bytes K.Sink sink.new)) (S.left source.old) (S.left source.new) }
     ensures end { result ≡ 0 → IsAtEnd (S.left source.new) }
     ensures not_usage { result ≢ 1 }
     ensures not_opened { (result ≢ 2) × (result ≢ 3) }
@@ -95,7 +96,7 @@ where
 
 // Writes why there is no catalogue, if that is written, and answers the status.
 fn end_by<K: Sink>(alloc: Global, sink: &mut K, stop: CatalogRefusal) -> u8
-    ensures said { SaysOutcome (Err stop) result (K.held sink.old) (K.held sink.new) (K.flushed sink.old) (K.flushed sink.new) }
+    ensures said { SaysOutcome (Err stop) result (sink_bytes K.Sink sink.old) (sink_bytes K.Sink sink.new) }
     ensures not_usage { result ≢ 1 }
     ensures not_opened { (result ≢ 2) × (result ≢ 3) }
     ensures not_door { result ≢ 8 }

@@ -10,14 +10,12 @@ mod found;
 pub mod laws;
 mod line;
 mod lines;
+mod logging;
 mod many;
-mod output;
-mod progress;
 mod reading;
 mod refusal;
 mod tile_name;
 mod tiles;
-mod words;
 
 pub use command::run_catalog;
 pub use counts::Counts;

@@ -12,8 +12,8 @@ ghost use Rattle.catalog_command.specs.Judging.{judged, numbered, TakesLine};
 use crate::found::Found;
 use crate::line::{LineRefusal, use_line};
 use crate::lines::{ROOM, find};
-use crate::progress::Progress;
 use crate::refusal::{BadLine, CatalogRefusal, LineFault};
+use command_output::Progress;
 use hips_catalog::Catalog;
 use log::Log;
 use std::alloc::Global;
@@ -46,7 +46,7 @@ pub(crate) fn read_catalog<R: AllocGlobal + Clock + Log, S: Source>(
 {
     let mut catalog = Catalog::new(rt.alloc(), top, per_tile);
     let mut inbox = Inbox::new(rt.alloc(), ROOM)?;
-    let mut progress = Progress::begin(rt, "lines read");
+    let mut progress = Progress::begin(rt, "lines read", None);
     let mut number = 1;
     'lines: loop {
         if !take_line(rt.alloc(), &mut inbox, source, number, top, &mut catalog)? {

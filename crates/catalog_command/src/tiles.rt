@@ -8,8 +8,8 @@ ghost use Rattle.hips_catalog.specs.TileText.{tile_text};
 ghost use Rattle.catalog_command.specs.Files.{OnFiles, OnOneShelf, IsReplaced, IsUnfinished, IsCleared, IsClearing, IsFilled, IsFilling};
 ghost use Rattle.catalog_command.specs.Steps.{Clears, ClearsPath, IsTilePath, HasRight, FillsTile};
 
-use crate::progress::Progress;
 use crate::tile_name::tile_name;
+use command_output::Progress;
 use healpix_nested::Cell;
 use hips_catalog::Catalog;
 use log::Log;
@@ -126,7 +126,7 @@ fn fill<R: AllocGlobal + Clock + Log, H: Shelf>(
     // For the prover: two tiles have two paths, and the catalogue's orders end at 11.
     catalogue_spellings_differ();
     let _rows = catalog.len();
-    let mut progress = Progress::begin(rt, "tiles written");
+    let mut progress = Progress::begin(rt, "tiles written", None);
     let mut count = 0;
     'tiles: while let Some(cell) = catalog.tile(count) {
         fill_tile(rt.alloc(), shelf, catalog, cell)?;

@@ -10,6 +10,7 @@ pub mod Pyramids
 pub mod FileLemmas
 pub mod Changing
 pub mod Mosaics
+pub mod NoFile
 pub mod Paths
 pub mod Over
 pub mod Presence

@@ -7,7 +7,7 @@ ghost use Rattle.hips_catalog.specs.Kept.{StandsAt, WouldStandAt};
 ghost use Rattle.hips_catalog.specs.TileText.{tile_text};
 ghost use Rattle.hips_catalog.specs.declared.refusal.InsertRefusal.TheVariants.{Twice, Full};
 
-use crate::named::{After, Named};
+use crate::headed_row::{After, HeadedRow};
 use crate::ranked::Ranked;
 use crate::refusal::InsertRefusal;
 use crate::rise::rise;
@@ -28,7 +28,7 @@ pub const MOST_ROWS: usize = 1_000_000;
 // A row that can be put in without memory: its place among the ids, and that in a tile.
 #[derive(Drop)]
 struct Ready {
-    listed: Item<Named>,
+    listed: Item<HeadedRow>,
     placed: Item<Ranked>,
 }
 
@@ -41,7 +41,7 @@ pub struct Catalog {
     top: u8,
     per_tile: usize,
     // By ascending ids.
-    ids: BalancedList<Named>,
+    ids: BalancedList<HeadedRow>,
     tiles: Tiles,
     spares: Spares,
 }
@@ -184,7 +184,7 @@ impl Catalog {
     {
         let row = Arc::new(self.alloc, row)?;
         Ok(Ready {
-            listed: Item::new(self.alloc, Named::new(row.clone()?))?,
+            listed: Item::new(self.alloc, HeadedRow::new(row.clone()?))?,
             placed: Item::new(self.alloc, Ranked::new(row))?,
         })
     }

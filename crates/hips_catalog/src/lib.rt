@@ -7,8 +7,8 @@
 
 mod catalog;
 mod fault;
+mod headed_row;
 pub mod laws;
-mod named;
 mod ranked;
 mod read;
 mod refusal;

@@ -1,5 +1,5 @@
 -- Files, as they are answered.
-use Rattle.std.proofs.Common.{◌≡◌, ℕ, ◌+◌, ◌-◌, ◌<◌, ◌≤◌, inl, inr, List, length, Option, Some, None, refl, sym, ap, subst, ◌∙◌, arith}
+use Rattle.std.proofs.Common.{◌≡◌, ℕ, ◌+◌, ◌-◌, ◌<◌, ◌≤◌, inl, inr, Bool, List, ◌++◌, length, length-append, Option, Some, None, refl, sym, ap, subst, ◌∙◌, arith}
 use Rattle.std.specs.Prelude.{slice_get, unwrap_or, option_map, IsSome}
 use Rattle.std.proofs.lemmas.Bool.{true≢false}
 use Rattle.std.specs.Option.{option_map_or}
@@ -13,9 +13,17 @@ use Rattle.survey_core.specs.Reply.{file_at}
 use Rattle.reader_pin.specs.SeatLaws.{keeps_itself}
 use Rattle.reader_pin.specs.Board.{BoardContent, IsOwned, Stays, last_seen, state_in}
 use Rattle.hips_http.specs.declared.call.Call.TheVariants as call
-use Rattle.hips_http.specs.Replies.{found_answer, not_found, file_answer}
+use Rattle.tile_path.specs.Spelling.{spelling}
+use Rattle.http_frame.specs.declared.request.Request.{Request}
+use Rattle.http_frame.specs.declared.reply.Allow.TheVariants as allow
+use Rattle.http_frame.specs.declared.reply.Kind.{Kind}
+use Rattle.http_frame.specs.declared.reply.Number.TheVariants as number
+use Rattle.http_frame.specs.declared.reply.Reply.{Reply}
+use Rattle.http_frame.specs.Reply.{reply_bytes}
+use Rattle.hips_http.specs.Paths.{IsFilePath}
+use Rattle.hips_http.specs.Replies.{Answer, IsReplyOf, sent_body, file_kind, found_answer, not_found, file_answer}
 use Rattle.hips_http.specs.Answers.{Asking}
-use Rattle.hips_http.specs.Progress.{IsHeld, Looks, Serves}
+use Rattle.hips_http.specs.Progress.{IsHeld, Looks, Serves, reply_of}
 use Rattle.hips_http.proofs.Points.{IsFound, last_there, kept_point, kept_at, kept_keeps, place_rises}
 use Rattle.hips_http.proofs.Changes.{stays_itself}
 
@@ -26,6 +34,22 @@ path_found tip path (Some file) = refl
 pub file_found : (conf : Description) (opening : LeafTiles) (state : SurveyState) (path : Option (List ℕ)) → IsFound (file_answer conf opening state path)
 file_found conf opening state None = refl
 file_found conf opening state (Some path) = path_found state.tip path (file_at conf opening state path)
+
+-- the answer at the path of a file
+pub answered_by : (conf : Description) (opening : LeafTiles) (state : SurveyState) (path : Option (List ℕ)) (file : Path) → IsFilePath path file
+    → file_answer conf opening state path ≡ option_map_or (found_answer state.tip (spelling file)) (file_at conf opening state (spelling file)) (not_found state.tip)
+answered_by conf opening state path file is =
+    subst (λ (p : Option (List ℕ)). file_answer conf opening state p ≡ option_map_or (found_answer state.tip (spelling file)) (file_at conf opening state (spelling file)) (not_found state.tip)) (sym is.spelled) refl
+
+-- the reply with a file, whose bytes are three parts
+pub found_is : (close : Bool) (tip tip' : ℕ) (path : List ℕ) (kind : Kind) (front kept zeros : List ℕ) → kind ≡ file_kind path → tip' ≡ tip
+    → IsReplyOf close (found_answer tip path (front ++ kept ++ zeros))
+    (record { code = 200; allow = allow.Absent; kind = kind; number = number.Prefix tip'; length = length front + length kept + length zeros; close = close }) (front ++ kept ++ zeros)
+found_is close tip tip' path kind front kept zeros kind_is tip_is = record { head_is = rw (kind_is, tip_is, length-append (front ++ kept) zeros, length-append front kept) refl; body_is = refl }
+
+-- the bytes of a reply whose head and body these are
+pub reply_is : (close : Bool) (asked : Request) (answer : Answer) (head : Reply) (body sent : List ℕ) → IsReplyOf close answer head body → sent ≡ sent_body asked.method body → reply_bytes head sent ≡ reply_of close asked answer
+reply_is close asked answer head body sent is sent_is = rw (is.head_is, sent_is, is.body_is) refl
 
 none_held : (states : List SurveyState) (place : Option ℕ) (held : Option SurveyState) → IsHeld states place held → held ≡ None → place ≡ None
 none_held states None held is none = refl

@@ -7,10 +7,11 @@ use Rattle.std.proofs.lemmas.List.{take-append-drop, take-append-le}
 use Rattle.std.proofs.lemmas.List.Folds.{concat-append}
 use Rattle.survey_link.specs.Door.{Connection}
 use Rattle.survey_link.specs.declared.source.Source as source
+use Rattle.survey_link.specs.declared.sink.Sink as sink
 use Rattle.reader_pin.specs.Board.{BoardContent, holding_none}
 use Rattle.hips_http.specs.declared.served.Served.{Served}
 use Rattle.hips_http.specs.declared.served.SessionEnd.{SessionEnd}
-use Rattle.hips_http.specs.Moment.{Moment, ReadsWhere}
+use Rattle.hips_http.specs.Moment.{Moment, connection_of, ReadsWhere}
 use Rattle.hips_http.specs.SessionRun.{room_of, IsServed}
 use Rattle.hips_http.specs.Progress.{IsServedTo}
 use Rattle.hips_http.specs.Readings.{NeedsNext, FollowsReplies}
@@ -111,6 +112,20 @@ reads_from told old released new (Some input) taken back steps steps' served a b
     let o = order_from told old released new (Some input) taken back steps steps' served a b is h in
     let r = o.1 in
     (r.0, reads_for told.left told.readings (FollowsReplies (room_of old.conf) o.0.run.outputs o.0.passed) (NeedsNext (room_of old.conf)) [] [] r.0 (λ more needed. needed.next) a b r.1)
+
+-- so served, with these ends given back
+abbrev pub Ordered : {B S K : Type 0} → source.Ghosts S → sink.Ghosts K → (B → BoardContent) → BoardContent → Option (List ℕ) → Connection → ℕ → Served → S → B → S → K → ℕ → Type 0
+Ordered told told_sink content old unread taken steps served a board src out steps' =
+    IfSome unread (λ input. (s : IsServed old (content board) input taken (connection_of told told_sink src out) steps steps' served) × ReadsWhere told (FollowsReplies (room_of old.conf) s.run.outputs s.passed) [] a src)
+
+-- it is so of the same ends
+pub order_at : {B S K : Type 0} (told : source.Ghosts S) (told_sink : sink.Ghosts K) (content : B → BoardContent) (old : BoardContent) (unread : Option (List ℕ)) (taken : Connection) (steps : ℕ) (served : Served) (a : S)
+    (board board' : B) (src src' : S) (out out' : K) (count count' : ℕ) → board ≡ board' → src ≡ src' → out ≡ out' → count ≡ count'
+    → Ordered told told_sink content old unread taken steps served a board src out count → Ordered told told_sink content old unread taken steps served a board' src' out' count'
+order_at {B} {S} {K} told told_sink content old unread taken steps served a board board' src src' out out' count count' b s o n h =
+    subst (λ (x : B). Ordered told told_sink content old unread taken steps served a x src' out' count') b
+    (subst (λ (x : S). Ordered told told_sink content old unread taken steps served a board x out' count') s
+    (subst (λ (x : K). Ordered told told_sink content old unread taken steps served a board src x count') o (subst (λ (x : ℕ). Ordered told told_sink content old unread taken steps served a board src out x) n h)))
 
 -- without a frame nothing is read
 pub no_order : {S : Type 0} (told : source.Ghosts S) (old new : BoardContent) (unread : Option (List ℕ)) (connection : Connection) (steps : ℕ) (served : Served) (a : S)

@@ -1,6 +1,6 @@
 -- The reply of each case: its code, its fields and its body (RFC 9110, section 15; RFC 4918, section 11.5). The texts of the
 -- bodies and the fields Survey-Prefix and Survey-Edits are this project's profile.
-use Rattle.std.specs.Prelude.{ℕ, Bool, true, List, [], ◌∷◌, ◌++◌, length, codes, decimal, Option, Some, None, if◌then◌else◌}
+use Rattle.std.specs.Prelude.{◌≡◌, ℕ, Bool, true, List, [], ◌∷◌, ◌++◌, length, codes, decimal, Option, Some, None, if◌then◌else◌}
 use Rattle.std.specs.Option.{option_map_or}
 use Rattle.std.specs.Str.{bytes_eq}
 use Rattle.survey_conf.specs.Description.{Description}
@@ -49,6 +49,11 @@ head_of close answer = record {
 abbrev pub sent_body : Method → List ℕ → List ℕ
 sent_body Head body = []
 sent_body _ body = body
+
+-- a head and a body are those of a reply
+pub record IsReplyOf (close : Bool) (answer : Answer) (head : Reply) (body : List ℕ) : Type 0 where
+  pub head_is : head ≡ head_of close answer
+  pub body_is : body ≡ answer.body
 
 -- the bytes that are written if a client waits for 100 Continue
 abbrev pub leave_bytes : Request → List ℕ

@@ -6,7 +6,7 @@ ghost use Rattle.survey_core.specs.History.{IsHistory};
 ghost use Rattle.reader_pin.specs.Board.{IsOwned};
 ghost use Rattle.http_frame.specs.declared.stop.Turn.TheVariants.{AtHead};
 ghost use Rattle.hips_http.specs.SessionRun.{IsServed, Goes, FlushesAll, room_of, most_requests, is_read_fault, is_write_fault};
-ghost use Rattle.hips_http.specs.Moment.{connection_of, input_at, output_at, moment, moment_of, SameEnds, ReadsWhere};
+ghost use Rattle.hips_http.specs.Moment.{connection_of, moment_of, SameEnds, ReadsWhere};
 ghost use Rattle.hips_http.specs.Progress.{ServesAll, IsServedTo};
 ghost use Rattle.hips_http.specs.Readings.{NeedsNext, FollowsReplies};
 ghost use Rattle.hips_http.specs.declared.served.SessionEnd.TheVariants.{WriteFault, OutOfMemory};
@@ -119,8 +119,21 @@ pub fn session_in<
     match frame {
         Some(frame) => {
             frame.clear();
+            let top = top_of(board);
             let means = Means { rt, alloc, gate };
-            return serve_all(&means, frame, board, src, sink, steps);
+            let mut connection = OpenConnection {
+                frame,
+                board,
+                src,
+                sink,
+                steps,
+                memory_faults: 0,
+            };
+            let end = serve_requests(&means, &mut connection, top);
+            return Served {
+                end,
+                memory_faults: connection.memory_faults,
+            };
         }
         None => {
             // For the prover: what a board has seen is a history, and a count fits 64 bits.
@@ -131,47 +144,6 @@ pub fn session_in<
                 memory_faults: 0,
             };
         }
-    }
-}
-
-// Serves one connection over a frame that holds nothing, by a board that holds no state.
-fn serve_all<
-    R: Threads + Sync + Clock + Log,
-    B: ChangedWith<R>,
-    S: Source,
-    K: Sink,
-    G: Gate + Sync,
->(
-    means: &Means<'_, '_, R, G>,
-    frame: &mut Frame,
-    board: &mut B,
-    src: &mut S,
-    sink: &mut K,
-    steps: &mut Steps,
-) -> Served
-    requires empty { frame.old.held ≡ [] }
-    requires turn { frame.old.turn ≡ AtHead }
-    requires room { frame.old.room ≡ room_of (B.content board.old).conf }
-    requires released { (B.content board.old).held ≡ None }
-    ensures serves { ServesAll (moment (input_at S.Source frame.old src.old) (output_at K.Sink sink.old) (B.content board.old) steps.old 0)
-        (moment (input_at S.Source frame.new src.new) (output_at K.Sink sink.new) (B.content board.new) steps.new result.memory_faults) result.end }
-    ensures order { IfSome (S.left src.old) (λ input. (served : IsServedTo (moment (input_at S.Source frame.old src.old) (output_at K.Sink sink.old) (B.content board.old) steps.old 0)
-        (moment (input_at S.Source frame.new src.new) (output_at K.Sink sink.new) (B.content board.new) steps.new result.memory_faults) result.end input)
-        × ReadsWhere S.Source (FollowsReplies (room_of (B.content board.old).conf) served.run.outputs served.passed) [] src.old src.new) }
-{
-    let top = top_of(board);
-    let mut connection = OpenConnection {
-        frame,
-        board,
-        src,
-        sink,
-        steps,
-        memory_faults: 0,
-    };
-    let end = serve_requests(means, &mut connection, top);
-    Served {
-        end,
-        memory_faults: connection.memory_faults,
     }
 }
 

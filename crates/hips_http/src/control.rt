@@ -4,8 +4,8 @@ ghost use Rattle.hips_http.specs.declared.call.Call.TheVariants as call;
 ghost use Rattle.hips_http.specs.Answers.{Asking};
 ghost use Rattle.hips_http.specs.Progress.{Serves};
 
+use crate::logging::Publishing;
 use crate::reply::TextReply;
-use crate::saying::Publishing;
 use dirty_plan::laws::more_touched_is_more_work;
 use log::Log;
 use parent_rule::Steps;

@@ -1,24 +1,17 @@
 //! Files of a published generation.
-ghost use Rattle.std.specs.Prelude.{◌≡◌, ◌++◌, ℕ, option_copied, unwrap_or, Some, None};
+ghost use Rattle.std.specs.Prelude.{◌≡◌, ◌++◌, ℕ, true, List, length, Option, unwrap_or};
 ghost use Rattle.survey_core.specs.State.{survey_state};
 ghost use Rattle.reader_pin.specs.Board.{last_seen, state_in};
 ghost use Rattle.tile_path.specs.Spelling.{spelling};
 ghost use Rattle.hips_http.specs.Paths.{IsPathOf};
-ghost use Rattle.hips_http.specs.Moment.{output_at};
-ghost use Rattle.hips_http.specs.Progress.{FlushesReply, Looks, Sends, reply_of};
-ghost use Rattle.hips_http.specs.Replies.{file_kind, file_answer, not_found, sent_body};
+ghost use Rattle.http_frame.specs.Reply.{is_reply_code};
+ghost use Rattle.hips_http.specs.Progress.{Looks};
+ghost use Rattle.hips_http.specs.Replies.{IsReplyOf, file_kind, file_answer, not_found, sent_body};
 ghost use Rattle.survey_link.specs.Link.{parts_bytes};
 
-use crate::open_connection::Due;
-use crate::reply::TextReply;
-use crate::saying::say_reply;
-use crate::send::send_text;
-use http_frame::{Allow, Kind, Method, Number, Reply, write_reply_parts};
-use log::Log;
+use http_frame::{Allow, Kind, Method, Number, Reply};
 use reader_pin::Board;
-use std::time::Clock;
 use survey_core::State;
-use survey_link::{Failed, Sink};
 use tile_path::Path;
 
 /// Sees the newest state, unless one is held.
@@ -41,75 +34,84 @@ pub(crate) fn shown<B: Board>(board: &B) -> &State
     }
 }
 
-/// Answers GET and HEAD of a path, that of the file or of none, by the state. It takes no memory. The head and the parts of a
-/// file go out by one call where the sink takes all.
-///
-/// # Errors
-///
-/// `Failed` only where the sink's count of faults rose; a prefix may have been written.
-pub(crate) fn send_path<R: Clock + Log, K: Sink>(
-    rt: &R,
-    sink: &mut K,
-    due: &Due,
-    path: Option<&[u8]>,
-    state: &State,
+/// A reply to a request for a file: its head, and its body in three parts, one after another.
+#[derive(Clone, Copy)]
+pub(crate) struct FileReply<'a> {
+    pub(crate) head: Reply,
+    /// Where there is no file, the text that says so.
+    pub(crate) front: &'a [u8],
+    pub(crate) kept: &'a [u8],
+    pub(crate) zeros: &'a [u8],
+}
+
+/// What GET of a file, or of a path that is no file's, is answered by the state. The head of a tile's file is written to
+/// `front`. It takes no memory.
+pub(crate) fn file_reply<'a>(
+    close: bool,
+    state: &'a State,
     file: &Option<Path>,
-) -> Result<(), Failed>
-    requires file { IsPathOf (option_copied path) file.now }
-    ensures sends { Sends (output_at K.Sink sink.old) (output_at K.Sink sink.new) (reply_of due.now.close due.now.request (file_answer state.now.conf state.now.opening (survey_state state.now) (option_copied path.entry))) result }
-    ensures hands { FlushesReply (output_at K.Sink sink.old) (output_at K.Sink sink.new) result }
+    front: &'a mut [u8; 2880],
+) -> FileReply<'a>
+    ensures code { is_reply_code result.head.code ≡ true }
+    ensures length { length (result.front.now ++ result.kept.now ++ result.zeros.now) ≡ result.head.length }
+    ensures answer { (path : Option (List ℕ)) → IsPathOf path file.now
+        → IsReplyOf close (file_answer state.now.conf state.now.opening (survey_state state.now) path) result.head (result.front.now ++ result.kept.now ++ result.zeros.now) }
 {
-    let mut front = [0u8; 2880];
     let file = match file {
         Some(file) => file,
         None => {
             // For the prover: of which orders the tiles are.
             let _orders = state.conf().shape();
-            return send_not_found(rt, sink, due, path, state);
+            return absent_reply(close, state);
         }
     };
-    let parts = match state.generation().file_parts(file, &mut front) {
+    let parts = match state.generation().file_parts(file, front) {
         Some(parts) => parts,
-        None => return send_not_found(rt, sink, due, path, state),
+        None => return absent_reply(close, state),
     };
     let front = &front[..parts.front];
-    let head = Reply {
-        code: 200,
-        allow: Allow::Absent,
-        kind: file_kind(file),
-        number: Number::Prefix(state.tip()),
-        length: front.len() as u64 + parts.kept.len() as u64 + parts.zeros.len() as u64,
-        close: due.close,
-    };
-    let body = sent_parts(due.request.method, front, parts.kept, parts.zeros);
-    let sent = write_reply_parts(sink, &head, body);
-    say_reply(rt, due, path, head.code, head.length, b"");
-    sent
-}
-
-// The parts of a file that are sent: to HEAD none (RFC 9110, section 9.3.2).
-fn sent_parts<'a>(method: Method, front: &'a [u8], kept: &'a [u8], zeros: &'a [u8]) -> [&'a [u8]; 3]
-    ensures { parts_bytes result ≡ sent_body method (front.now ++ kept.now ++ zeros.now) }
-{
-    match method {
-        Method::Head => [&[], &[], &[]],
-        _ => [front, kept, zeros],
+    FileReply {
+        head: Reply {
+            code: 200,
+            allow: Allow::Absent,
+            kind: file_kind(file),
+            number: Number::Prefix(state.tip()),
+            length: front.len() as u64 + parts.kept.len() as u64 + parts.zeros.len() as u64,
+            close,
+        },
+        front,
+        kept: parts.kept,
+        zeros: parts.zeros,
     }
 }
 
 // The reply that there is no file at the path.
-fn send_not_found<R: Clock + Log, K: Sink>(
-    rt: &R,
-    sink: &mut K,
-    due: &Due,
-    path: Option<&[u8]>,
-    state: &State,
-) -> Result<(), Failed>
-    ensures sends { Sends (output_at K.Sink sink.old) (output_at K.Sink sink.new) (reply_of due.now.close due.now.request (not_found state.now.tip)) result }
-    ensures hands { FlushesReply (output_at K.Sink sink.old) (output_at K.Sink sink.new) result }
+fn absent_reply(close: bool, state: &State) -> FileReply<'_>
+    ensures { IsReplyOf close (not_found state.now.tip) result.head (result.front.now ++ result.kept.now ++ result.zeros.now) }
 {
-    let reply = TextReply::not_found(state.tip());
-    send_text(rt, sink, due, path, &reply)
+    FileReply {
+        head: Reply {
+            code: 404,
+            allow: Allow::Absent,
+            kind: Kind::Text,
+            number: Number::Prefix(state.tip()),
+            length: 10,
+            close,
+        },
+        front: b"not found\n",
+        kept: &[],
+        zeros: &[],
+    }
+}
+
+/// The parts of a file that are sent: to HEAD none (RFC 9110, section 9.3.2).
+pub(crate) fn sent_parts<'a>(method: Method, reply: &FileReply<'a>) -> [&'a [u8]; 3]
+    ensures { parts_bytes result ≡ sent_body method (reply.now.front.now ++ reply.now.kept.now ++ reply.now.zeros.now) }
+{
+    match method {
+        Method::Head => [&[], &[], &[]],
+        _ => [reply.front, reply.kept, reply.zeros],
+    }
 }
 
 // The properties are a text, each other file is a FITS file.

@@ -1,7 +1,7 @@
 //! One connection while it is served, in one value, and what its requests are answered with.
 
 use crate::call::Call;
-use crate::saying::Stopwatch;
+use crate::logging::Stopwatch;
 use http_frame::{Frame, Request};
 use parent_rule::Steps;
 use std::alloc::Global;

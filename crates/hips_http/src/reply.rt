@@ -123,13 +123,6 @@ impl TextReply {
         TextReply::of_words(200, Number::Absent, b"released")
     }
 
-    /// There is no such file in the generation of that prefix.
-    pub(crate) fn not_found(tip: u32) -> TextReply
-        ensures { result ≡ Replies.not_found tip }
-    {
-        TextReply::of_words(404, Number::Prefix(tip), b"not found")
-    }
-
     /// An edit was accepted; there are so many now.
     pub(crate) fn edited(there: bool, edits: u32) -> TextReply
         ensures { result ≡ Replies.edited there edits }

@@ -5,9 +5,9 @@ ghost use Rattle.hips_http.specs.Moment.{output_at};
 ghost use Rattle.hips_http.specs.Progress.{FlushesReply, Sends, reply_of};
 ghost use Rattle.hips_http.specs.Replies.{sent_body, refusal_bytes};
 
+use crate::logging::{Stopwatch, say_refused, say_reply};
 use crate::open_connection::Due;
 use crate::reply::TextReply;
-use crate::saying::{Stopwatch, say_refused, say_reply};
 use http_frame::{Allow, Kind, Method, Number, Reply, write_reply};
 use log::Log;
 use std::time::Clock;

@@ -19,13 +19,13 @@ ghost use Rattle.hips_http.specs.Readings.{NeedsRest, HoldsBehind};
 
 use crate::answer::{pass_body, reply_to};
 use crate::call::{Call, call_of, path_kind};
-use crate::file::{look, send_path, shown};
+use crate::file::{file_reply, look, sent_parts, shown};
+use crate::logging::{Stopwatch, say_reply};
 use crate::open_connection::{Due, Means, OpenConnection};
 use crate::reply::TextReply;
-use crate::saying::Stopwatch;
 use crate::send::{send_refusal, send_text};
 use crate::served::SessionEnd;
-use http_frame::{Frame, FrameStop, Request, write_continue};
+use http_frame::{Frame, FrameStop, Request, write_continue, write_reply_parts};
 use log::Log;
 use reader_pin::{Board, ChangedWith};
 use std::thread::Threads;
@@ -153,8 +153,19 @@ fn serve_file<R: Clock + Log, B: Board, S: Source, K: Sink>(
     look(connection.board);
     // For the prover: what a board has seen is a history.
     let _legal = connection.board.last();
-    let state = shown(connection.board);
-    match send_path(rt, connection.sink, due, path, state, file) {
+    let mut front = [0u8; 2880];
+    let reply = file_reply(due.close, shown(connection.board), file, &mut front);
+    let body = sent_parts(due.request.method, &reply);
+    let sent = write_reply_parts(connection.sink, &reply.head, body);
+    say_reply(
+        rt,
+        due,
+        path,
+        reply.head.code,
+        reply.head.length,
+        reply.front,
+    );
+    match sent {
         Ok(()) => return Ok(()),
         Err(_) => return Err(SessionEnd::WriteFault),
     }

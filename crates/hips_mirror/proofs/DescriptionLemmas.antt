@@ -11,7 +11,7 @@ use Rattle.mirror_frame.specs.declared.ask.Ask.{Ask}
 use Rattle.mirror_frame.specs.declared.ask.Ask.TheVariants.{Pin, File}
 use Rattle.mirror_frame.specs.declared.due.Due.TheVariants.{Pinned, Survey}
 use Rattle.mirror_frame.specs.declared.peer.Peer.{Peer}
-use Rattle.hips_mirror.specs.declared.description.Survey.{Survey as PeerSurvey}
+use Rattle.hips_mirror.specs.declared.description.PeerSurvey.{PeerSurvey}
 use Rattle.hips_mirror.specs.declared.refusal.MirrorRefusal.{MirrorRefusal}
 use Rattle.hips_mirror.specs.Mirror.{IsProperties, WrongProperties, RefusesAt, Refuses, at_properties}
 use Rattle.hips_mirror.specs.Stages.{Counts, TellsProperties, TellsSurvey, Reaches, IsRefusedIn}

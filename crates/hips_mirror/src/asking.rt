@@ -9,8 +9,9 @@ ghost use Rattle.mirror_frame.specs.declared.reading.ReplyStop.{ReplyStop};
 ghost use Rattle.hips_mirror.specs.Mirror.{RefusesReply, is_read_fault, is_write_fault, is_err_and};
 ghost use Rattle.hips_mirror.specs.Stages.{TrueOfUnread, of_stop};
 
+use crate::logging::say_stop;
 use crate::refusal::MirrorRefusal;
-use crate::saying::{Request, say_stop};
+use crate::request::Request;
 use log::Log;
 use mirror_frame::{Due, Peer, ReplyStop};
 use survey_link::{Sink, Source};

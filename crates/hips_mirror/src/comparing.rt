@@ -17,9 +17,9 @@ ghost use Rattle.hips_mirror.specs.Mirror.{RefusesReply};
 ghost use Rattle.hips_mirror.specs.Stages.{TellsMosaic, Reaches, IsRefusedIn, asks_of_mosaic};
 
 use crate::asking::ask;
-use crate::description::Survey;
+use crate::description::PeerSurvey;
 use crate::refusal::MirrorRefusal;
-use crate::saying::Request;
+use crate::request::Request;
 use generation::{Body, Generation};
 use leaf_store::Store;
 use log::Log;
@@ -68,7 +68,7 @@ pub(crate) fn read_mosaic<R: Log, S: Source, K: Sink>(
 pub(crate) fn build<R: Threads + Sync, G: Gate + Sync>(
     rt: &R,
     alloc: Global,
-    survey: Survey,
+    survey: PeerSurvey,
     leaves: Store<Tile>,
     gate: &G,
     steps: &mut Steps,

@@ -10,9 +10,10 @@ ghost use Rattle.hips_mirror.specs.Mirror.{IsCoverOf, WrongCover, RefusesAt, is_
 ghost use Rattle.hips_mirror.specs.Stages.{TellsCover, RefusedBy, Reaches, IsRefusedIn, IsOfBody};
 
 use crate::asking::ask;
-use crate::description::Survey;
+use crate::description::PeerSurvey;
+use crate::logging::say_refused;
 use crate::refusal::MirrorRefusal;
-use crate::saying::{Request, say_refused};
+use crate::request::Request;
 use coverage_moc::{Cover, CoverRefusal};
 use edit_journal::{MOST_CHARGE, leaf_charge};
 use log::Log;
@@ -35,7 +36,7 @@ pub(crate) fn read_cover<R: Log, S: Source, K: Sink>(
     rt: &R,
     alloc: Global,
     peer: &mut Peer<'_, '_, '_, S, K>,
-    survey: &Survey,
+    survey: &PeerSurvey,
 ) -> Result<Vec<u64>, MirrorRefusal>
     ensures reached { IfOk result (λ numbers. Reaches S.Source K.Sink survey.now.pinned (File Moc ∷ []) (TellsCover survey.now.pinned survey.now.conf numbers.items) peer.old peer.new) }
     ensures ascending { IfOk result (λ numbers. IsStrictlyIncreasing numbers.items) }

@@ -8,8 +8,9 @@ ghost use Rattle.hips_mirror.specs.Mirror.{is_plain, are_lines, TellsLeaves, IsP
 ghost use Rattle.hips_mirror.specs.Stages.{TellsProperties, TellsSurvey, Counts, RefusedBy, Reaches, IsRefusedIn, IsOfBody};
 
 use crate::asking::ask;
+use crate::logging::{say_conf_fault, say_no_count};
 use crate::refusal::MirrorRefusal;
-use crate::saying::{Request, say_conf_fault, say_no_count};
+use crate::request::Request;
 use decimal_scale::plain_decimal;
 use http_frame::digits;
 use log::Log;
@@ -21,7 +22,7 @@ use survey_link::{Sink, Source};
 
 /// What a peer's properties say of its survey.
 #[derive(Drop)]
-pub(crate) struct Survey {
+pub(crate) struct PeerSurvey {
     /// How many edits are published in the state that is held for this copy.
     pub(crate) pinned: u32,
     /// The description.
@@ -39,7 +40,7 @@ pub(crate) fn read_description<R: Log, S: Source, K: Sink>(
     rt: &R,
     alloc: Global,
     peer: &mut Peer<'_, '_, '_, S, K>,
-) -> Result<Survey, MirrorRefusal>
+) -> Result<PeerSurvey, MirrorRefusal>
     ensures reached { IfOk result (λ survey. Reaches S.Source K.Sink survey.pinned (Pin ∷ File Properties ∷ [])
         (TellsSurvey survey.pinned survey.conf survey.counted) peer.old peer.new) }
     ensures refused { IfErr result (λ refusal. (k : ℕ) × IsRefusedIn S.Source K.Sink k (Pin ∷ File Properties ∷ [])
@@ -69,7 +70,7 @@ fn read_properties<R: Log, S: Source, K: Sink>(
     alloc: Global,
     peer: &mut Peer<'_, '_, '_, S, K>,
     pinned: u32,
-) -> Result<Survey, MirrorRefusal>
+) -> Result<PeerSurvey, MirrorRefusal>
     ensures pinned { IfOk result (λ survey. survey.pinned ≡ pinned) }
     ensures reached { IfOk result (λ survey. Reaches S.Source K.Sink pinned (File Properties ∷ []) (TellsProperties pinned survey.conf survey.counted) peer.old peer.new) }
     ensures refused { IfErr result (λ refusal. IsRefusedIn S.Source K.Sink pinned (File Properties ∷ [])
@@ -87,7 +88,7 @@ fn describe<R: Log>(
     alloc: Global,
     body: &[u8],
     pinned: u32,
-) -> Result<Survey, MirrorRefusal>
+) -> Result<PeerSurvey, MirrorRefusal>
     ensures pinned { IfOk result (λ survey. survey.pinned ≡ pinned) }
     ensures described { IfOk result (λ survey. IsProperties body.now survey.conf) }
     ensures counts { IfOk result (λ survey. Counts survey.conf body.now survey.counted) }
@@ -111,7 +112,7 @@ fn describe_by<R: Log>(
     text: &[u8],
     digits: &[u8],
     pinned: u32,
-) -> Result<Survey, MirrorRefusal>
+) -> Result<PeerSurvey, MirrorRefusal>
     requires { TellsLeaves body.now text.now digits.now }
     ensures pinned { IfOk result (λ survey. survey.pinned ≡ pinned) }
     ensures described { IfOk result (λ survey. IsProperties body.now survey.conf) }
@@ -122,7 +123,7 @@ fn describe_by<R: Log>(
     match Conf::read(alloc, text) {
         Ok(conf) => {
             let counted = count_told(alloc, &conf, digits, body)?;
-            Ok(Survey {
+            Ok(PeerSurvey {
                 pinned,
                 conf,
                 counted,

@@ -13,10 +13,11 @@ ghost use Rattle.hips_mirror.specs.Mirror.{AreLeaves, WrongLeaf, RefusesLeaf};
 ghost use Rattle.hips_mirror.specs.Stages.{PutsLeaf, RefusedBy, Reaches, IsRefusedIn, IsOfBody};
 
 use crate::asking::ask;
-use crate::description::Survey;
-use crate::progress::Progress;
+use crate::description::PeerSurvey;
+use crate::logging::say_refused;
 use crate::refusal::MirrorRefusal;
-use crate::saying::{Request, say_refused};
+use crate::request::Request;
+use command_output::Progress;
 use fits_tile::{TileRefusal, decode};
 use healpix_nested::Cell;
 use leaf_store::Store;
@@ -40,7 +41,7 @@ pub(crate) fn read_leaves<R: Clock + Log, S: Source, K: Sink>(
     rt: &R,
     alloc: Global,
     peer: &mut Peer<'_, '_, '_, S, K>,
-    survey: &Survey,
+    survey: &PeerSurvey,
     numbers: &[u64],
     steps: &mut Steps,
 ) -> Result<Store<Tile>, MirrorRefusal>
@@ -59,14 +60,14 @@ pub(crate) fn read_leaves<R: Clock + Log, S: Source, K: Sink>(
     // For the prover: a count fits 64 bits.
     let _count = steps.count();
     let mut tiles = Store::new(alloc);
-    let mut progress = Progress::begin(rt, numbers.len());
+    let mut progress = Progress::begin(rt, "leaves copied", Some(numbers.len() as u64));
     for number in numbers {
         let request = Request::leaf(leaf_cell(&survey.conf, *number), tiles.len());
         ask(rt, peer, &request, Due::Survey(survey.pinned))?;
         let taken = take_leaf(alloc, peer.body(), &survey.conf, *number, steps, &mut tiles);
         say_refused(rt, &request, &taken);
         taken?;
-        progress.leaf_read(rt, peer.body().len());
+        progress.part_done(rt);
     }
     Ok(tiles)
 }

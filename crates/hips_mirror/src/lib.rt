@@ -12,9 +12,9 @@ mod cover;
 mod description;
 pub mod laws;
 mod leaves;
-mod progress;
+mod logging;
 mod refusal;
-mod saying;
+mod request;
 mod text;
 
 pub use copying::mirror;

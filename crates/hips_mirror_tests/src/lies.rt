@@ -258,7 +258,7 @@ fn refuses_lie<R: Threads + Sync + Clock + Log>(
 
 // Whether the log is one line, of the level `error`, that begins so.
 fn is_line(log: &[u8], said: &str) -> bool {
-    match log.strip_prefix(b"[ERROR hips_mirror::saying] ") {
+    match log.strip_prefix(b"[ERROR hips_mirror::logging] ") {
         Some(text) => text.starts_with(said.as_bytes())
             && text.iter().filter(|b| **b == b'\n').count() == 1,
         None => false,

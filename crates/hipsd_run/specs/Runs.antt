@@ -74,8 +74,8 @@ pub record DoesPast {S H D : Type 0} (old new : Ends S H D) (status : ℕ) : Typ
 
 -- `catalog`, whatever the proof sees of the source
 pub record DoesCatalog {S H D : Type 0} (top per_tile : ℕ) (old new : Ends S H D) (status : ℕ) : Type 0 where
-  pub run : OfInput (λ input. RunsCatalog top per_tile input old.files new.files status
-      old.connection.written new.connection.written old.connection.flushed new.connection.flushed) old.connection.unread new.connection.unread
+  pub run : OfInput (λ input. RunsCatalog top per_tile input old.files new.files status (sink_of old.connection) (sink_of new.connection))
+      old.connection.unread new.connection.unread
   pub end : status ≡ 0 → IsAtEnd new.connection.unread
 
 -- by the command; `session` where the proof can see the input

@@ -9,12 +9,10 @@ mod asked;
 mod fault;
 mod leaves;
 mod merging;
-mod output;
 mod probing;
 mod records;
 
 pub use asked::Probe;
 pub use fault::ProbeFault;
 pub use merging::{Tiles, merge_up};
-pub use output::write_out;
 pub use probing::probe;

@@ -4,10 +4,10 @@
 //! no batch from the nearest one below it.
 #![tactic(auto)]
 
+mod logging;
 mod past;
 mod reads;
 mod refusal;
-mod saying;
 
 pub use past::Past;
 pub use reads::PastRead;

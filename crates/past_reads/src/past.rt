@@ -6,8 +6,8 @@ ghost use Rattle.past_reads.specs.declared.refusal.PastRefusal.TheVariants.{OutO
 ghost use Rattle.past_reads.specs.Past.{PastContent, GoesOnFrom, past_generation, FindsBase, TellsPastRefusal, prefix_by, better_prefix};
 ghost use Rattle.past_reads.specs.Costs.{held_after, base, work_from, work_afresh, past_work};
 
+use crate::logging::Making;
 use crate::refusal::PastRefusal;
-use crate::saying::Making;
 use edit_journal::Journal;
 use generation::Generation;
 use log::Log;

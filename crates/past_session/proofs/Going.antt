@@ -16,7 +16,8 @@ use Rattle.past_session.specs.Costs.{record_cost, cost_from}
 use Rattle.past_session.specs.Order.{Moment, IsAsked, IsAnswered, Converses, NeverFalls, Faults}
 use Rattle.past_session.proofs.Faulty.{faults_on}
 use Rattle.past_session.specs.Records.{room_of}
-use Rattle.past_session.specs.Run.{SinkBytes, sink_bytes, Flushes}
+use Rattle.command_output.specs.Output.{SinkBytes, sink_bytes}
+use Rattle.past_session.specs.Run.{Flushes}
 use Rattle.past_session.specs.Session.{SessionContent}
 use Rattle.past_session.specs.Steps.{answer_text, answer_cost, session_after, Sends}
 use Rattle.past_session.proofs.Inputs.{IsBehind}

@@ -4,6 +4,5 @@ mod Faulty
 mod Going
 mod Inputs
 mod Next
-mod NoFile
 mod Runs
 mod Told

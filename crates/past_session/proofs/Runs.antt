@@ -18,7 +18,8 @@ use Rattle.past_session.specs.Answers.{PastState, first_state, record_text, stat
 use Rattle.past_session.specs.Costs.{record_cost, cost_from, cost_of}
 use Rattle.past_session.specs.Order.{Moment, first_moment, IsAsked, Converses, ReadsNone, AnswersPart, EndsAt, EndsBehindAll, InOrder}
 use Rattle.past_session.specs.Records.{PastInput, room_of, most_records, ends_by, behind_all, records_of}
-use Rattle.past_session.specs.Run.{SinkBytes, sink_bytes, Flushes, FlushesAll, Answered, RunsWhole, ReadsPart, StopsEarly, PastRun, RunsOver}
+use Rattle.command_output.specs.Output.{SinkBytes, sink_bytes}
+use Rattle.past_session.specs.Run.{Flushes, FlushesAll, Answered, RunsWhole, ReadsPart, StopsEarly, PastRun, RunsOver}
 use Rattle.past_session.specs.Session.{SessionContent}
 use Rattle.past_session.specs.Steps.{answer_text, answer_cost, FailsToSend}
 use Rattle.past_session.specs.declared.ending.Halt.{Halt}

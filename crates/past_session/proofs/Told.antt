@@ -17,7 +17,7 @@ use Rattle.past_reads.specs.declared.refusal.PastRefusal.TheVariants.{TooNew, Sp
 use Rattle.past_reads.specs.Answers.{past_file}
 use Rattle.past_reads.specs.AnswerLaws.{never_refused, found_answer, refused_answer}
 use Rattle.past_session.specs.Answers.{file_text, refusal_text, read_text}
-use Rattle.past_session.specs.Run.{SinkBytes}
+use Rattle.command_output.specs.Output.{SinkBytes}
 use Rattle.past_session.specs.Session.{kept_content, IsKeptSession}
 use Rattle.past_session.specs.Steps.{answer_text, answer_cost, session_after, Sends, FailsToSend}
 use Rattle.past_session.specs.declared.ending.Halt.{Halt}

@@ -16,7 +16,7 @@ use Rattle.past_frame.specs.declared.record.RecordStop.{RecordStop}
 use Rattle.past_frame.specs.declared.record.RecordStop.TheVariants as stop
 use Rattle.past_session.specs.Answers.{first_state}
 use Rattle.past_session.specs.Records.{room_of, most_records}
-use Rattle.past_session.specs.Run.{sink_bytes}
+use Rattle.command_output.specs.Output.{sink_bytes}
 use Rattle.past_session.specs.Session.{SessionContent}
 use Rattle.past_session.specs.Steps.{answer_text, answer_cost, session_after, Sends, FailsToSend}
 use Rattle.past_session.specs.declared.ends.Ends.{Ends}

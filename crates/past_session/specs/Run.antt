@@ -2,7 +2,7 @@
 use Rattle.std.specs.Prelude.{◌≡◌, ◌⊎◌, ℕ, ◌+◌, ◌≤◌, Bool, true, false, List, [], ◌∷◌, ◌++◌, take, Option, Some}
 use Rattle.std.specs.Io.KnownBytes.{Appends, Consumes}
 use Rattle.survey_link.specs.Link.{AppendsPrefix}
-use Rattle.survey_link.specs.declared.sink.Sink as sink
+use Rattle.command_output.specs.Output.{SinkBytes}
 use Rattle.survey_conf.specs.Description.{Description}
 use Rattle.edit_journal.specs.Leaves.{LeafTiles}
 use Rattle.past_frame.specs.Record.{PastRecord}
@@ -10,14 +10,6 @@ use Rattle.past_session.specs.Answers.{first_state, state_behind, record_text, o
 use Rattle.past_session.specs.Costs.{cost_of}
 use Rattle.past_session.specs.declared.ending.PastEnd.{PastEnd}
 use Rattle.past_session.specs.declared.ending.PastEnd.TheVariants.{Done, Cut, BadLine, Spent, ReadFault, WriteFault, OutOfMemory}
-
--- the bytes that a sink holds, and those of them that it has flushed, where the proof can see them
-pub record SinkBytes : Type 0 where
-  pub held : Option (List ℕ)
-  pub flushed : Option (List ℕ)
-
-abbrev pub sink_bytes : {K : Type 0} → sink.Ghosts K → K → SinkBytes
-sink_bytes told end = record { held = told.held end; flushed = told.flushed end }
 
 -- all was flushed with the answer to a record; without one nothing was touched
 abbrev pub Flushes : List PastRecord → SinkBytes → SinkBytes → Type 0

@@ -5,7 +5,7 @@ use Rattle.survey_link.specs.Link.{AppendsPrefix}
 use Rattle.past_frame.specs.Record.{PastRecord}
 use Rattle.past_session.specs.Answers.{record_text, state_after}
 use Rattle.past_session.specs.Costs.{record_cost}
-use Rattle.past_session.specs.Run.{SinkBytes}
+use Rattle.command_output.specs.Output.{SinkBytes}
 use Rattle.past_session.specs.Session.{SessionContent}
 use Rattle.past_session.specs.declared.ending.Halt.{Halt}
 use Rattle.past_session.specs.declared.ending.Halt.TheVariants as halt

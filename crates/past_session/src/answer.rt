@@ -4,7 +4,7 @@ ghost use Rattle.survey_link.specs.Link.{CountsFault};
 ghost use Rattle.past_frame.specs.Record.{batch, read};
 ghost use Rattle.past_frame.specs.Reading.{record_of};
 ghost use Rattle.past_session.specs.Ending.{send_failed};
-ghost use Rattle.past_session.specs.Run.{sink_bytes};
+ghost use Rattle.command_output.specs.Output.{sink_bytes};
 ghost use Rattle.past_session.specs.Steps.{answer_text, answer_cost, session_after, Sends, FailsToSend};
 
 use crate::ending::Halt;

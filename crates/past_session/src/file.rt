@@ -6,7 +6,7 @@ ghost use Rattle.generation.specs.Files.{files_in};
 ghost use Rattle.tile_path.specs.Spelling.{spelling};
 ghost use Rattle.past_session.specs.Answers.{file_text, refusal_text};
 ghost use Rattle.past_session.specs.Ending.{send_failed};
-ghost use Rattle.past_session.specs.Run.{sink_bytes};
+ghost use Rattle.command_output.specs.Output.{sink_bytes};
 ghost use Rattle.past_session.specs.Steps.{Sends, FailsToSend};
 
 use crate::ending::Halt;

@@ -1,7 +1,7 @@
 //! Answers are written.
 ghost use Rattle.std.specs.Prelude.{◌≡◌, ◌≤◌, ◌++◌, is_err, OnOk, OnErr};
 ghost use Rattle.survey_link.specs.Link.{CountsFault, AppendsPrefix};
-ghost use Rattle.past_session.specs.Run.{sink_bytes};
+ghost use Rattle.command_output.specs.Output.{sink_bytes};
 ghost use Rattle.past_session.specs.Steps.{Sends};
 
 use survey_link::{Failed, Sink, write_all_parts, write_whole};

@@ -3,6 +3,8 @@
 #![tactic(auto)]
 
 #[cfg(test)]
+mod command_lines;
+#[cfg(test)]
 mod lines;
 #[cfg(test)]
 mod make;
@@ -24,5 +26,3 @@ mod survey;
 mod texts;
 #[cfg(test)]
 mod together;
-#[cfg(test)]
-mod words;

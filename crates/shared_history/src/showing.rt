@@ -12,11 +12,11 @@ use std::marker::{Model, PhantomData};
 use std::sync::Wait;
 
 /// The rule of what is shown: it is of the book `J`.
-pub struct Named<J> {
+pub struct OfBook<J> {
     of: PhantomData<J>,
 }
 
-impl<S: Drop, L: Law<S>, J: Naming> Protocol<Page<S, L>, ()> for Named<J> {
+impl<S: Drop, L: Law<S>, J: Naming> Protocol<Page<S, L>, ()> for OfBook<J> {
     ghost use Rattle.std.specs.Prelude.{◌≡◌};
 
     ghost holds = { λ page _. page.book ≡ J.book };
@@ -41,7 +41,7 @@ pub(crate) struct Showing<S: Drop, L: Law<S>, J: Naming>
 where
     Page<S, L>: Showable,
 {
-    writer: Writer<Page<S, L>, Page<S, L>, (), Named<J>>,
+    writer: Writer<Page<S, L>, Page<S, L>, (), OfBook<J>>,
 }
 
 impl<S: Drop, L: Law<S>, J: Naming> Model for Showing<S, L, J>
@@ -80,7 +80,7 @@ where
     }
 
     /// A reader.
-    pub(crate) fn reader(&self) -> Result<Reader<Page<S, L>, (), Named<J>>, AllocError> {
+    pub(crate) fn reader(&self) -> Result<Reader<Page<S, L>, (), OfBook<J>>, AllocError> {
         self.writer.factory().reader()
     }
 

@@ -4,7 +4,7 @@ ghost use Rattle.shared_history.specs.Histories.{GoesOn};
 
 use crate::book::{Law, Naming};
 use crate::page::Page;
-use crate::showing::{Finds, Named};
+use crate::showing::{Finds, OfBook};
 use crate::shown::Shown;
 use core::mem::replace_with;
 use left_right::reader::Reader;
@@ -12,12 +12,12 @@ use left_right::reader::Reader;
 /// A place from which what is shown of a history is seen, without waiting. It has its reader for as long as it lives.
 #[derive(Drop)]
 pub struct Window<S: Drop, L: Law<S>, J: Naming> {
-    reader: Reader<Page<S, L>, (), Named<J>>,
+    reader: Reader<Page<S, L>, (), OfBook<J>>,
 }
 
 impl<S: Drop, L: Law<S>, J: Naming> Window<S, L, J> {
     /// The place of a reader.
-    pub(crate) fn of(reader: Reader<Page<S, L>, (), Named<J>>) -> Window<S, L, J> {
+    pub(crate) fn of(reader: Reader<Page<S, L>, (), OfBook<J>>) -> Window<S, L, J> {
         Window { reader }
     }
 
@@ -35,10 +35,10 @@ impl<S: Drop, L: Law<S>, J: Naming> Window<S, L, J> {
 
 // The reader, and what it finds.
 fn looked<S: Drop, L: Law<S>, J: Naming>(
-    reader: Reader<Page<S, L>, (), Named<J>>,
+    reader: Reader<Page<S, L>, (), OfBook<J>>,
     seen: &Shown<S, L, J>,
     seat: usize,
-) -> (Reader<Page<S, L>, (), Named<J>>, Option<Shown<S, L, J>>)
+) -> (Reader<Page<S, L>, (), OfBook<J>>, Option<Shown<S, L, J>>)
     requires { seat < seen.now.seats }
     ensures { IfSome result.1 (GoesOn seat seen.now) }
 {

@@ -3,8 +3,8 @@ ghost use Rattle.std.specs.Prelude.{◌≡◌};
 ghost use Rattle.std.specs.Result.{result_err};
 ghost use Rattle.shelf_io.specs.Opening.{count_refusal};
 
+use crate::logging::say_too_many;
 use crate::refusal::LoadRefusal;
-use crate::words::say_too_many;
 use edit_journal::{MOST_CHARGE, leaf_charge};
 use log::Log;
 use pyramid_model::Shape;

@@ -7,8 +7,8 @@ ghost use Rattle.survey_conf.specs.Description.{description_of};
 ghost use Rattle.survey_conf.specs.Faults.{fault_of, IsRefusedBy as IsConfRefusal};
 ghost use Rattle.shelf_io.specs.Opening.{conf_on, IsRefusedBy};
 
+use crate::logging::{say_conf_fault, say_likely_keys, say_no_conf};
 use crate::refusal::LoadRefusal;
-use crate::words::{say_conf_fault, say_likely_keys, say_no_conf};
 use log::Log;
 use std::alloc::Global;
 use survey_conf::{Conf, ConfRefusal};

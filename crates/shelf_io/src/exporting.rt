@@ -12,11 +12,11 @@ ghost use Rattle.shelf_io.specs.Writing.{without_paths, with_path, with_paths};
 
 use crate::buffer::buffer;
 use crate::differences::{Differences, say_strays};
-use crate::progress::Progress;
+use crate::logging::say_written;
 use crate::spelling::spelled;
 use crate::strays::shelf_strays;
 use crate::verifying::has_file;
-use crate::words::say_written;
+use command_output::Progress;
 use generation::{Body, Generation};
 use log::Log;
 use std::alloc::Global;
@@ -88,7 +88,11 @@ fn write_all<R: Clock + Log, H: Shelf>(
     ensures faults { CountsFault (shelf_failed result) (H.faults shelf.old) (H.faults shelf.new) }
 {
     let mut room = buffer(alloc, generation.room())?;
-    let mut progress = Progress::begin(rt, "files compared and written", generation.file_count());
+    let mut progress = Progress::begin(
+        rt,
+        "files compared and written",
+        Some(generation.file_count()),
+    );
     let mut written = 0_u64;
     for i in (0..generation.file_count()).rev() {
         let path = generation.path(i).unwrap();

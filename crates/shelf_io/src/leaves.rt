@@ -12,9 +12,9 @@ ghost use Rattle.leaf_store.specs.Store.{IsAscending};
 ghost use Rattle.edit_journal.specs.Leaves.{FitsLeaves};
 ghost use Rattle.shelf_io.specs.Opening.{leaf_tile, leaf_refusal, IsRefusedBy};
 
-use crate::progress::Progress;
+use crate::logging::say_tile_fault;
 use crate::refusal::LoadRefusal;
-use crate::words::say_tile_fault;
+use command_output::Progress;
 use fits_tile::{TileRefusal, decode};
 use healpix_nested::Cell;
 use leaf_store::Store;
@@ -63,7 +63,7 @@ pub(crate) fn read_leaves<R: Clock + Log, H: Shelf>(
     // For the prover: a count fits 64 bits.
     let _count = steps.count();
     let mut tiles = Store::new(alloc);
-    let mut progress = Progress::begin(rt, "leaves read", leaves.len() as u64);
+    let mut progress = Progress::begin(rt, "leaves read", Some(leaves.len() as u64));
     for leaf in leaves {
         let tile = read_leaf(rt, alloc, shelf, conf, *leaf, steps)?;
         add_leaf(alloc, conf, *leaf, tile, &mut tiles)?;

@@ -12,16 +12,15 @@ mod exporting;
 mod leaves;
 mod listing;
 mod loading;
+mod logging;
 mod near_leaf;
 mod order;
-mod progress;
 mod refusal;
 mod spelling;
 mod strays;
 mod tile_words;
 mod verdict;
 mod verifying;
-mod words;
 
 pub use exporting::export;
 pub use loading::load;

@@ -66,7 +66,7 @@ pub fn load<R: Threads + Sync + Clock + Log, H: Shelf, G: Gate + Sync>(
 
 // What a shelf was opened as.
 #[derive(Drop)]
-struct Survey {
+struct ShelfSurvey {
     conf: Conf,
     leaves: Store<Tile>,
 }
@@ -78,7 +78,7 @@ fn read_survey<R: Clock + Log, H: Shelf>(
     alloc: Global,
     shelf: &mut H,
     steps: &mut Steps,
-) -> Result<Survey, LoadRefusal>
+) -> Result<ShelfSurvey, LoadRefusal>
     ensures opened { IfOk result (λ survey. IfSome (H.files shelf.old) (λ files.
         opening files ≡ Ok (record { conf = survey.conf; leaves = survey.leaves }))) }
     ensures fits { IfOk result (λ survey. FitsLeaves survey.conf.shape survey.leaves) }
@@ -97,14 +97,14 @@ fn read_survey<R: Clock + Log, H: Shelf>(
     let numbers = shelf_leaves(rt, alloc, shelf, shape.top)?;
     judge_count(rt, shape, numbers.len())?;
     let leaves = read_leaves(rt, alloc, shelf, &conf, &numbers, steps)?;
-    Ok(Survey { conf, leaves })
+    Ok(ShelfSurvey { conf, leaves })
 }
 
 // The generation of a survey, with no edit.
 fn build<R: Threads + Sync, G: Gate + Sync>(
     rt: &R,
     alloc: Global,
-    survey: Survey,
+    survey: ShelfSurvey,
     gate: &G,
     steps: &mut Steps,
 ) -> Result<Generation, AllocError>
@@ -114,7 +114,7 @@ fn build<R: Threads + Sync, G: Gate + Sync>(
     ensures steps { steps.new ≤ steps.old + tiles_above survey.conf.shape (leaf_map survey.leaves) }
     ensures steps_never_fall { steps.old ≤ steps.new }
 {
-    let Survey { conf, leaves } = survey;
+    let ShelfSurvey { conf, leaves } = survey;
     let conf = Arc::new(alloc, conf)?;
     Generation::start(rt, alloc, conf, leaves, gate, steps)
 }

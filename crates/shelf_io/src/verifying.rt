@@ -13,10 +13,10 @@ ghost use Rattle.shelf_io.specs.Survey.{IsVerdict, CountsFiles};
 use crate::buffer::{FRONT_LEN, buffer};
 use crate::differences::Differences;
 use crate::order::{first_after, first_path};
-use crate::progress::Progress;
 use crate::spelling::spelled;
 use crate::strays::shelf_strays;
 use crate::verdict::Verdict;
+use command_output::Progress;
 use generation::Generation;
 use log::Log;
 use std::alloc::Global;
@@ -79,7 +79,7 @@ fn first_difference<R: Clock + Log, H: Shelf>(
     ensures faults { CountsFault (shelf_failed result) (H.faults shelf.old) (H.faults shelf.new) }
 {
     let mut front = buffer(alloc, FRONT_LEN)?;
-    let mut progress = Progress::begin(rt, "files compared", generation.file_count());
+    let mut progress = Progress::begin(rt, "files compared", Some(generation.file_count()));
     for i in 0..generation.file_count() {
         let path = generation.path(i).unwrap();
         let agree = has_file(alloc, shelf, generation, &path, &mut front, differences)?;

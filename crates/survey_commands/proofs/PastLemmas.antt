@@ -1,10 +1,11 @@
 -- What `past` flushes, and what it reads where nothing is opened.
 use Rattle.std.proofs.Common.{◌≢◌, ℕ, inl, inr, List, [], Option, Some, None, refl}
 use Rattle.std.specs.Io.KnownBytes.{Consumes}
-use Rattle.past_session.specs.Run.{SinkBytes, FlushesAll}
+use Rattle.command_output.specs.Output.{SinkBytes, Says}
+use Rattle.past_session.specs.Run.{FlushesAll}
 use Rattle.shelf_io.specs.declared.refusal.LoadRefusal.{LoadRefusal}
 use Rattle.shelf_io.specs.declared.refusal.LoadRefusal.TheVariants.{NoConf, Conf, Tile, TooMany, ShelfFault, OutOfMemory}
-use Rattle.survey_commands.specs.Survey.{Says, SaysWhy}
+use Rattle.survey_commands.specs.Survey.{SaysWhy}
 
 -- nothing was read
 pub consumes_none : (left : Option (List ℕ)) → Consumes left left []

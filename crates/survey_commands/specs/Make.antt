@@ -14,10 +14,9 @@ use Rattle.survey_make.specs.Script.{made_script}
 use Rattle.reader_pin.specs.Board.{last_of}
 use Rattle.hips_http.specs.declared.served.SessionEnd.TheVariants.{Closed}
 use Rattle.hips_http.specs.SessionRun.{Exchange, input_of}
-use Rattle.past_session.specs.Run.{SinkBytes}
+use Rattle.command_output.specs.Output.{SinkBytes, Says, line_of}
 use Rattle.shelf_io.specs.Opening.{OpenedSurvey}
 use Rattle.survey_commands.specs.declared.summary.Summary.{Summary}
-use Rattle.survey_commands.specs.Survey.{Says, line_of}
 use Rattle.survey_commands.specs.Session.{RunsAlone}
 
 -- ---- what is asked

@@ -1,7 +1,7 @@
 -- What `serve` does: it opens the shelf, and serves the connections of many doors at once, over boards of that survey.
 use Rattle.std.specs.Prelude.{◌≡◌, ℕ, ◌≤◌, List, [], Option, Result, Ok, Err}
 use Rattle.survey_link.specs.Shelf.{ShelfFiles}
-use Rattle.past_session.specs.Run.{SinkBytes}
+use Rattle.command_output.specs.Output.{SinkBytes}
 use Rattle.shelf_io.specs.Opening.{OpenedSurvey}
 use Rattle.shelf_io.specs.declared.refusal.LoadRefusal.{LoadRefusal}
 use Rattle.survey_core.specs.State.{StateContent}

@@ -1,12 +1,10 @@
 -- What `export` and `verify` find on a shelf, what they leave there, and what they write.
-use Rattle.std.specs.Prelude.{◌≡◌, ◌⊎◌, ℕ, List, [], ◌∷◌, ◌++◌, Option, Some, None, Result, Ok, Err, IsOkAnd, codes, decimal, ⊤}
+use Rattle.std.specs.Prelude.{◌≡◌, ℕ, List, ◌++◌, Option, Some, None, Result, Ok, Err, IsOkAnd, codes, decimal, ⊤}
 use Rattle.std.specs.Result.{result_err}
 use Rattle.std.specs.FinMap.{len}
-use Rattle.std.specs.Io.KnownBytes.{Appends}
-use Rattle.survey_link.specs.Link.{AppendsPrefix}
 use Rattle.survey_link.specs.Door.{Connection}
 use Rattle.survey_link.specs.Shelf.{ShelfFiles}
-use Rattle.past_session.specs.Run.{SinkBytes}
+use Rattle.command_output.specs.Output.{SinkBytes, line_of, Says, EndsBy}
 use Rattle.generation.specs.Files.{files, leaf_map}
 use Rattle.shelf_io.specs.Opening.{OpenedSurvey, opening, IsRefusedBy}
 use Rattle.shelf_io.specs.Survey.{Replaces, OthersStay, IsVerdict, CountsFiles}
@@ -50,28 +48,14 @@ IsComparison (Some found) (Err refusal) = IsRefusedBy (result_err (opening found
 abbrev pub sink_of : Connection → SinkBytes
 sink_of connection = record { held = connection.written; flushed = connection.flushed }
 
--- a text as a line
-abbrev pub line_of : List ℕ → List ℕ
-line_of text = text ++ 10 ∷ []
-
--- the bytes were written and all that the sink holds was flushed
-pub record IsWritten (bytes : List ℕ) (sink sink' : SinkBytes) : Type 0 where
-  pub appended : Appends sink.held sink'.held bytes
-  pub flushed : sink'.flushed ≡ sink'.held
-
--- the line was written, and the status is the command's own; or the sink failed at it, or there was no memory for it
-abbrev pub Says : ℕ → List ℕ → ℕ → SinkBytes → SinkBytes → Type 0
-Says own line status sink sink' = ((status ≡ own) × IsWritten line sink sink')
-    ⊎ (((status ≡ 6) × AppendsPrefix sink.held sink'.held line) ⊎ ((status ≡ 11) × (sink' ≡ sink)))
-
 -- why the shelf wasn't opened: by 2 its description, by 3 its leaves
 abbrev pub SaysWhy : LoadRefusal → ℕ → SinkBytes → SinkBytes → Type 0
 SaysWhy NoConf = Says 2 (line_of (load_text NoConf))
 SaysWhy (Conf fault) = Says 2 (line_of (load_text (Conf fault)))
 SaysWhy (Tile cell fault) = Says 3 (line_of (load_text (Tile cell fault)))
 SaysWhy (TooMany leaves) = Says 3 (line_of (load_text (TooMany leaves)))
-SaysWhy ShelfFault = λ status sink sink'. (status ≡ 7) × (sink' ≡ sink)
-SaysWhy OutOfMemory = λ status sink sink'. (status ≡ 11) × (sink' ≡ sink)
+SaysWhy ShelfFault = EndsBy 7
+SaysWhy OutOfMemory = EndsBy 11
 
 abbrev pub export_text : ℕ → List ℕ
 export_text count = codes "exported " ++ decimal count

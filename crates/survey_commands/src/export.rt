@@ -1,12 +1,12 @@
 //! The command `export`: the survey that the shelf describes is put on the shelf.
 ghost use Rattle.std.specs.Prelude.{◌≡◌, ◌≢◌, ◌≤◌, nat_eq, Some};
 ghost use Rattle.survey_link.specs.Link.{CountsFault};
-ghost use Rattle.past_session.specs.Run.{sink_bytes};
+ghost use Rattle.command_output.specs.Output.{sink_bytes};
 ghost use Rattle.shelf_io.specs.Refusals.{at_shelf};
 ghost use Rattle.survey_commands.specs.Survey.{IsExport, SaysExport, RunsExport, export_text};
 
-use crate::output::say;
 use crate::refusing::say_why;
+use command_output::say;
 use log::Log;
 use parent_rule::Steps;
 use shelf_io::{LoadRefusal, export, load};

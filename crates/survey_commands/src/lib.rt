@@ -9,7 +9,6 @@
 mod export;
 mod make;
 mod mirror;
-mod output;
 mod past;
 mod refusing;
 mod serve;

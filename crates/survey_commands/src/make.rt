@@ -1,14 +1,14 @@
 //! The command `make`: a survey is made by its script, and summed up.
 ghost use Rattle.std.specs.Prelude.{◌≡◌, ◌≢◌, ℕ, ◌≤◌, [], nat_eq, IfOk, OnOk};
 ghost use Rattle.survey_link.specs.Link.{CountsFault};
-ghost use Rattle.past_session.specs.Run.{sink_bytes};
+ghost use Rattle.command_output.specs.Output.{sink_bytes};
 ghost use Rattle.shelf_io.specs.Opening.{OpenedSurvey};
 ghost use Rattle.survey_commands.specs.Session.{board_of};
 ghost use Rattle.survey_commands.specs.Make.{IsMake, made_survey, RunsScript, IsMade, RunsMake};
 
-use crate::output::say;
 use crate::session::first_board;
 use crate::summary::{Summary, summary_of};
+use command_output::say;
 use generation::Generation;
 use hips_http::{SessionEnd, session};
 use leaf_store::Store;

@@ -1,11 +1,11 @@
 //! What is written if the shelf isn't opened.
 ghost use Rattle.std.specs.Prelude.{◌≡◌, ◌≢◌, nat_eq, Err, ⊤};
 ghost use Rattle.survey_link.specs.Link.{CountsFault};
-ghost use Rattle.past_session.specs.Run.{sink_bytes};
+ghost use Rattle.command_output.specs.Output.{sink_bytes};
 ghost use Rattle.shelf_io.specs.Refusals.{at_shelf};
 ghost use Rattle.survey_commands.specs.Survey.{SaysWhy};
 
-use crate::output::say;
+use command_output::say;
 use shelf_io::LoadRefusal;
 use std::alloc::Global;
 use survey_link::Sink;

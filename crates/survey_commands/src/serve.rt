@@ -1,7 +1,7 @@
 //! The command `serve`: the connections of many doors at once, over one survey.
 ghost use Rattle.std.specs.Prelude.{◌≡◌, ◌≢◌, ◌⊎◌, ◌<◌, ◌≤◌, [], nat_eq, map, length, take, drop};
 ghost use Rattle.survey_link.specs.Link.{CountsFault};
-ghost use Rattle.past_session.specs.Run.{sink_bytes};
+ghost use Rattle.command_output.specs.Output.{sink_bytes};
 ghost use Rattle.hips_place.specs.Place.{SomeRises, door_of};
 ghost use Rattle.shelf_io.specs.Opening.{OpenedSurvey};
 ghost use Rattle.survey_commands.specs.Serve.{IsServe, state_of, Serves, RunsServe, serve_status};

@@ -1,12 +1,12 @@
 //! The command `verify`: the shelf is compared with the survey that it describes.
 ghost use Rattle.std.specs.Prelude.{◌≡◌, ◌≢◌, ◌≤◌, nat_eq};
 ghost use Rattle.survey_link.specs.Link.{CountsFault};
-ghost use Rattle.past_session.specs.Run.{sink_bytes};
+ghost use Rattle.command_output.specs.Output.{sink_bytes};
 ghost use Rattle.shelf_io.specs.Refusals.{at_shelf};
 ghost use Rattle.survey_commands.specs.Survey.{IsComparison, RunsVerify, verdict_status};
 
-use crate::output::say;
 use crate::refusing::say_why;
+use command_output::say;
 use log::Log;
 use parent_rule::Steps;
 use shelf_io::{LoadRefusal, Verdict, load, verify};

@@ -8,6 +8,7 @@ mod depth;
 mod describe;
 mod entries;
 mod fault;
+mod fault_words;
 mod key;
 pub mod laws;
 mod line;
@@ -15,9 +16,8 @@ mod number;
 mod properties;
 mod real;
 mod values;
-mod words;
 
 pub use conf::Conf;
 pub use fault::{ConfFault, ConfKind, ConfRefusal};
+pub use fault_words::{FaultWords, likely_key};
 pub use pyramid_model::Shape;
-pub use words::{FaultWords, likely_key};

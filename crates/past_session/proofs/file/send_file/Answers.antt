@@ -1,7 +1,7 @@
 use Rattle.std.proofs.Common.{◌≡◌, refl, None}
 use Rattle.std.specs.FinMap.{get}
 use Rattle.generation.specs.Files.{leaf_map, files_in}
-use Rattle.past_session.proofs.NoFile.{no_file}
+use Rattle.generation.proofs.NoFile.{no_file}
 use Rattle.past_session.proofs.file.send_file.Goals as goal
 
 pub returns-in-None-clause-sends : goal.returns-in-None-clause-sends

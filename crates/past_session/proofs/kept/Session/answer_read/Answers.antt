@@ -1,7 +1,7 @@
 use Rattle.std.proofs.Common.{◌≡◌, ◌∙◌, sym}
 use Rattle.std.specs.Arc.{arc_value}
 use Rattle.past_reads.specs.Past.{past_generation}
-use Rattle.past_session.specs.Run.{sink_bytes}
+use Rattle.command_output.specs.Output.{sink_bytes}
 use Rattle.past_session.proofs.Told.{found_sends, found_fails, found_then, found_cost, refused_sends, refused_fails, refused_then, refused_cost}
 use Rattle.past_session.proofs.kept.Session.answer_read.Goals as goal
 

@@ -14,12 +14,12 @@ const BYTES: u32 = 8;
 
 /// A shared row whose id is compared without a look at the row, which is elsewhere in memory. Contracts see the shared row.
 #[derive(Drop)]
-pub(crate) struct Named {
+pub(crate) struct HeadedRow {
     head: u64,
     row: Arc<Row>,
 }
 
-impl Model for Named {
+impl Model for HeadedRow {
     ghost use Rattle.std.specs.Arc.{arc_value};
     ghost use Rattle.std.specs.declared.sync.Arc.{Arc};
     ghost use Rattle.std.specs.declared.alloc.Global.{Global};
@@ -33,12 +33,12 @@ impl Model for Named {
     ghost invariant = { λ a. IsHead a.head (arc_value a.row).id };
 }
 
-impl Named {
+impl HeadedRow {
     /// The row with the head of its id.
-    pub(crate) fn new(row: Arc<Row>) -> Named
+    pub(crate) fn new(row: Arc<Row>) -> HeadedRow
         ensures { result ≡ row }
     {
-        Named {
+        HeadedRow {
             head: id_head(row.id()),
             row,
         }
@@ -72,13 +72,13 @@ impl<'a> After<'a> {
     }
 }
 
-impl<'a> Probe<Named> for After<'a> {
+impl<'a> Probe<HeadedRow> for After<'a> {
     ghost use Rattle.std.specs.Arc.{arc_value};
     ghost use Rattle.hips_catalog.specs.Rows.{has_id_below};
 
     ghost past = { λ s row. has_id_below (arc_value row) s.id.now };
 
-    fn is_past(&self, row: &Named) -> bool {
+    fn is_past(&self, row: &HeadedRow) -> bool {
         if row.head == self.head {
             return row.row.is_before(self.id);
         }

@@ -1,6 +1,6 @@
 use Rattle.std.proofs.Common.{◌≡◌, ◌<◌, ◌≤◌, ◌+◌, ◌*◌, ◌^◌, ◌-◌, subst, arith}
 use Rattle.hips_catalog.proofs.Heads.{with_one_more, has_room}
-use Rattle.hips_catalog.proofs.named.+head_on.Goals as goal
+use Rattle.hips_catalog.proofs.headed_row.+head_on.Goals as goal
 
 pub overflow_mul-before : goal.overflow_mul-before
 overflow_mul-before t c =

@@ -4,7 +4,7 @@ use Rattle.std.specs.Arc.{arc_value}
 use Rattle.hips_catalog.specs.Rows.{has_id_below}
 use Rattle.hips_catalog.specs.Heads.{id_head}
 use Rattle.hips_catalog.proofs.Heads.{below_by_head}
-use Rattle.hips_catalog.proofs.named.AfterProbeNamed.is_past.Goals as goal
+use Rattle.hips_catalog.proofs.headed_row.AfterProbeHeadedRow.is_past.Goals as goal
 
 pub returns : goal.returns
 returns c =

@@ -1,8 +1,8 @@
-//! What the command writes.
-ghost use Rattle.std.specs.Prelude.{◌≡◌, ◌≢◌, ◌⊎◌, ◌≤◌, ℕ, List, Some, nat_eq, is_err, OnOk, OnErr};
+//! What a command writes.
+ghost use Rattle.std.specs.Prelude.{◌≡◌, ◌≢◌, ◌⊎◌, ℕ, List, Some, nat_eq, is_err, OnOk, OnErr};
 ghost use Rattle.std.specs.Io.KnownBytes.{Appends};
 ghost use Rattle.survey_link.specs.Link.{CountsFault, AppendsPrefix};
-ghost use Rattle.catalog_command.specs.Run.{Says, line_of};
+ghost use Rattle.command_output.specs.Output.{Says, line_of, sink_bytes};
 
 use std::alloc::Global;
 use std::fmt::Display;
@@ -10,9 +10,9 @@ use survey_link::{Failed, Sink, write_whole};
 
 /// Writes what is shown as a line and flushes it, and answers the status: `own`, or 6 where the sink failed, or 11 where
 /// there was no memory for the line, of which nothing is then written.
-pub(crate) fn say<T: Display, K: Sink>(alloc: Global, sink: &mut K, own: u8, shown: &T) -> u8
+pub fn say<T: Display, K: Sink>(alloc: Global, sink: &mut K, own: u8, shown: &T) -> u8
     ensures said { (text : List ℕ) → T.output shown.now ≡ Some text → Says own (line_of text) result
-        (K.held sink.old) (K.held sink.new) (K.flushed sink.old) (K.flushed sink.new) }
+        (sink_bytes K.Sink sink.old) (sink_bytes K.Sink sink.new) }
     ensures status { (result ≡ own) ⊎ ((result ≡ 6) ⊎ (result ≡ 11)) }
     ensures write_fault { own ≢ 6 → CountsFault (nat_eq result 6) (K.faults sink.old) (K.faults sink.new) }
 {
@@ -25,8 +25,12 @@ pub(crate) fn say<T: Display, K: Sink>(alloc: Global, sink: &mut K, own: u8, sho
     }
 }
 
-// Writes all the bytes, and flushes them.
-fn write_out<K: Sink>(sink: &mut K, bytes: &[u8]) -> Result<(), Failed>
+/// Writes all the bytes, and flushes them.
+///
+/// # Errors
+///
+/// `Failed` only where the sink's count of faults rose; a prefix may have been written.
+pub fn write_out<K: Sink>(sink: &mut K, bytes: &[u8]) -> Result<(), Failed>
     ensures whole { OnOk result (Appends (K.held sink.old) (K.held sink.new) bytes.now) }
     ensures part { OnErr result (AppendsPrefix (K.held sink.old) (K.held sink.new) bytes.now) }
     ensures flushed { OnOk result (K.flushed sink.new ≡ K.held sink.new) }

@@ -7,27 +7,32 @@ const PAUSE: u64 = 1;
 
 /// Logs how far a work of many parts is: at most once a second, so nothing of a work that takes less.
 #[derive(Drop)]
-pub(crate) struct Progress {
+pub struct Progress {
     work: &'static str,
+    total: Option<u64>,
     done: u64,
     said: Option<Instant>,
 }
 
 impl Progress {
-    /// A work of which no part is done.
-    pub(crate) fn begin<R: Clock>(rt: &R, work: &'static str) -> Progress {
+    /// A work of which no part is done; of so many parts, where that is known.
+    pub fn begin<R: Clock>(rt: &R, work: &'static str, total: Option<u64>) -> Progress {
         Progress {
             work,
+            total,
             done: 0,
             said: Instant::now(rt).ok(),
         }
     }
 
     /// One part more is done.
-    pub(crate) fn part_done<R: Clock + Log>(&mut self, rt: &R) {
+    pub fn part_done<R: Clock + Log>(&mut self, rt: &R) {
         self.done = self.done.saturating_add(1);
         if self.is_due(rt) {
-            info!(rt; "{}: {}", self.work, self.done);
+            match self.total {
+                Some(total) => info!(rt; "{}: {} of {total}", self.work, self.done),
+                None => info!(rt; "{}: {}", self.work, self.done),
+            }
         }
     }
 
