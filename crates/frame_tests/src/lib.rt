@@ -1,5 +1,5 @@
-//! Tests of the bytes of a connection: those of the server, `http_frame` (`http`), and those of a copy, `mirror_frame`
-//! (`mirror`).
+//! Tests of bytes that are exchanged: those of the server, `http_frame` (`http`), of a copy, `mirror_frame` (`mirror`), and of
+//! a session about past states, `past_frame` (`past`).
 //!
 //! They test the finished crates from a crate of their own: in each it would be proved a second time.
 #![tactic(auto)]
@@ -8,3 +8,5 @@
 mod http;
 #[cfg(test)]
 mod mirror;
+#[cfg(test)]
+mod past;
