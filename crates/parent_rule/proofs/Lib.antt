@@ -1,4 +1,5 @@
 mod Sums
+mod SumsOfFour
 mod Medians
 mod Cases
 mod Rows

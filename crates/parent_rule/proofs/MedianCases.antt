@@ -1,5 +1,5 @@
 -- The lower median of four numbers of which some may be blank: by which are kept, where a blank one is the most there can be.
-use Rattle.std.proofs.Common.{◌≡◌, ℕ, zero, suc, ◌<◌, ◌≤◌, Bool, IsTrue, true, false, cond, [], ◌∷◌, refl, sym, ap, ◌∙◌, arith, ℤ, pos, ◌≤ℤ◌, slice_index_or}
+use Rattle.std.proofs.Common.{◌≡◌, ◌<◌, ◌≤◌, Bool, true, false, cond, [], ◌∷◌, refl, sym, ap, ◌∙◌, arith, ℤ, pos, ◌≤ℤ◌, slice_index_or}
 use Rattle.std.proofs.lemmas.Int.{ints, clamps}
 use Rattle.std.specs.Int.{int_min, int_max}
 use Rattle.std.specs.Ordering.{ord_min, ord_max, int_cmp, is_lt}
@@ -125,17 +125,6 @@ second_is false false true true a b c d most blank ha hb hc hd some few = absurd
 second_is false false true false a b c d most blank ha hb hc hd some few = absurd (omega arith)
 second_is false false false true a b c d most blank ha hb hc hd some few = absurd (omega arith)
 second_is false false false false a b c d most blank ha hb hc hd some few = absurd (omega arith)
-
--- what a flag that is false says of the count
-pub some_from : (none : Bool) (count : ℕ) → (count ≡ 0 → IsTrue none) → none ≡ false → 0 < count
-some_from none zero says is = let e : none ≡ true = says refl in cc
-some_from none (suc n) says is = omega arith
-
-pub more_from : (few : Bool) (count : ℕ) → (count ≤ 2 → IsTrue few) → few ≡ false → 2 < count
-more_from few zero says is = let e : few ≡ true = says (omega arith) in cc
-more_from few (suc zero) says is = let e : few ≡ true = says (omega arith) in cc
-more_from few (suc (suc zero)) says is = let e : few ≡ true = says (omega arith) in cc
-more_from few (suc (suc (suc n))) says is = omega arith
 
 -- four numbers, none above the greatest, each where it is placed: behind the others where it is blank
 pub record Placed (most a b c d : ℤ) (fa fb fc fd : Bool) (pa pb pc pd : ℤ) : Type 0 where

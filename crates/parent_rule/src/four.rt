@@ -6,7 +6,9 @@ ghost use Rattle.parent_rule.specs.Depth.{IsNumber, greatest_number};
 ghost use Rattle.parent_rule.specs.Combined.{ascending, combined};
 ghost use Rattle.parent_rule.specs.declared.combine.Combine.TheVariants.{Mean, Median};
 
-use crate::pixel_number::{Kept, PixelNumber};
+use crate::kept::Kept;
+use crate::mean_of_kept::mean_of_kept;
+use crate::pixel_number::PixelNumber;
 
 /// The mean of four numbers, blank ones left out.
 #[inline(always)]
@@ -48,10 +50,10 @@ pub fn median_of_four<N: PixelNumber>(a: N, b: N, c: N, d: N, blank: N) -> N
         if_kept(c, kept.c, greatest),
         if_kept(d, kept.d, greatest),
     );
-    let (none, few) = N::tally(kept);
-    if none {
+    let count = kept.count();
+    if count == 0 {
         blank
-    } else if few {
+    } else if count <= 2 {
         first
     } else {
         second
@@ -85,10 +87,10 @@ fn mean_of_some<N: PixelNumber>(a: N, b: N, c: N, d: N, kept: Kept, blank: N) ->
 {
     // For the prover: each is a number of the width.
     let _ranges = (a.wide(), b.wide(), c.wide(), d.wide());
-    let (mean, some) = N::mean_of_kept(a, b, c, d, kept);
+    let (mean, is_none) = mean_of_kept(a, b, c, d, kept);
     // Moved before it is asked whether there is one, so that this is no branch.
     let mean = beside_blank(mean, blank);
-    if some { mean } else { blank }
+    if is_none { blank } else { mean }
 }
 
 // The mean; one more where it is the blank number.

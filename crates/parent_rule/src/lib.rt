@@ -8,7 +8,9 @@
 mod combine;
 mod depth;
 mod four;
+mod kept;
 mod mean;
+mod mean_of_kept;
 mod permit;
 mod pixel_number;
 
@@ -17,4 +19,4 @@ pub use depth::Depth;
 pub use four::{mean_of_four, mean_of_full, median_of_four};
 pub use mean::{mean_rows, mean4};
 pub use permit::{Permit, Steps};
-pub use pixel_number::{Kept, PixelNumber};
+pub use pixel_number::PixelNumber;
