@@ -31,12 +31,9 @@ use Rattle.survey_conf.specs.Properties.{properties_text}
 use Rattle.edit_journal.specs.Leaves.{LeafTiles}
 use Rattle.std.proofs.lemmas.Map.Made.{keys_of-map_values}
 use Rattle.generation.proofs.Orders.{exists_in_order}
+use Rattle.generation.proofs.NoFile.{Among, among_cases, same_key, other_key, not_found}
 
 -- ---- a path among others
-
-abbrev pub Among : Path → List Path → Type 0
-Among path [] = ⊥
-Among path (p ∷ ps) = (p ≡ path) ⊎ Among path ps
 
 pub among_left : (path : Path) (ps qs : List Path) → Among path ps → Among path (ps ++ qs)
 among_left path [] qs h = absurd h
@@ -47,34 +44,12 @@ pub among_right : (path : Path) (ps qs : List Path) → Among path qs → Among 
 among_right path [] qs h = h
 among_right path (p ∷ ps) qs h = inr (among_right path ps qs h)
 
-pub among_cases : (path : Path) (ps qs : List Path) → Among path (ps ++ qs) → Among path ps ⊎ Among path qs
-among_cases path [] qs h = inr h
-among_cases path (p ∷ ps) qs (inl e) = inl (inl e)
-among_cases path (p ∷ ps) qs (inr h) = elim (among_cases path ps qs h) [ inl l ↦ inl (inr l) | inr r ↦ inr r ]
-
 -- ---- look-ups by spelling
-
-tied : (r : Ordering) → is_eq r ≡ true → r ≡ Equal
-tied Less e = cc
-tied Equal e = refl
-tied Greater e = cc
-
-same_key : (a b : List ℕ) → eq_by_cmp (slice_cmp nat_cmp) a b ≡ true → a ≡ b
-same_key a b e = slice_cmp-IsAntisymmetric nat_cmp-IsAntisymmetric a b (tied (slice_cmp nat_cmp a b) e)
 
 own_key : (a : List ℕ) → eq_by_cmp (slice_cmp nat_cmp) a a ≡ true
 own_key a = (eq_by_cmp_equiv nat_list_cmp_total).refl a
 
-other_key : (a b : List ℕ) → (a ≡ b → ⊥) → eq_by_cmp (slice_cmp nat_cmp) a b ≡ false
-other_key a b apart = elim (eq_by_cmp (slice_cmp nat_cmp) a b) as (λ t. eq_by_cmp (slice_cmp nat_cmp) a b ≡ t → t ≡ false) [
-  | true ↦ λ e. absurd (apart (same_key a b e))
-  | false ↦ λ e. refl
-] refl
-
 module _ (f : Path → List ℕ) where
-  entries_of : List Path → List (List ℕ × List ℕ)
-  entries_of ps = map (λ p. (spelling p, f p)) ps
-
   found : (path : Path) (ps : List Path) → ((other : Path) → Among other ps → spelling other ≡ spelling path → other ≡ path) → Among path ps
       → find (slice_cmp nat_cmp) (spelling path) (map (λ p. (spelling p, f p)) ps) ≡ Some (f path)
   found path [] apart h = absurd h
@@ -87,10 +62,6 @@ module _ (f : Path → List ℕ) where
       later : (p ≡ path) ⊎ Among path ps → eq_by_cmp (slice_cmp nat_cmp) (spelling path) (spelling p) ≡ false → Among path ps
       later (inl is) e = let own : eq_by_cmp (slice_cmp nat_cmp) (spelling path) (spelling p) ≡ true = ap (λ q. eq_by_cmp (slice_cmp nat_cmp) (spelling path) (spelling q)) is ∙ own_key (spelling path) in cc
       later (inr a) e = a
-
-  not_found : (text : List ℕ) (ps : List Path) → ((other : Path) → Among other ps → spelling other ≡ text → ⊥) → find (slice_cmp nat_cmp) text (map (λ p. (spelling p, f p)) ps) ≡ None
-  not_found text [] apart = refl
-  not_found text (p ∷ ps) apart = rw (other_key text (spelling p) (λ e. apart p (inl refl) (sym e))) (not_found text ps (λ other a. apart other (inr a)))
 
   -- where something is found, it is at some place
   pub place_found : (text : List ℕ) (ps : List Path) → IsSome (find (slice_cmp nat_cmp) text (map (λ p. (spelling p, f p)) ps)) → (i : ℕ) × (i < length ps) × (option_map spelling (slice_get ps i) ≡ Some text)

@@ -15,30 +15,32 @@ use Rattle.pyramid_model.specs.Tile.{exists}
 use Rattle.survey_conf.specs.Description.{Description}
 use Rattle.generation.specs.Files.{tile_paths, mosaic_paths, paths, file_of, files}
 
-abbrev Among : Path → List Path → Type 0
+-- a path among others
+abbrev pub Among : Path → List Path → Type 0
 Among path [] = ⊥
 Among path (p ∷ ps) = (p ≡ path) ⊎ Among path ps
 
-among_cases : (path : Path) (ps qs : List Path) → Among path (ps ++ qs) → Among path ps ⊎ Among path qs
+pub among_cases : (path : Path) (ps qs : List Path) → Among path (ps ++ qs) → Among path ps ⊎ Among path qs
 among_cases path [] qs h = inr h
 among_cases path (p ∷ ps) qs (inl e) = inl (inl e)
 among_cases path (p ∷ ps) qs (inr h) = elim (among_cases path ps qs h) [ inl l ↦ inl (inr l) | inr r ↦ inr r ]
 
+-- spellings are keys
 tied : (r : Ordering) → is_eq r ≡ true → r ≡ Equal
 tied Less e = cc
 tied Equal e = refl
 tied Greater e = cc
 
-same_key : (a b : List ℕ) → eq_by_cmp (slice_cmp nat_cmp) a b ≡ true → a ≡ b
+pub same_key : (a b : List ℕ) → eq_by_cmp (slice_cmp nat_cmp) a b ≡ true → a ≡ b
 same_key a b e = slice_cmp-IsAntisymmetric nat_cmp-IsAntisymmetric a b (tied (slice_cmp nat_cmp a b) e)
 
-other_key : (a b : List ℕ) → (a ≡ b → ⊥) → eq_by_cmp (slice_cmp nat_cmp) a b ≡ false
+pub other_key : (a b : List ℕ) → (a ≡ b → ⊥) → eq_by_cmp (slice_cmp nat_cmp) a b ≡ false
 other_key a b apart = elim (eq_by_cmp (slice_cmp nat_cmp) a b) as (λ t. eq_by_cmp (slice_cmp nat_cmp) a b ≡ t → t ≡ false) [
   | true ↦ λ e. absurd (apart (same_key a b e))
   | false ↦ λ e. refl
 ] refl
 
-not_found : (f : Path → List ℕ) (text : List ℕ) (ps : List Path) → ((other : Path) → Among other ps → spelling other ≡ text → ⊥) → find (slice_cmp nat_cmp) text (map (λ p. (spelling p, f p)) ps) ≡ None
+pub not_found : (f : Path → List ℕ) (text : List ℕ) (ps : List Path) → ((other : Path) → Among other ps → spelling other ≡ text → ⊥) → find (slice_cmp nat_cmp) text (map (λ p. (spelling p, f p)) ps) ≡ None
 not_found f text [] apart = refl
 not_found f text (p ∷ ps) apart = rw (other_key text (spelling p) (λ e. apart p (inl refl) (sym e))) (not_found f text ps (λ other a. apart other (inr a)))
 
