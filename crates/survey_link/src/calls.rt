@@ -1,7 +1,8 @@
 //! The calls on a form in memory, counted.
-ghost use Rattle.std.specs.Prelude.{◌≡◌, ◌↔◌, Contains, IsTrue, IfOk};
+ghost use Rattle.std.specs.Prelude.{◌≡◌, ◌↔◌, ◌⊎◌, Contains, IsTrue, IfOk, OnOk, OnErr, IsErr, false};
 ghost use Rattle.survey_link.specs.Link.{next_count};
 
+use crate::faults::Failed;
 use std::alloc::{AllocError, Global};
 
 /// Which calls are to fail, by their numbers from 0, and how many came and failed.
@@ -37,6 +38,29 @@ impl Calls {
             made: self.made,
             faults: self.faults,
         })
+    }
+
+    /// Makes the next call, which fails if and only if its number is listed.
+    pub(crate) fn make(&mut self) -> Result<(), Failed>
+        ensures fails { IsErr result ↔ Contains self.old.fails.items self.old.made }
+        ensures counted { OnOk result (self.new ≡ record self.old { made = next_count self.old.made }) }
+        ensures failed { OnErr result (self.new ≡ record self.old { made = next_count self.old.made; faults = next_count self.old.faults }) }
+    {
+        self.make_if(true)
+    }
+
+    /// Makes the next call, which fails if and only if its number is listed or it isn't possible.
+    pub(crate) fn make_if(&mut self, possible: bool) -> Result<(), Failed>
+        ensures fails { IsErr result ↔ (Contains self.old.fails.items self.old.made ⊎ (possible ≡ false)) }
+        ensures counted { OnOk result (self.new ≡ record self.old { made = next_count self.old.made }) }
+        ensures failed { OnErr result (self.new ≡ record self.old { made = next_count self.old.made; faults = next_count self.old.faults }) }
+    {
+        if !possible || self.fails_next() {
+            self.fail();
+            return Err(Failed);
+        }
+        self.count();
+        Ok(())
     }
 
     /// Whether the next call is to fail.

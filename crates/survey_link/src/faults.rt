@@ -2,6 +2,7 @@
 ghost use Rattle.std.specs.Prelude.{Some, codes};
 ghost use Rattle.survey_link.specs.Faults.{link_fault_text, door_fault_text};
 
+use std::alloc::AllocError;
 use std::error::Error;
 use std::fmt;
 
@@ -25,6 +26,28 @@ pub enum DoorFault {
     Failed,
     /// There was no memory.
     OutOfMemory,
+}
+
+impl From<Failed> for LinkFault {
+    ghost use Rattle.std.specs.Prelude.{◌≡◌};
+    ghost use Rattle.survey_link.specs.declared.faults.LinkFault.TheVariants as fault;
+
+    ghost from_gives = { λ _ given. given ≡ fault.Failed };
+
+    fn from(_: Failed) -> LinkFault {
+        LinkFault::Failed
+    }
+}
+
+impl From<AllocError> for LinkFault {
+    ghost use Rattle.std.specs.Prelude.{◌≡◌};
+    ghost use Rattle.survey_link.specs.declared.faults.LinkFault.TheVariants as fault;
+
+    ghost from_gives = { λ _ given. given ≡ fault.OutOfMemory };
+
+    fn from(_: AllocError) -> LinkFault {
+        LinkFault::OutOfMemory
+    }
 }
 
 impl fmt::Display for Failed {

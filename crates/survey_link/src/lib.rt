@@ -43,5 +43,5 @@ pub use null_sink::NullSink;
 pub use shelf::Shelf;
 pub use sink::{Sink, write_all_parts, write_whole};
 pub use source::Source;
-pub use stream::{StreamSink, StreamSource};
+pub use stream::{StdStream, StreamSink, StreamSource};
 pub use sure_source::SureSource;

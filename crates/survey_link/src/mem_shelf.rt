@@ -129,15 +129,8 @@ impl Shelf for MemShelf {
         ensures out_of_memory { IsErrOf result LinkFault.OutOfMemory → self.new ≡ after_call self.old.files self.old }
         ensures never_falls { self.old.faults ≤ self.new.faults }
     {
-        if self.calls.fails_next() {
-            self.calls.fail();
-            return Err(LinkFault::Failed);
-        }
-        self.calls.count();
-        match paths(alloc, &self.files) {
-            Ok(paths) => Ok(paths),
-            Err(_) => Err(LinkFault::OutOfMemory),
-        }
+        self.calls.make()?;
+        Ok(paths(alloc, &self.files)?)
     }
 
     fn get(&mut self, alloc: Global, path: &str) -> Result<Option<Vec<u8>>, LinkFault>
@@ -148,15 +141,8 @@ impl Shelf for MemShelf {
         ensures out_of_memory { IsErrOf result LinkFault.OutOfMemory → self.new ≡ after_call self.old.files self.old }
         ensures never_falls { self.old.faults ≤ self.new.faults }
     {
-        if self.calls.fails_next() {
-            self.calls.fail();
-            return Err(LinkFault::Failed);
-        }
-        self.calls.count();
-        match copy_at(alloc, &self.files, path) {
-            Ok(found) => Ok(found),
-            Err(_) => Err(LinkFault::OutOfMemory),
-        }
+        self.calls.make()?;
+        Ok(copy_at(alloc, &self.files, path)?)
     }
 
     fn put(&mut self, path: &str, bytes: &[u8]) -> Result<(), LinkFault>
@@ -166,15 +152,9 @@ impl Shelf for MemShelf {
         ensures out_of_memory { IsErrOf result LinkFault.OutOfMemory → self.new ≡ after_call self.old.files self.old }
         ensures never_falls { self.old.faults ≤ self.new.faults }
     {
-        if self.calls.fails_next() {
-            self.calls.fail();
-            return Err(LinkFault::Failed);
-        }
-        self.calls.count();
-        match insert_copy(self.alloc, &mut self.files, path, bytes) {
-            Ok(()) => Ok(()),
-            Err(_) => Err(LinkFault::OutOfMemory),
-        }
+        self.calls.make()?;
+        insert_copy(self.alloc, &mut self.files, path, bytes)?;
+        Ok(())
     }
 
     fn remove(&mut self, path: &str) -> Result<(), LinkFault>
@@ -184,11 +164,7 @@ impl Shelf for MemShelf {
         ensures failed { IsErr result → IsErrOf result LinkFault.Failed }
         ensures never_falls { self.old.faults ≤ self.new.faults }
     {
-        if self.calls.fails_next() {
-            self.calls.fail();
-            return Err(LinkFault::Failed);
-        }
-        self.calls.count();
+        self.calls.make()?;
         remove_at(&mut self.files, path);
         Ok(())
     }

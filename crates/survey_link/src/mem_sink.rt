@@ -112,11 +112,7 @@ impl Sink for MemSink {
         ensures never_falls { self.old.faults ≤ self.new.faults }
     {
         let left = self.room - self.bytes.len();
-        if left == 0 || self.calls.fails_next() {
-            self.calls.fail();
-            return Err(Failed);
-        }
-        self.calls.count();
+        self.calls.make_if(left > 0)?;
         let count = buf.len().min(left);
         self.bytes.extend_from_slice(&buf[..count]).unwrap();
         Ok(count)
@@ -132,11 +128,7 @@ impl Sink for MemSink {
         ensures never_falls { self.old.faults ≤ self.new.faults }
     {
         let held = self.bytes.len();
-        if held == self.room || self.calls.fails_next() {
-            self.calls.fail();
-            return Err(Failed);
-        }
-        self.calls.count();
+        self.calls.make_if(held < self.room)?;
         extend_within(&mut self.bytes, self.room, parts);
         Ok(self.bytes.len() - held)
     }
@@ -147,11 +139,7 @@ impl Sink for MemSink {
         ensures refused { OnErr result (self.new ≡ after_failed_write self.old) }
         ensures never_falls { self.old.faults ≤ self.new.faults }
     {
-        if self.calls.fails_next() {
-            self.calls.fail();
-            return Err(Failed);
-        }
-        self.calls.count();
+        self.calls.make()?;
         self.flush_end = self.bytes.len();
         Ok(())
     }

@@ -98,11 +98,7 @@ impl Source for MemSource {
         ensures counted { visible_count self.new.calls ≡ readings_after 1 (visible_count self.old.calls) }
         ensures never_falls { self.old.faults ≤ self.new.faults }
     {
-        if self.calls.fails_next() {
-            self.calls.fail();
-            return Err(Failed);
-        }
-        self.calls.count();
+        self.calls.make()?;
         let rest = &self.bytes[self.at..];
         let count = rest.len().min(self.piece).min(buf.len());
         buf[..count].copy_from_slice(&rest[..count]);

@@ -11,35 +11,42 @@ use std::io;
 use std::io::{ErrorKind, IoSlice, Read, Write};
 use std::marker::Model;
 
-/// A source over a reader of std. The bytes left and its readings are opaque to the proof.
+/// A reader or a writer of std, as a source or as a sink. Its bytes and its readings are opaque to the proof.
 ///
-/// What it answers as `Failed` counts as a fault; an interrupted call is made again and counts as none.
+/// A call answered by `Failed` counts as a fault, also a write that takes nothing; an interrupted call is made again and
+/// counts as none.
 #[derive(Drop)]
-pub struct StreamSource<R> {
-    stream: R,
+pub struct StdStream<S> {
+    stream: S,
     faults: u64,
     last: Option<io::Error>,
 }
 
-impl<R> Model for StreamSource<R> {
+/// A reader of std, as a source.
+pub type StreamSource<R> = StdStream<R>;
+
+/// A writer of std, as a sink.
+pub type StreamSink<W> = StdStream<W>;
+
+impl<S> Model for StdStream<S> {
     ghost use Rattle.std.specs.Prelude.{◌≡◌, ◌↔◌, IsNone};
     ghost use Rattle.survey_link.specs.Stream.{StreamState, stream_code};
 
-    ghost Value = { StreamState R };
+    ghost Value = { StreamState S };
 
-    ghost coded = { stream_code R.code };
+    ghost coded = { stream_code S.code };
 
     ghost view = { λ a. record { stream = a.stream; faults = a.faults } };
 
     ghost invariant = { λ a. IsNone a.last ↔ (a.faults ≡ 0) };
 }
 
-impl<R> StreamSource<R> {
-    /// A source over the reader.
-    pub fn new(stream: R) -> StreamSource<R>
+impl<S> StdStream<S> {
+    /// A source over the reader, or a sink over the writer.
+    pub fn new(stream: S) -> StdStream<S>
         ensures { result ≡ record { stream = stream; faults = 0 } }
     {
-        StreamSource {
+        StdStream {
             stream,
             faults: 0,
             last: None,
@@ -66,7 +73,7 @@ impl<R> StreamSource<R> {
     }
 }
 
-impl<R: Read> Source for StreamSource<R> {
+impl<R: Read> Source for StdStream<R> {
     ghost left = { λ _. None };
 
     ghost readings = { λ _. None };
@@ -99,63 +106,7 @@ impl<R: Read> Source for StreamSource<R> {
     }
 }
 
-/// A sink over a writer of std. The bytes written are opaque to the proof.
-///
-/// What it answers as `Failed` counts as a fault, also a write that takes nothing; an interrupted call is made again and
-/// counts as none.
-#[derive(Drop)]
-pub struct StreamSink<W> {
-    stream: W,
-    faults: u64,
-    last: Option<io::Error>,
-}
-
-impl<W> Model for StreamSink<W> {
-    ghost use Rattle.std.specs.Prelude.{◌≡◌, ◌↔◌, IsNone};
-    ghost use Rattle.survey_link.specs.Stream.{StreamState, stream_code};
-
-    ghost Value = { StreamState W };
-
-    ghost coded = { stream_code W.code };
-
-    ghost view = { λ a. record { stream = a.stream; faults = a.faults } };
-
-    ghost invariant = { λ a. IsNone a.last ↔ (a.faults ≡ 0) };
-}
-
-impl<W> StreamSink<W> {
-    /// A sink over the writer.
-    pub fn new(stream: W) -> StreamSink<W>
-        ensures { result ≡ record { stream = stream; faults = 0 } }
-    {
-        StreamSink {
-            stream,
-            faults: 0,
-            last: None,
-        }
-    }
-
-    /// What was answered by the last call that failed; `None` if and only if none did.
-    pub fn last_error(&self) -> Option<io::Error>
-        ensures { IsNone result ↔ (self.now.faults ≡ 0) }
-    {
-        self.last
-    }
-
-    // Counts a call that failed.
-    fn fail<T>(&mut self, error: io::Error) -> Result<T, Failed>
-        ensures failed { IsErr result }
-        ensures kept { self.new.stream ≡ self.old.stream }
-        ensures counted { self.new.faults ≡ next_count self.old.faults }
-        ensures never_falls { self.old.faults ≤ self.new.faults }
-    {
-        self.faults = self.faults.saturating_add(1);
-        self.last = Some(error);
-        Err(Failed)
-    }
-}
-
-impl<W: Write> Sink for StreamSink<W> {
+impl<W: Write> Sink for StdStream<W> {
     ghost held = { λ _. None };
 
     ghost flushed = { λ _. None };

@@ -14,4 +14,4 @@ returns-clause-given c =
     rw (before, after) (taken_is c.self.inside.room old new (parts_bytes c.args.parts) (omega (arith, c.self.invariant.0, c.self.inside.bytes.ok.0)) c.extend_within.ensures.bytes) in
     let front : take c.self.inside.flush_end (old ++ take (c.len.result - c.len-held.result) (parts_bytes c.args.parts)) ≡ take c.self.inside.flush_end old =
     take-append-le c.self.inside.flush_end old _ (omega (arith, c.self.invariant.2, c.self.inside.bytes.ok.0)) in
-    rw (← c.self.view_is, grown, front, c.count.ensures) refl
+    rw (← c.self.view_is, grown, front, c.in_ok-make_if.ensures.counted) refl

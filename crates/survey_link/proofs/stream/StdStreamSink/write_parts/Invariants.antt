@@ -1,6 +1,6 @@
 use Rattle.std.proofs.Common.{◌≡◌}
 use Rattle.std.specs.Io.KnownBytes.{Keeps}
-use Rattle.survey_link.proofs.stream.StreamSinkSink.flush.Given as goal
+use Rattle.survey_link.proofs.stream.StdStreamSink.write_parts.Given as goal
 
 abbrev pub invariant-loop : goal.invariant-loop
 invariant-loop g l = record {

@@ -2,7 +2,7 @@ use Rattle.std.proofs.Common.{arith, rules}
 use Rattle.std.specs.Io.KnownBytes.{Keeps}
 use Rattle.std.proofs.KnownBytes.{Keeps-trans}
 use Rattle.survey_link.proofs.Prefixes.{nothing_appended}
-use Rattle.survey_link.proofs.stream.StreamSinkSink.write_parts.Goals as goal
+use Rattle.survey_link.proofs.stream.StdStreamSink.write_parts.Goals as goal
 
 pub returns-in-Ok-eq0-clause-kept : goal.returns-in-Ok-eq0-clause-kept
 returns-in-Ok-eq0-clause-kept g c =

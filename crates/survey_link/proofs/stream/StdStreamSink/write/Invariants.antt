@@ -1,6 +1,6 @@
 use Rattle.std.proofs.Common.{◌≡◌}
 use Rattle.std.specs.Io.KnownBytes.{Keeps}
-use Rattle.survey_link.proofs.stream.StreamSinkSink.write_parts.Given as goal
+use Rattle.survey_link.proofs.stream.StdStreamSink.write.Given as goal
 
 abbrev pub invariant-loop : goal.invariant-loop
 invariant-loop g l = record {
