@@ -7,7 +7,7 @@ use crate::connection::Connection;
 use crate::patience::Patience;
 use crate::watch::Watch;
 use std::io;
-use std::io::{ErrorKind, IoSlice};
+use std::io::IoSlice;
 use std::marker::Model;
 use std::sync::Arc;
 use std::time::{Clock, Duration};
@@ -55,30 +55,6 @@ impl<R: Clock> TcpOut<R> {
         if self.faults == 0 {
             let _ = linger(&self.connection);
         }
-    }
-
-    // Writes before the reply has taken too long, and answers how much was taken: not nothing.
-    fn write_in_time(&mut self, parts: &[IoSlice<'_>; 4]) -> io::Result<usize>
-        ensures some { IfOk result (λ m. 0 < m) }
-        ensures count { IfOk result (λ m. m ≤ length (io_slices_bytes parts.now)) }
-        ensures counts_none { self.new ≡ self.old }
-    {
-        for _ in 0..u64::MAX {
-            self.set_timeout()?;
-            match self.connection.stream()?.write_vectored(parts) {
-                Ok(0) => return Err(ErrorKind::WriteZero.into()),
-                Ok(count) => {
-                    self.watch.count(count);
-                    return Ok(count);
-                }
-                Err(error) => {
-                    if !self.watch.goes_on(error.kind()) {
-                        return Err(error);
-                    }
-                }
-            }
-        }
-        Err(ErrorKind::TimedOut.into())
     }
 
     fn set_timeout(&mut self) -> io::Result<()>
@@ -129,7 +105,7 @@ impl<R: Clock> Sink for TcpOut<R> {
         self.write_parts([buf, b"", b"", b""])
     }
 
-    // By one system call.
+    // By one system call, before the reply has taken too long.
     fn write_parts(&mut self, parts: [&[u8]; 4]) -> Result<usize, Failed>
         requires { 0 < length (parts_bytes parts) }
         ensures some { IfOk result (λ m. 0 < m) }
@@ -139,13 +115,28 @@ impl<R: Clock> Sink for TcpOut<R> {
         ensures never_falls { self.old ≤ self.new }
     {
         let slices = io_slices(parts);
-        match self.write_in_time(&slices) {
-            Ok(count) => Ok(count),
-            Err(_) => {
-                self.faults = self.faults.saturating_add(1);
-                Err(Failed)
+        for _ in 0..u64::MAX {
+            if self.set_timeout().is_err() {
+                break;
+            }
+            let Ok(stream) = self.connection.stream() else {
+                break;
+            };
+            match stream.write_vectored(&slices) {
+                Ok(0) => break,
+                Ok(count) => {
+                    self.watch.count(count);
+                    return Ok(count);
+                }
+                Err(error) => {
+                    if !self.watch.goes_on(error.kind()) {
+                        break;
+                    }
+                }
             }
         }
+        self.faults = self.faults.saturating_add(1);
+        Err(Failed)
     }
 
     // Nothing is kept back. The reply has ended, and the next byte that comes begins a turn.
