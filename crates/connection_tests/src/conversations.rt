@@ -3,47 +3,18 @@ use crate::rows::{replies, requests};
 use crate::surveys::goes;
 use hips_http::SessionEnd;
 use log::Log;
-use small_files::SURVEY;
+use small_files::{SURVEY, survey_with};
 use std::alloc::Global;
 use std::test::Fail;
 use std::thread::Threads;
 use std::time::Clock;
 
 // The survey with a rule of its own, or without one.
-const MEDIANS: &str = "creator_did = ivo://example/P/one
-obs_title = Survey one
-hips_release_date = 2024-05-01T00:00Z
-hips_status = public master clonable
-hips_order = 4
-hips_tile_width = 2
-survey_bitpix = 16
-survey_blank = -32768
-survey_version = 2
-survey_rule = median
-";
+const MEDIANS: &str = survey_with!("survey_version = 2\nsurvey_rule = median\n");
 
-const MEANS: &str = "creator_did = ivo://example/P/one
-obs_title = Survey one
-hips_release_date = 2024-05-01T00:00Z
-hips_status = public master clonable
-hips_order = 4
-hips_tile_width = 2
-survey_bitpix = 16
-survey_blank = -32768
-survey_version = 2
-survey_rule = mean
-";
+const MEANS: &str = survey_with!("survey_version = 2\nsurvey_rule = mean\n");
 
-const NO_RULE: &str = "creator_did = ivo://example/P/one
-obs_title = Survey one
-hips_release_date = 2024-05-01T00:00Z
-hips_status = public master clonable
-hips_order = 4
-hips_tile_width = 2
-survey_bitpix = 16
-survey_blank = -32768
-survey_version = 2
-";
+const NO_RULE: &str = survey_with!("survey_version = 2\n");
 
 // An edit and a publication, and the tile above.
 pub(crate) static EDIT: &str =

@@ -6,7 +6,7 @@ use hips_http::SessionEnd;
 use log::Log;
 use parent_rule::{Depth, Steps};
 use reader_pin::{Board, ChangedWith, Solo};
-use small_files::SURVEY;
+use small_files::{SURVEY, description_with};
 use small_survey::fits;
 use std::alloc::Global;
 use std::sync::Arc;
@@ -16,26 +16,13 @@ use std::time::Clock;
 use tile_pixels::Tile;
 
 // A survey of order 11, and one that goes down to order 0.
-static DEEP: &str = "creator_did = ivo://example/P/one
-obs_title = Survey one
-hips_release_date = 2024-05-01T00:00Z
-hips_status = public master clonable
-hips_order = 11
-hips_tile_width = 2
-survey_bitpix = 16
-survey_blank = -32768
-";
+static DEEP: &str = description_with!(
+    "hips_order = 11\nhips_tile_width = 2\nsurvey_bitpix = 16\nsurvey_blank = -32768\n"
+);
 
-static WHOLE: &str = "creator_did = ivo://example/P/one
-obs_title = Survey one
-hips_release_date = 2024-05-01T00:00Z
-hips_status = public master clonable
-hips_order = 11
-hips_order_min = 0
-hips_tile_width = 2
-survey_bitpix = 16
-survey_blank = -32768
-";
+static WHOLE: &str = description_with!(
+    "hips_order = 11\nhips_order_min = 0\nhips_tile_width = 2\nsurvey_bitpix = 16\nsurvey_blank = -32768\n"
+);
 
 // The first leaf of all and the last, and what covers them.
 static FAR: &str = "PUT /Norder11/Dir0/Npix0.fits;Content-Length: 2888|tile 11 0&short 1 2 3 5

@@ -3,20 +3,12 @@
 //! A row is the lines of a head with `;` between them, and behind a `|` the parts of a body with `&` between them. Each part
 //! is a word and what it takes.
 
-use small_files::{TILE_CARDS, fill_block, header};
+use small_files::{
+    COVERAGE_COLUMN, COVERAGE_HEADER, COVERAGE_TABLE, MOSAIC_HEADER, cell_header, fill_block,
+    header, properties_with,
+};
 use std::alloc::Global;
 use std::test::Fail;
-
-// The cards of the mosaic of a survey whose tiles have two columns and two lines of 16 bits.
-static MOSAIC: &str = "SIMPLE  =                    T
-BITPIX  =                   16
-NAXIS   =                    2
-NAXIS1  =                   54
-NAXIS2  =                   58
-BSCALE  =                1.0E0
-BZERO   =                0.0E0
-BLANK   =               -32768
-END";
 
 // The cards of a tile as an outside tool writes them, in two blocks.
 static OUTSIDE: &str = "SIMPLE  =                    T / conforms to FITS
@@ -33,46 +25,8 @@ COMMENT 1\nCOMMENT 2\nCOMMENT 3\nCOMMENT 4\nCOMMENT 5\nCOMMENT 6\nCOMMENT 7\nCOM
 COMMENT 1\nCOMMENT 2\nCOMMENT 3\nCOMMENT 4\nCOMMENT 5\nCOMMENT 6\nCOMMENT 7\nCOMMENT 8\nCOMMENT 9
 END";
 
-// The cards of the coverage: those of its first header, and those of its table, but for the last ones.
-static COVERAGE: &str = "SIMPLE  =                    T
-BITPIX  =                    8
-NAXIS   =                    0
-EXTEND  =                    T
-END";
-
-static TABLE: &str = "XTENSION= 'BINTABLE'
-BITPIX  =                    8
-NAXIS   =                    2
-NAXIS1  =                    8
-";
-
-static COLUMN: &str = "PCOUNT  =                    0
-GCOUNT  =                    1
-TFIELDS =                    1
-TTYPE1  = 'UNIQ    '
-TFORM1  = '1K      '
-PIXTYPE = 'HEALPIX '
-ORDERING= 'NUNIQ   '
-COORDSYS= 'C       '
-";
-
 // The properties of the survey, but for their last lines.
-static PROPERTIES: &str = "creator_did = ivo://example/P/one
-obs_title = Survey one
-dataproduct_type = image
-hips_version = 1.4
-hips_release_date = 2024-05-01T00:00Z
-hips_status = public master clonable
-hips_frame = equatorial
-hips_order = 4
-hips_order_min = 3
-hips_tile_width = 2
-hips_tile_format = fits
-survey_bitpix = 16
-survey_bscale = 1.0E0
-survey_bzero = 0.0E0
-survey_blank = -32768
-";
+static PROPERTIES: &str = properties_with!("");
 
 // Appends a header with a card of each line.
 fn push_header(alloc: Global, file: &mut Vec<u8>, cards: &str) -> Result<(), Fail> {
@@ -129,16 +83,15 @@ fn push_line(body: &mut Vec<u8>, line: &str) -> Result<(), Fail> {
 // Appends the header of a tile: `cell` is its order and its number.
 fn push_tile(alloc: Global, body: &mut Vec<u8>, cell: &str) -> Result<(), Fail> {
     let (order, npix) = cell.split_once(' ').unwrap_or((cell, ""));
-    let cards = format!(in alloc; "{TILE_CARDS}ORDER   = {order:>20}\nNPIX    = {npix:>20}\nEND")?;
-    push_header(alloc, body, &cards)
+    push_bytes(body, &cell_header(alloc, order, npix)?)
 }
 
 // Appends the headers of the coverage: `counts` is its order and how many rows it has.
 fn push_coverage(alloc: Global, body: &mut Vec<u8>, counts: &str) -> Result<(), Fail> {
     let (order, rows) = counts.split_once(' ').unwrap_or((counts, ""));
-    push_header(alloc, body, COVERAGE)?;
+    push_header(alloc, body, COVERAGE_HEADER)?;
     let cards = format!(in alloc;
-        "{TABLE}NAXIS2  = {rows:>20}\n{COLUMN}MOCORDER= {order:>20}\nEND"
+        "{COVERAGE_TABLE}NAXIS2  = {rows:>20}\n{COVERAGE_COLUMN}MOCORDER= {order:>20}\nEND"
     )?;
     push_header(alloc, body, &cards)
 }
@@ -152,7 +105,7 @@ fn push_part(alloc: Global, body: &mut Vec<u8>, part: &str) -> Result<(), Fail> 
         "properties" => push_bytes(body, PROPERTIES.as_bytes()),
         "tile" => push_tile(alloc, body, rest),
         "outside" => push_header(alloc, body, OUTSIDE),
-        "mosaic" => push_header(alloc, body, MOSAIC),
+        "mosaic" => push_header(alloc, body, MOSAIC_HEADER),
         "coverage" => push_coverage(alloc, body, rest),
         "card" => put_card(body, rest, false),
         "behind" => put_card(body, rest, true),

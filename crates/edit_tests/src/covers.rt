@@ -7,6 +7,7 @@ use coverage_moc::{Cover, CoverRefusal, plain};
 use healpix_nested::cells;
 use leaf_store::Store;
 use parent_rule::{Depth, Steps};
+use small_files::{COVERAGE_COLUMN, COVERAGE_HEADER, COVERAGE_TABLE, fill_block, header};
 use std::alloc::{AllocError, Global};
 use std::sync::Arc;
 use std::test::Fail;
@@ -278,56 +279,6 @@ fn covers_are_those_of_the_plain_program(rt: HostRuntime) -> Result<(), Fail> {
     Ok(())
 }
 
-// Adds a card: the line, filled with spaces.
-fn push_card(text: &mut Vec<u8>, line: &str) -> Result<(), AllocError> {
-    text.extend_from_slice(line.as_bytes())?;
-    for _ in line.len()..80 {
-        text.push(b' ')?;
-    }
-    Ok(())
-}
-
-// Fills the block.
-fn fill_block(text: &mut Vec<u8>, byte: u8) -> Result<(), AllocError> {
-    for _ in 0..2_880u32 {
-        if text.len() % 2_880 != 0 {
-            text.push(byte)?;
-        }
-    }
-    Ok(())
-}
-
-const PRIMARY: &str = "SIMPLE  =                    T
-BITPIX  =                    8
-NAXIS   =                    0
-EXTEND  =                    T
-END";
-
-// The cards before and after the one that says how many rows there are.
-const TABLE: &str = "XTENSION= 'BINTABLE'
-BITPIX  =                    8
-NAXIS   =                    2
-NAXIS1  =                    8";
-
-const COLUMN: &str = "PCOUNT  =                    0
-GCOUNT  =                    1
-TFIELDS =                    1
-TTYPE1  = 'UNIQ    '
-TFORM1  = '1K      '
-PIXTYPE = 'HEALPIX '
-ORDERING= 'NUNIQ   '
-COORDSYS= 'C       '
-MOCORDER=                    4
-END";
-
-// Adds a header: these cards, one a line, and spaces.
-fn push_header(text: &mut Vec<u8>, cards: &str) -> Result<(), AllocError> {
-    for line in cards.lines() {
-        push_card(text, line)?;
-    }
-    fill_block(text, b' ')
-}
-
 // Adds the rows, as the data of the table.
 fn push_rows(text: &mut Vec<u8>, rows: &[u64]) -> Result<(), AllocError> {
     for row in rows {
@@ -339,10 +290,11 @@ fn push_rows(text: &mut Vec<u8>, rows: &[u64]) -> Result<(), AllocError> {
 // The coverage file of order 4 with these rows.
 fn file(alloc: Global, rows: &[u64]) -> Result<Vec<u8>, AllocError> {
     let count = rows.len();
-    let table = format!(in alloc; "{TABLE}\nNAXIS2  = {count:>20}\n{COLUMN}")?;
-    let mut text = Vec::new(alloc);
-    push_header(&mut text, PRIMARY)?;
-    push_header(&mut text, &table)?;
+    let table = format!(in alloc;
+        "{COVERAGE_TABLE}NAXIS2  = {count:>20}\n{COVERAGE_COLUMN}MOCORDER=                    4\nEND"
+    )?;
+    let mut text = header(alloc, COVERAGE_HEADER)?;
+    text.extend_from_slice(&header(alloc, &table)?)?;
     push_rows(&mut text, rows)?;
     Ok(text)
 }

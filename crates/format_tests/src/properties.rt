@@ -1,35 +1,10 @@
 //! Worked examples of the properties of a description.
+use small_files::{SURVEY, properties_with};
 use std::alloc::Global;
 use std::test::Fail;
 use survey_conf::{Conf, ConfRefusal};
 
-const PLAIN: &[u8] = b"creator_did = ivo://example/P/one
-obs_title = Survey one
-hips_release_date = 2024-05-01T00:00Z
-hips_status = public master clonable
-hips_order = 4
-hips_tile_width = 2
-survey_bitpix = 16
-survey_blank = -32768
-";
-
-const PLAIN_WRITTEN: &[u8] = b"creator_did = ivo://example/P/one
-obs_title = Survey one
-dataproduct_type = image
-hips_version = 1.4
-hips_release_date = 2024-05-01T00:00Z
-hips_status = public master clonable
-hips_frame = equatorial
-hips_order = 4
-hips_order_min = 3
-hips_tile_width = 2
-hips_tile_format = fits
-survey_bitpix = 16
-survey_bscale = 1.0E0
-survey_bzero = 0.0E0
-survey_blank = -32768
-survey_leaves = 0
-";
+const WRITTEN: &str = properties_with!("survey_leaves = 0\n");
 
 const EACH_KEY: &[u8] = b"# Each key that is known, and two that are not.
 survey_rule = median
@@ -88,8 +63,8 @@ fn properties(alloc: Global, text: &[u8], leaves: u64) -> Result<Vec<u8>, ConfRe
 
 #[test]
 fn writes_each_key_in_order(rt: HostRuntime) -> Result<(), Fail> {
-    let plain = properties(rt.alloc(), PLAIN, 0)?;
-    assert!(rt; plain.as_slice() == PLAIN_WRITTEN, "the required keys");
+    let plain = properties(rt.alloc(), SURVEY.as_bytes(), 0)?;
+    assert!(rt; plain.as_slice() == WRITTEN.as_bytes(), "the required keys");
     let each = properties(rt.alloc(), EACH_KEY, u64::MAX)?;
     assert!(rt; each.as_slice() == EACH_KEY_WRITTEN, "each key");
     Ok(())
@@ -105,7 +80,10 @@ fn comes_back(alloc: Global, text: &[u8]) -> Result<bool, ConfRefusal> {
 
 #[test]
 fn reads_what_was_written(rt: HostRuntime) -> Result<(), Fail> {
-    assert!(rt; comes_back(rt.alloc(), PLAIN)?, "the required keys");
+    assert!(rt;
+        comes_back(rt.alloc(), SURVEY.as_bytes())?,
+        "the required keys"
+    );
     assert!(rt; comes_back(rt.alloc(), EACH_KEY)?, "each key");
     Ok(())
 }

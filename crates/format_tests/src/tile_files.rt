@@ -4,22 +4,18 @@ ghost use Rattle.std.specs.Prelude.{◌≡◌, IfOk, length};
 use fits_tile::{body_room, decode, encode_image, encode_into, file_len};
 use healpix_nested::Cell;
 use parent_rule::Steps;
-use small_files::{SURVEY, TILE_HEADER, fill_block, header, push_card};
+use small_files::{
+    MOSAIC_HEADER, SURVEY, TILE_HEADER, description_with, fill_block, header, push_card,
+};
 use std::alloc::{AllocError, Global};
 use std::process::Abort;
 use std::test::Fail;
 use survey_conf::Conf;
 
 // A survey of the width that HiPS recommends, whose numbers have no sign.
-const WIDE_SURVEY: &str = "creator_did = ivo://example/P/one
-obs_title = Survey one
-hips_release_date = 2024-05-01T00:00Z
-hips_status = public master clonable
-hips_order = 3
-survey_bitpix = 16
-survey_bzero = 32768
-survey_blank = -32768
-";
+const WIDE_SURVEY: &str = description_with!(
+    "hips_order = 3\nsurvey_bitpix = 16\nsurvey_bzero = 32768\nsurvey_blank = -32768\n"
+);
 
 // So many bytes, all the same.
 fn repeated(alloc: Global, byte: u8, len: usize) -> Result<Vec<u8>, AllocError>
@@ -243,16 +239,6 @@ fn reads_and_writes_a_wide_tile(rt: HostRuntime) -> Result<(), Fail> {
     Ok(())
 }
 
-const IMAGE_HEADER: &str = "SIMPLE  =                    T
-BITPIX  =                   16
-NAXIS   =                    2
-NAXIS1  =                   54
-NAXIS2  =                   58
-BSCALE  =                1.0E0
-BZERO   =                0.0E0
-BLANK   =               -32768
-END";
-
 // The file of an image of 54 columns and 58 lines of the numbers that come after the first block.
 fn image(alloc: Global, conf: &Conf, file: &[u8]) -> Result<Vec<u8>, Fail> {
     let raw = file.get(2_880..9_144).ok_or("a short file")?;
@@ -264,7 +250,7 @@ fn image(alloc: Global, conf: &Conf, file: &[u8]) -> Result<Vec<u8>, Fail> {
 
 // Whether such an image is written as its file.
 fn is_image(alloc: Global, conf: &Conf) -> Result<bool, Fail> {
-    let wanted = file(alloc, IMAGE_HEADER, 6_264)?;
+    let wanted = file(alloc, MOSAIC_HEADER, 6_264)?;
     let found = image(alloc, conf, &wanted)?;
     Ok(found.len() == 11_520 && found.as_slice() == wanted.as_slice())
 }

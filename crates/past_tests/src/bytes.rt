@@ -4,30 +4,16 @@
 //! as an editor sends it, without what fills its last block, 2,888 bytes; `whole` and the same words are the file as it is
 //! served, 5,760 bytes; `properties` are those of the survey, up to the number of its leaves; `times`, a number and a text
 //! are that text so many times.
-use small_files::{TILE_CARDS, header};
+use small_files::{PROPERTIES, cell_header};
 use std::alloc::Global;
 use std::test::Fail;
-
-// The properties, up to the number of the leaves.
-static PROPERTIES: &str =
-    "creator_did = ivo://example/P/one;obs_title = Survey one;dataproduct_type = image;hips_version = 1.4;\
-hips_release_date = 2024-05-01T00:00Z;hips_status = public master clonable;hips_frame = equatorial;hips_order = 4;\
-hips_order_min = 3;hips_tile_width = 2;hips_tile_format = fits;survey_bitpix = 16;survey_bscale = 1.0E0;survey_bzero = 0.0E0;\
-survey_blank = -32768;survey_leaves = ";
-
-// Appends the header of a tile's file.
-fn push_header(alloc: Global, bytes: &mut Vec<u8>, order: &str, npix: &str) -> Result<(), Fail> {
-    let cards = format!(in alloc; "{TILE_CARDS}ORDER   = {order:>20}\nNPIX    = {npix:>20}\nEND")?;
-    bytes.extend_from_slice(&header(alloc, cards.as_str())?)?;
-    Ok(())
-}
 
 // Appends the file of a tile by its order, its number and its stored numbers; then zero bytes until it has so many bytes.
 fn push_tile(alloc: Global, bytes: &mut Vec<u8>, words: &str, size: usize) -> Result<(), Fail> {
     let end = bytes.len().saturating_add(size);
     let (order, rest) = words.split_once(' ').ok_or("no order")?;
     let (npix, numbers) = rest.split_once(' ').ok_or("no number")?;
-    push_header(alloc, bytes, order, npix)?;
+    bytes.extend_from_slice(&cell_header(alloc, order, npix)?)?;
     for number in numbers.split(' ') {
         bytes.extend_from_slice(&number.parse::<i16>()?.to_be_bytes())?;
     }

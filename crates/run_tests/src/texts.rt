@@ -7,20 +7,12 @@
 //! - `conf`: the first lines of a description
 //! - `properties`: those of the small survey, up to the number of its leaves
 
-use small_files::{TILE_CARDS, header};
+use small_files::{PROPERTIES, cell_header, description_with};
 use std::alloc::Global;
 use std::test::Fail;
 use survey_link::{MemShelf, Shelf};
 
-static CONF: &str =
-    "creator_did = ivo://example/P/one^obs_title = Survey one^hips_release_date = 2024-05-01T00:00Z^\
-hips_status = public master clonable^";
-
-static PROPERTIES: &str =
-    "creator_did = ivo://example/P/one^obs_title = Survey one^dataproduct_type = image^hips_version = 1.4^\
-hips_release_date = 2024-05-01T00:00Z^hips_status = public master clonable^hips_frame = equatorial^hips_order = 4^\
-hips_order_min = 3^hips_tile_width = 2^hips_tile_format = fits^survey_bitpix = 16^survey_bscale = 1.0E0^survey_bzero = 0.0E0^\
-survey_blank = -32768^survey_leaves = ";
+static CONF: &str = description_with!("");
 
 /// The description of the small survey, as a file of a shelf.
 pub(crate) static SMALL: &str =
@@ -52,20 +44,13 @@ fn push_numbers(bytes: &mut Vec<u8>, words: &str, width: usize) -> Result<(), Fa
     Ok(())
 }
 
-// Appends the header of a tile.
-fn push_header(alloc: Global, bytes: &mut Vec<u8>, order: &str, npix: &str) -> Result<(), Fail> {
-    let cards = format!(in alloc; "{TILE_CARDS}ORDER   = {order:>20}\nNPIX    = {npix:>20}\nEND")?;
-    bytes.extend_from_slice(&header(alloc, cards.as_str())?)?;
-    Ok(())
-}
-
 // Appends the file of a tile: `words` are its order, its number and its stored numbers; then zero bytes until it has so many
 // bytes.
 fn push_tile(alloc: Global, bytes: &mut Vec<u8>, words: &str, size: usize) -> Result<(), Fail> {
     let end = bytes.len().saturating_add(size);
     let (order, rest) = words.split_once(' ').unwrap_or((words, ""));
     let (npix, numbers) = rest.split_once(' ').unwrap_or((rest, ""));
-    push_header(alloc, bytes, order, npix)?;
+    bytes.extend_from_slice(&cell_header(alloc, order, npix)?)?;
     push_numbers(bytes, numbers, 2)?;
     bytes.resize(end, 0)?;
     Ok(())

@@ -5,7 +5,7 @@ use edit_journal::Edit;
 use generation::{Body, Generation, Parts};
 use parent_rule::{Depth, Steps};
 use reader_pin::{Board, BoardRefusal, ChangedWith, Solo};
-use small_files::SURVEY;
+use small_files::{SURVEY, description_with};
 use small_survey::{first_state, fits};
 use std::alloc::{AllocError, Global};
 use std::process::Abort;
@@ -280,14 +280,9 @@ fn is_made<R: Threads + Sync>(rt: &R, alloc: Global, board: &Solo) -> Result<boo
 }
 
 // The names that every description here has: tiles of two columns, numbers of 16 bits.
-static NAMES: &str = "creator_did = ivo://example/P/one
-obs_title = Survey one
-hips_release_date = 2024-05-01T00:00Z
-hips_status = public master clonable
-hips_tile_width = 2
-survey_bitpix = 16
-survey_blank = -32768
-";
+static NAMES: &str = description_with!(
+    "hips_tile_width = 2\nsurvey_bitpix = 16\nsurvey_blank = -32768\n"
+);
 
 // Whether each step makes what the leaves make, of order `top`.
 fn all_go<R: Threads + Sync>(

@@ -3,7 +3,7 @@ use generation::Generation;
 use log::Log;
 use parent_rule::Steps;
 use shelf_io::{LoadRefusal, Verdict, export, load, verify};
-use small_files::{SURVEY, tile_file};
+use small_files::{SURVEY, description_with, tile_file};
 use std::alloc::Global;
 use std::process::Abort;
 use std::test::Fail;
@@ -12,35 +12,17 @@ use std::time::Clock;
 use survey_link::{LinkFault, MemShelf, OpenGate, Shelf};
 
 // The small survey with an order out of range.
-const TOO_DEEP: &str = "creator_did = ivo://example/P/one
-obs_title = Survey one
-hips_release_date = 2024-05-01T00:00Z
-hips_status = public master clonable
-hips_order = 12
-hips_tile_width = 2
-survey_bitpix = 16
-survey_blank = -32768
-";
+const TOO_DEEP: &str = description_with!(
+    "hips_order = 12\nhips_tile_width = 2\nsurvey_bitpix = 16\nsurvey_blank = -32768\n"
+);
 
 // The same without the blank number.
-const NO_BLANK: &str = "creator_did = ivo://example/P/one
-obs_title = Survey one
-hips_release_date = 2024-05-01T00:00Z
-hips_status = public master clonable
-hips_order = 4
-hips_tile_width = 2
-survey_bitpix = 16
-";
+const NO_BLANK: &str = description_with!(
+    "hips_order = 4\nhips_tile_width = 2\nsurvey_bitpix = 16\n"
+);
 
 // A survey of order 3 whose tiles have 512 columns and lines of 64 bits: a tile has 2,097,152 bytes.
-const WIDE: &str = "creator_did = ivo://example/P/one
-obs_title = Survey one
-hips_release_date = 2024-05-01T00:00Z
-hips_status = public master clonable
-hips_order = 3
-survey_bitpix = 64
-survey_blank = 0
-";
+const WIDE: &str = description_with!("hips_order = 3\nsurvey_bitpix = 64\nsurvey_blank = 0\n");
 
 // The header of a tile of the first survey, one card a line.
 const HEADER: &str = "SIMPLE  =                    T
