@@ -21,10 +21,12 @@ few_doors words (Catalog k n) asks = omega arith
 few_doors words Mirror asks = omega arith
 few_doors words (Serve asked) asks = let range : IsServe asked.connections asked.places = asks.in_range in omega arith
 
+-- words that ask for nothing that so many doors are enough for, where no command needs as many
+pub none_of_many : (words : List (List ℕ)) (doors : ℕ) → 64 ≤ doors → ¬ IsCommandFor doors words → ¬ IsCommand words
+none_of_many words doors many none (command, asks) =
+    let few = few_doors words command asks in none (command, asks, omega arith)
+
 -- the status 1 is that of words that ask for nothing
 pub usage_only : {S H D : Type 0} (words : List (List ℕ)) (old new : Ends S H D) (status : ℕ)
-    → 64 ≤ length old.doors.items → RunsWords words old new status → status ≡ 1 → ¬ IsCommand words
-usage_only words old new status many ran one (command, asks) =
-    let few = few_doors words command asks in
-    let fits : doors_of command ≤ length old.doors.items = omega arith in
-    (ran.run command asks fits).not_usage one
+    → RunsWords words old new status → status ≡ 1 → ¬ IsCommandFor (length old.doors.items) words
+usage_only words old new status ran one (command, asks, fits) = (ran.run command asks fits).not_usage one

@@ -4,12 +4,12 @@
 //! The commands of today are `probe`, `session`, `serve`, `export`, `verify`, `make`, `past`, `catalog` and `mirror`.
 #![tactic(auto)]
 
-ghost use Rattle.std.specs.Prelude.{◌≡◌, ◌⊎◌, ◌≤◌, IfOk, MatchResult};
+ghost use Rattle.std.specs.Prelude.{◌≡◌, ◌⊎◌, ◌≤◌, IfOk, MatchResult, length};
 ghost use Rattle.std.specs.Process.{exit_status};
 ghost use Rattle.healpix_nested.specs.Cells.{cell_count};
 ghost use Rattle.leaf_probe.specs.declared.asked.Probe.{Probe as AskedProbe};
-ghost use Rattle.hipsd_run.specs.declared.command.Command.TheVariants.{Probe as ProbeCommand};
-ghost use Rattle.hipsd_run.specs.Command.{texts, Asks, IsCommand};
+ghost use Rattle.hipsd_run.specs.declared.command.Command.TheVariants.{Mirror, Probe as ProbeCommand};
+ghost use Rattle.hipsd_run.specs.Command.{texts, Asks, IsCommand, IsCommandFor};
 
 mod faults;
 
@@ -18,7 +18,6 @@ use hipsd_run::{Command, command_for, run, say_version, second_word, words};
 use log::sink::Console;
 use log::{LevelFilter, Log, Logged, error, warn};
 use parent_rule::Steps;
-use std::alloc::AllocError;
 use std::env::VarError;
 use std::io::{BufReader, BufWriter};
 use std::process::ExitCode;
@@ -27,7 +26,7 @@ use std::sync::Wait;
 use std::thread::Threads;
 use std::{env, io};
 use survey_link::{FolderShelf, OpenGate, Sink, Source, StreamSink, StreamSource};
-use tcp_link::{Trial, dial, tcp_doors, try_address};
+use tcp_link::{TcpDoor, Trial, dial, tcp_doors, try_address};
 
 /// The status where nobody can listen at the address.
 const NO_ADDRESS: u8 = 8;
@@ -92,10 +91,11 @@ where
     }
 }
 
-// Runs the words over a connection to the peer that they name.
+// Runs `mirror` over a connection to the peer that the words name, and no door.
 fn run_with_peer<R>(rt: &R, net: &HostRuntime, words: &[String]) -> io::Result<u8>
 where
     R: Runtime + AllocGlobal + Threads + Wait + Log + Send + Sync + Clone + Drop,
+    requires { Asks (texts words.now) Mirror }
     ensures usage { ¬ IsCommand (texts words.now) → IfOk result (λ status. (status ≡ 1) ⊎ (status ≡ 6)) }
     ensures usage_only { IfOk result (λ status. status ≡ 1 → ¬ IsCommand (texts words.now)) }
     ensures probe_range { (asked : AskedProbe) → Asks (texts words.now) (ProbeCommand asked)
@@ -104,12 +104,13 @@ where
     let address = second_word(words);
     let (mut source, mut sink) = dial(rt, net, address)?;
     let mut shelf = FolderShelf::here(rt.clone()?);
-    let status = run_over(rt, net, words, &mut source, &mut sink, &mut shelf)?;
+    let mut doors = Vec::new(rt.alloc());
+    let status = run_over(rt, words, &mut source, &mut sink, &mut shelf, &mut doors);
     say_peer_fault(rt, status, address, &shelf);
     Ok(status)
 }
 
-// Runs the words over standard input and output.
+// Runs the words over standard input and output, and doors of the address that they name.
 fn run_with_streams<R>(rt: &R, net: &HostRuntime, words: &[String]) -> io::Result<u8>
 where
     R: Runtime + AllocGlobal + Threads + Wait + Log + Send + Sync + Clone + Drop,
@@ -123,35 +124,33 @@ where
     let mut source = StreamSource::new(BufReader::new(alloc, rt.reader())?);
     let mut sink = StreamSink::new(BufWriter::new(alloc, io::writer(rt))?);
     let mut shelf = FolderShelf::here(rt.clone()?);
-    let status = run_over(rt, net, words, &mut source, &mut sink, &mut shelf)?;
+    let mut doors = tcp_doors(rt, net, second_word(words), DOORS)?;
+    let status = run_over(rt, words, &mut source, &mut sink, &mut shelf, &mut doors);
     say_fault(rt, status, &source, &sink, &shelf);
     Ok(status)
 }
 
-// Runs the words over these ends and doors of their address, and answers the status.
+// Runs the words over these ends, and answers the status.
 fn run_over<R, S, K>(
     rt: &R,
-    net: &HostRuntime,
     words: &[String],
     source: &mut S,
     sink: &mut K,
     shelf: &mut FolderShelf<R>,
-) -> Result<u8, AllocError>
+    doors: &mut Vec<TcpDoor<R, HostRuntime>>,
+) -> u8
 where
     R: Runtime + AllocGlobal + Threads + Wait + Log + Send + Sync + Clone + Drop,
     S: Source,
     K: Sink,
-    ensures usage { ¬ IsCommand (texts words.now) → IfOk result (λ status. (status ≡ 1) ⊎ (status ≡ 6)) }
-    ensures usage_only { IfOk result (λ status. status ≡ 1 → ¬ IsCommand (texts words.now)) }
+    ensures usage { ¬ IsCommand (texts words.now) → (result ≡ 1) ⊎ (result ≡ 6) }
+    ensures usage_only { result ≡ 1 → ¬ IsCommandFor (length doors.old.items) (texts words.now) }
     ensures probe_range { (asked : AskedProbe) → Asks (texts words.now) (ProbeCommand asked)
-        → cell_count asked.order ≤ asked.npix → IfOk result (λ status. status ≡ 13) }
+        → cell_count asked.order ≤ asked.npix → result ≡ 13 }
 {
-    let mut doors = tcp_doors(rt, net, second_word(words), DOORS)?;
     let gate = OpenGate::new();
     let mut steps = Steps::new();
-    Ok(run(
-        rt, words, source, sink, shelf, &mut doors, &gate, &mut steps,
-    ))
+    run(rt, words, source, sink, shelf, doors, &gate, &mut steps)
 }
 
 // The exit status of a run: the run's own, and 11 where there was no memory for the words or the ends.
