@@ -6,7 +6,8 @@ use log::Log;
 use std::alloc::{AllocError, Global};
 use std::test::Fail;
 use std::time::Clock;
-use survey_link::{MemShelf, MemSink, MemSource, Shelf};
+use memory_link::{MemShelf, MemSink, MemSource};
+use survey_link::Shelf;
 
 /// What is between two `|` of a row.
 pub(crate) fn field(row: &str, at: usize) -> &str {

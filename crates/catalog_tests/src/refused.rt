@@ -4,7 +4,8 @@ use log::Log;
 use std::alloc::{AllocError, Global};
 use std::test::Fail;
 use std::time::Clock;
-use survey_link::{MemShelf, Shelf};
+use memory_link::MemShelf;
+use survey_link::Shelf;
 
 // A line that is refused in a catalogue of order 1, and the kind of its fault. `*N` is N times `x`.
 static LINES: &str = "\

@@ -4,7 +4,8 @@ use log::Log;
 use std::alloc::Global;
 use std::test::Fail;
 use std::time::Clock;
-use survey_link::{MemShelf, MemSink, MemSource, Shelf};
+use memory_link::{MemShelf, MemSink, MemSource};
+use survey_link::Shelf;
 
 // The files of an earlier run, in which the row b was the best one, and two that are no tiles.
 static BEFORE: &str = "\

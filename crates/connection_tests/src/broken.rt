@@ -11,7 +11,7 @@ use std::process::Abort;
 use std::test::Fail;
 use std::thread::Threads;
 use std::time::Clock;
-use survey_link::{MemSink, MemSource};
+use memory_link::{MemSink, MemSource};
 
 // Serves a connection over the survey without leaves, and answers how it ends.
 fn breaks<R: Threads + Sync + Clock + Log>(

@@ -9,7 +9,8 @@ use std::alloc::{AllocError, Global};
 use std::test::Fail;
 use std::thread::Threads;
 use std::time::Clock;
-use survey_link::{MemDoor, MemSink, MemSource, OpenGate};
+use memory_link::{MemDoor, MemSink, MemSource};
+use survey_link::OpenGate;
 
 static PIN: &[u8] = b"POST /pin HTTP/1.1\r\nHost: a\r\n\r\n";
 

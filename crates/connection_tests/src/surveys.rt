@@ -9,7 +9,8 @@ use std::alloc::Global;
 use std::test::Fail;
 use std::thread::Threads;
 use std::time::Clock;
-use survey_link::{MemSink, MemSource, OpenGate};
+use memory_link::{MemSink, MemSource};
+use survey_link::OpenGate;
 
 // The board of the survey with that description, without leaves.
 pub(crate) fn opened<R: Threads + Sync>(rt: &R, alloc: Global, conf: &str) -> Result<Solo, Fail> {

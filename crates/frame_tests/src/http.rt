@@ -7,7 +7,8 @@ use http_frame::*;
 use std::alloc::{AllocError, Global};
 use std::str;
 use std::test::Fail;
-use survey_link::{Failed, MemSink, MemSource};
+use memory_link::{MemSink, MemSource};
+use survey_link::Failed;
 
 // The bytes of a row as text, which an assertion shows.
 fn shown(bytes: &[u8]) -> &str {

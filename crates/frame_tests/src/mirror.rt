@@ -7,7 +7,8 @@ use mirror_frame::*;
 use std::alloc::{AllocError, Global};
 use std::str;
 use std::test::Fail;
-use survey_link::{MemSink, MemSource, NullSink};
+use memory_link::{MemSink, MemSource};
+use survey_link::NullSink;
 use tile_path::Path;
 
 // The bytes of a row as text, which an assertion shows.

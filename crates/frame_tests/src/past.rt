@@ -4,7 +4,8 @@ ghost use Rattle.std.specs.Prelude.{◌<◌};
 use past_frame::{MAX_LINE, Record, RecordStop, has_more, read_record};
 use std::alloc::{AllocError, Global};
 use std::test::Fail;
-use survey_link::{Inbox, MemSource};
+use memory_link::MemSource;
+use survey_link::Inbox;
 
 // The most bytes that the body of a batch has here.
 const ROOM: usize = 9;

@@ -8,7 +8,8 @@ use std::alloc::Global;
 use std::test::Fail;
 use std::thread::Threads;
 use std::time::Clock;
-use survey_link::{MemShelf, MemSink, MemSource, OpenGate, Shelf};
+use memory_link::{MemShelf, MemSink, MemSource};
+use survey_link::{OpenGate, Shelf};
 
 // The requests of a copy of a survey without leaves.
 static REQUESTS: &str = "POST /pin HTTP/1.1\r

@@ -8,7 +8,8 @@ use std::alloc::Global;
 use std::test::Fail;
 use std::thread::Threads;
 use std::time::Clock;
-use survey_link::{MemShelf, MemSink, Shelf};
+use memory_link::{MemShelf, MemSink};
+use survey_link::Shelf;
 use tile_path::Path;
 
 // What is changed in the replies of a peer with so many leaves: the first place of a text becomes another. The refusal is

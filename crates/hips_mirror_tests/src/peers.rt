@@ -10,7 +10,8 @@ use std::alloc::Global;
 use std::test::Fail;
 use std::thread::Threads;
 use std::time::Clock;
-use survey_link::{MemShelf, MemSink, OpenGate, Shelf};
+use memory_link::{MemShelf, MemSink};
+use survey_link::{OpenGate, Shelf};
 use tile_path::Path;
 
 // The header of a tile of the survey, one card a line.

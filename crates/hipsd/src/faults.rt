@@ -1,6 +1,6 @@
 //! What is logged if an end of the program failed.
 use log::{Log, error};
-use survey_link::{FolderShelf, StreamSink, StreamSource};
+use std_link::{FolderShelf, StreamSink, StreamSource};
 
 // The statuses where the standard input, the standard output and the folder failed.
 const INPUT: u8 = 5;

@@ -25,7 +25,8 @@ use std::rt::{Env, Runtime};
 use std::sync::Wait;
 use std::thread::Threads;
 use std::{env, io};
-use survey_link::{FolderShelf, OpenGate, Sink, Source, StreamSink, StreamSource};
+use std_link::{FolderShelf, StreamSink, StreamSource};
+use survey_link::{OpenGate, Sink, Source};
 use tcp_link::{TcpDoor, Trial, dial, tcp_doors, try_address};
 
 /// The status where nobody can listen at the address.

@@ -10,7 +10,8 @@ use std::io::ErrorKind;
 use std::rt::Files;
 use std::test::Fail;
 use std::{fs, io};
-use survey_link::{FolderShelf, LinkFault, Shelf};
+use std_link::FolderShelf;
+use survey_link::{LinkFault, Shelf};
 
 // Each line: a word, a path, and a text or a number. What is said of the last fault has the system's words.
 static STEPS: &str = "\

@@ -6,11 +6,9 @@ use std::alloc::{AllocError, Global};
 use std::io;
 use std::io::{ErrorKind, Read, Write};
 use std::test::Fail;
-use survey_link::{
-    Door, DoorFault, Failed, Gate, LinkFault, MemDoor, MemShelf, MemSink, MemSource, NullSink,
-    OpenGate, Shelf, Sink, Source, StreamSink, StreamSource, SureSource, write_all_parts,
-    write_whole,
-};
+use memory_link::{MemDoor, MemShelf, MemSink, MemSource, SureSource};
+use std_link::{StreamSink, StreamSource};
+use survey_link::{Door, DoorFault, Failed, Gate, LinkFault, NullSink, OpenGate, Shelf, Sink, Source, write_all_parts, write_whole};
 
 // What comes until the end, and how many reads failed on the way.
 fn drain<S: Source>(

@@ -19,7 +19,8 @@ use std::sync::Arc;
 use std::test::Fail;
 use std::thread::Threads;
 use std::time::Clock;
-use survey_link::{MemSink, MemSource, OpenGate};
+use memory_link::{MemSink, MemSource};
+use survey_link::OpenGate;
 
 // What is read, what is written, and how the session ends, where a number is that of a record without a line.
 static SESSIONS: &str = "||Done

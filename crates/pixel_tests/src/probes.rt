@@ -6,7 +6,7 @@ use leaf_probe::{Probe, probe};
 use parent_rule::Steps;
 use std::alloc::{AllocError, Global};
 use std::test::Fail;
-use survey_link::{MemSink, MemSource};
+use memory_link::{MemSink, MemSource};
 
 const LEAF_0: &str = "0000000000000000 0001 0002 0003 0005";
 

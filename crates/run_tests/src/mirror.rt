@@ -7,7 +7,8 @@ use std::sync::Wait;
 use std::test::Fail;
 use std::thread::Threads;
 use std::time::Clock;
-use survey_link::{MemShelf, Shelf};
+use memory_link::MemShelf;
+use survey_link::Shelf;
 
 // The requests of a copy: the first ones, those of four leaves and the mosaic, and the last one.
 static FIRST: &str =

@@ -26,7 +26,8 @@ use std::sync::Wait;
 use std::test::Fail;
 use std::thread::Threads;
 use std::time::Clock;
-use survey_link::{Door, MemDoor, MemShelf, MemSink, MemSource, OpenGate};
+use memory_link::{MemDoor, MemShelf, MemSink, MemSource};
+use survey_link::{Door, OpenGate};
 
 // Runs a command line over these ends, and answers its status.
 fn run_line<R, D>(

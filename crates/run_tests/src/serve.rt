@@ -7,7 +7,8 @@ use std::sync::Wait;
 use std::test::Fail;
 use std::thread::Threads;
 use std::time::Clock;
-use survey_link::{Door, MemDoor, MemSink, MemSource};
+use memory_link::{MemDoor, MemSink, MemSource};
+use survey_link::Door;
 
 /// Whether the run of a row ends so on the small survey over these doors, and leaves the shelf as it was.
 pub(crate) fn serves<R, D>(rt: &R, row: &str, doors: &mut Vec<D>) -> Result<bool, Fail>

@@ -8,7 +8,7 @@ use std::sync::Wait;
 use std::test::Fail;
 use std::thread::Threads;
 use std::time::Clock;
-use survey_link::MemShelf;
+use memory_link::MemShelf;
 
 // A shelf that isn't opened: the status, the line that is written, and the files.
 static REFUSALS: &str = "\

@@ -10,7 +10,8 @@
 use small_files::{PROPERTIES, cell_header, description_with};
 use std::alloc::Global;
 use std::test::Fail;
-use survey_link::{MemShelf, Shelf};
+use memory_link::MemShelf;
+use survey_link::Shelf;
 
 static CONF: &str = description_with!("");
 

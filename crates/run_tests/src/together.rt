@@ -11,7 +11,8 @@ use std::sync::{Arc, Wait};
 use std::test::Fail;
 use std::thread::{Threads, yield_now};
 use std::time::Clock;
-use survey_link::{Door, DoorFault, Failed, MemSink, Sink, Source, SureSource};
+use memory_link::{MemSink, SureSource};
+use survey_link::{Door, DoorFault, Failed, Sink, Source};
 
 // How many replies a client has.
 type Count = Arc<AtomicU64>;

@@ -10,7 +10,8 @@ use std::alloc::Global;
 use std::test::Fail;
 use std::thread::Threads;
 use std::time::Clock;
-use survey_link::{MemShelf, MemSink, MemSource, OpenGate, Shelf};
+use memory_link::{MemShelf, MemSink, MemSource};
+use survey_link::{OpenGate, Shelf};
 
 // Puts a leaf of two blocks, whose file follows, and publishes it.
 static PUT: &str = "PUT /Norder4/Dir0/Npix0.fits HTTP/1.1\r

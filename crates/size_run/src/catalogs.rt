@@ -5,7 +5,7 @@ use std::alloc::{AllocError, Global};
 use std::io::Print;
 use std::test::Fail;
 use std::time::Clock;
-use survey_link::{MemShelf, MemSink, MemSource};
+use memory_link::{MemShelf, MemSink, MemSource};
 
 // The ranks and ids of the rows, in their order: one row more than a catalogue may have.
 const FIRST: u64 = 1_000_000;

@@ -17,7 +17,8 @@ use std::thread::Threads;
 use std::time::Clock;
 use survey_conf::Conf;
 use survey_core::{State, read_batch};
-use survey_link::{MemShelf, OpenGate, Shelf};
+use memory_link::MemShelf;
+use survey_link::{OpenGate, Shelf};
 
 static TEXT: &[u8] =
     b"creator_did = ivo://example/P/size\nobs_title = Sizes\nhips_release_date = 2024-05-01T00:00Z\nhips_status = public master clonable\nhips_order = 11\nhips_order_min = 0\nhips_tile_width = 2\nsurvey_bitpix = 16\nsurvey_blank = -32768\n";

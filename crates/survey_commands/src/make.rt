@@ -19,7 +19,8 @@ use std::alloc::AllocError;
 use std::sync::Arc;
 use std::thread::Threads;
 use std::time::Clock;
-use survey_link::{Gate, NullSink, Sink, SureSource};
+use memory_link::SureSource;
+use survey_link::{Gate, NullSink, Sink};
 use survey_make::{read_conf, script};
 
 /// Makes the survey of a number by so many edits, writes its summary and LF, and answers the status.

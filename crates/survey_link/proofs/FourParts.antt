@@ -1,20 +1,14 @@
--- What is left of parts whose first bytes were written, and what fits of them.
-use Rattle.std.proofs.Common.{◌≡◌, ℕ, suc, zero, ◌-◌, ◌≤◌, min, get_or, List, [], ◌∷◌, ◌++◌, length, take, drop, refl, sym, ap, ◌∙◌, arith, append_assoc, length-append}
-use Rattle.std.proofs.lemmas.List.{length-take, take_min, take_all}
+-- What is left of parts whose first bytes were written.
+use Rattle.std.proofs.Common.{◌≡◌, ℕ, suc, zero, ◌-◌, get_or, List, [], ◌∷◌, ◌++◌, length, drop, refl, sym, ap, ◌∙◌, arith}
 use Rattle.std.proofs.lemmas.Grind.{common_steps}
 use Rattle.std.specs.Borrow.{Bor}
 use Rattle.survey_link.specs.Link.{parts_bytes}
 
 -- the first bytes go from the first part, and what is over from the next
-pub drop_both : (n : ℕ) (part rest : List ℕ) → drop n (part ++ rest) ≡ drop n part ++ drop (n - length part) rest
+drop_both : (n : ℕ) (part rest : List ℕ) → drop n (part ++ rest) ≡ drop n part ++ drop (n - length part) rest
 drop_both n [] rest = grind (arith, common_steps)
 drop_both zero (x ∷ part) rest = let none : 0 - suc (length part) ≡ 0 = omega arith in rw none refl
 drop_both (suc n) (x ∷ part) rest = let less : suc n - suc (length part) ≡ n - length part = omega arith in rw less (drop_both n part rest)
-
-take_both : (n : ℕ) (part rest : List ℕ) → take n (part ++ rest) ≡ take n part ++ take (n - length part) rest
-take_both n [] rest = grind (arith, common_steps)
-take_both zero (x ∷ part) rest = let none : 0 - suc (length part) ≡ 0 = omega arith in rw none refl
-take_both (suc n) (x ∷ part) rest = let less : suc n - suc (length part) ≡ n - length part = omega arith in rw less (ap (λ l. x ∷ l) (take_both n part rest))
 
 drop_none : (n : ℕ) → drop {A = ℕ} n [] ≡ []
 drop_none zero = refl
@@ -31,19 +25,6 @@ drop_four n a b c d = sym (
     ∙ ap (λ l. drop (n - length a - length b - length c) d ++ l) (drop_none (n - length a - length b - length c - length d)))))
     )
 
--- so many of the part fit behind what is held
-fits_more : (room : ℕ) (held part : List ℕ) → take room held ++ take (min (length part) (room - length (take room held))) part ≡ take room (held ++ part)
-fits_more room held part =
-    let left : room - length (take room held) ≡ room - length held = omega (arith, length-take room held) in
-    let order : min (length part) (room - length held) ≡ min (room - length held) (length part) = omega arith in
-    rw (left, order, take_min (room - length held) part) (sym (take_both room held part))
-
-pub fits_step : (room : ℕ) (old before part held held' : List ℕ) (len count : ℕ) → held ≡ take room (old ++ before) → len ≡ length held → count ≡ min (length part) (room - len)
-    → held' ≡ held ++ take count part → held' ≡ take room (old ++ (before ++ part))
-fits_step room old before part held held' len count is len_is count_is grown =
-    let more = fits_more room (old ++ before) part in
-    rw (grown, count_is, len_is, is) (more ∙ ap (take room) (append_assoc old before part))
-
 -- the bytes of four parts
 pub bytes_of_four : (parts : List (Bor (List ℕ))) (d : Bor (List ℕ)) → length parts ≡ 4
     → parts_bytes parts ≡ (get_or parts 0 d).now ++ ((get_or parts 1 d).now ++ ((get_or parts 2 d).now ++ ((get_or parts 3 d).now ++ [])))
@@ -53,10 +34,3 @@ bytes_of_four (p ∷ q ∷ []) d e = absurd (omega arith)
 bytes_of_four (p ∷ q ∷ r ∷ []) d e = absurd (omega arith)
 bytes_of_four (p ∷ q ∷ r ∷ s ∷ []) d e = refl
 bytes_of_four (p ∷ q ∷ r ∷ s ∷ t ∷ parts) d e = absurd (omega arith)
-
--- what was taken of the parts is as much of them as the bytes grew
-pub taken_is : (room : ℕ) (old new parts : List ℕ) → length old ≤ room → new ≡ take room (old ++ parts) → new ≡ old ++ take (length new - length old) parts
-taken_is room old new parts fits is =
-    let all : take room old ≡ old = take_all room old fits in
-    let count : length new - length old ≡ min (room - length old) (length parts) = omega (arith, ap length is, length-take room (old ++ parts), length-append old parts) in
-    rw (count, take_min (room - length old) parts) (is ∙ take_both room old parts ∙ ap (λ l. l ++ take (room - length old) parts) all)

@@ -1,5 +1,5 @@
 -- What several writes in a row do to the bytes that a sink holds.
-use Rattle.std.proofs.Common.{◌≡◌, ℕ, ◌-◌, List, [], ◌++◌, Option, length, take, drop, refl, sym, ap, ◌∙◌, subst, append_assoc, arith, take-append-drop, append-nil, ◌∷◌}
+use Rattle.std.proofs.Common.{◌≡◌, ℕ, ◌-◌, List, [], ◌++◌, Option, length, take, drop, refl, sym, ap, ◌∙◌, append_assoc, arith, take-append-drop}
 use Rattle.std.specs.Io.KnownBytes.{Appends}
 use Rattle.std.proofs.KnownBytes.{Appends-nil, Appends-trans}
 use Rattle.survey_link.specs.Link.{AppendsPrefix}
@@ -29,14 +29,6 @@ wrote_next old mid new bytes rest m before now = record {
 pub wrote_more : (old mid new : Option (List ℕ)) (bytes rest : List ℕ) (m : ℕ) → Wrote old mid bytes rest
     → Appends mid new (take m rest) → Wrote old new bytes (take (length rest - m) (drop m rest))
 wrote_more old mid new bytes rest m before now = rw from_there (wrote_next old mid new bytes rest m before now)
-
-length-zero : (xs : List ℕ) → length xs ≡ 0 → xs ≡ []
-length-zero [] e = refl
-length-zero (x ∷ xs) e = absurd (omega arith)
-
-pub wrote_all : (old new : Option (List ℕ)) (bytes rest : List ℕ) → Wrote old new bytes rest → length rest ≡ 0 → Appends old new bytes
-wrote_all old new bytes rest w none =
-    subst (Appends old new) (sym (w.whole ∙ ap (λ l. w.done ++ l) (length-zero rest none) ∙ append-nil w.done)) w.appended
 
 pub wrote_prefix : (old new : Option (List ℕ)) (bytes rest : List ℕ) → Wrote old new bytes rest → AppendsPrefix old new bytes
 wrote_prefix old new bytes rest w = rw w.whole (prefix_from_appends old new w.done rest w.appended)

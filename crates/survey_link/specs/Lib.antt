@@ -1,10 +1,5 @@
 pub mod Link
 pub mod Shelf
 pub mod Door
-pub mod Memory
-pub mod Files
-pub mod Stream
 pub mod Faults
-pub mod ShelfPath
-pub mod Folder
 pub mod Inbox

@@ -1,5 +1,5 @@
 //! Four parts that are written one after another.
-ghost use Rattle.std.specs.Prelude.{◌≡◌, ◌+◌, ◌-◌, ◌^◌, ◌≤◌, ◌++◌, min, length, take, drop, vec_len, vec_capacity};
+ghost use Rattle.std.specs.Prelude.{◌≡◌, ◌-◌, ◌^◌, ◌≤◌, min, length, drop};
 ghost use Rattle.survey_link.specs.Link.{parts_bytes};
 
 /// How many bytes the parts have, at most `usize::MAX`.
@@ -34,17 +34,4 @@ fn without(part: &[u8], count: usize) -> (&[u8], usize)
 {
     let gone = part.len().min(count);
     (&part[gone..], count - gone)
-}
-
-/// Appends the bytes of the parts for which there is room.
-pub(crate) fn extend_within(bytes: &mut Vec<u8>, room: usize, parts: [&[u8]; 4])
-    requires held { vec_len bytes.old ≤ room }
-    requires reserved { room ≤ vec_capacity bytes.old }
-    ensures bytes { bytes.new.items ≡ take room (bytes.old.items ++ parts_bytes parts.entry) }
-    ensures capacity { vec_capacity bytes.old ≤ vec_capacity bytes.new }
-{
-    for part in parts {
-        let count = part.len().min(room - bytes.len());
-        bytes.extend_from_slice(&part[..count]).unwrap();
-    }
 }

@@ -9,7 +9,8 @@ use std::process::Abort;
 use std::test::Fail;
 use std::thread::Threads;
 use std::time::Clock;
-use survey_link::{LinkFault, MemShelf, OpenGate, Shelf};
+use memory_link::MemShelf;
+use survey_link::{LinkFault, OpenGate, Shelf};
 
 // The small survey with an order out of range.
 const TOO_DEEP: &str = description_with!(

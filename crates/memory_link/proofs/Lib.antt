@@ -1,0 +1,4 @@
+mod Copied
+mod Doors
+mod Paths
+mod Room

@@ -1,0 +1,3 @@
+pub mod Stream
+pub mod ShelfPath
+pub mod Folder

@@ -1,9 +1,0 @@
-use Rattle.std.proofs.Common.{◌≡◌}
-use Rattle.std.specs.Io.KnownBytes.{Keeps}
-use Rattle.survey_link.proofs.stream.StdStreamSink.write.Given as goal
-
-abbrev pub invariant-loop : goal.invariant-loop
-invariant-loop g l = record {
-  faults : l.self.faults ≡ l.fn.self.faults;
-  kept : Keeps (g.W.Write.contents l.fn.self.stream) (g.W.Write.contents l.self.stream);
-}
