@@ -365,7 +365,7 @@ def special_files(check):
     (folder / tile_path(4, 0)).symlink_to("../../leaf")
     (folder / tile_path(4, 2)).symlink_to("nowhere")
     os.mkfifo(folder / tile_path(4, 3))
-    said = warn("survey_link::listing", ODD.format(3, "~"))
+    said = warn("std_link::listing", ODD.format(3, "~"))
     check.run(["export"], said + info("shelf_io::logging", "# of 5 files written, # were the same; 0 removed"), folder=folder)
 
 
@@ -384,11 +384,11 @@ def folder_faults(check):
     for row in IN_THE_WAY.strip().splitlines():
         words, path, fault = row.split("|")
         files = CONF | {tile_path(4, 0): TILE, path: b""}
-        odd = warn("survey_link::listing", ODD.format(1, "Moc.fits")) if path == "Moc.fits/file" else []
+        odd = warn("std_link::listing", ODD.format(1, "Moc.fits")) if path == "Moc.fits/file" else []
         check.run(words.split(), odd + error("hipsd::faults", fault), files=files, given=b"5\t0\ta\t\n")
     peer = Peer(replies({}))
     peer.start()
-    said = info("hips_mirror::logging", BUILDING % 0, COPIED) + warn("survey_link::listing", ODD.format(1, "Moc.fits"))
+    said = info("hips_mirror::logging", BUILDING % 0, COPIED) + warn("std_link::listing", ODD.format(1, "Moc.fits"))
     said += error("hipsd::faults", "can't read Moc.fits: it is no regular file")
     check.run(["mirror", peer.address], said, files={"Moc.fits/file": b""})
     peer.join()

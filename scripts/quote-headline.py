@@ -30,7 +30,7 @@ TRAITS = [(f"crates/{file}.rt", name) for file, name in [
     ("survey_link/src/door", "Door"), ("reader_pin/src/board", "Board"),
 ]]
 # The real ends: main, sockets, streams and folders.
-ENDS = ["hipsd/src/*.rt", "tcp_link/src/*.rt", "survey_link/src/stream.rt", "survey_link/src/here.rt", "survey_link/src/folder_shelf.rt"]
+ENDS = ["hipsd/src/*.rt", "tcp_link/src/*.rt", "std_link/src/stream.rt", "std_link/src/here.rt", "std_link/src/folder_shelf.rt"]
 # What these pages say of the counts.
 COUNTS = re.compile(r"([\d,]+) lines in ([\d,]+) definitions.*?([\d,]+) lines of code.*?([\d,]+) lines of this", re.S)
 ROUNDED = re.compile(r"I/O code \(([\d,]+) lines\)")
