@@ -3,25 +3,27 @@ ghost use Rattle.std.specs.Prelude.{◌≡◌, ◌≢◌, ◌⊎◌, ℕ, List, 
 ghost use Rattle.std.specs.Io.KnownBytes.{Appends};
 ghost use Rattle.survey_link.specs.Link.{CountsFault, AppendsPrefix};
 ghost use Rattle.command_output.specs.Output.{Says, line_of, sink_bytes};
+ghost use Rattle.command_output.specs.Status.{number_of};
 
+use crate::status::Status;
 use std::alloc::Global;
 use std::fmt::Display;
 use survey_link::{Failed, Sink, write_whole};
 
-/// Writes what is shown as a line and flushes it, and answers the status: `own`, or 6 where the sink failed, or 11 where
-/// there was no memory for the line, of which nothing is then written.
-pub fn say<T: Display, K: Sink>(alloc: Global, sink: &mut K, own: u8, shown: &T) -> u8
-    ensures said { (text : List ℕ) → T.output shown.now ≡ Some text → Says own (line_of text) result
+/// Writes what is shown as a line and flushes it, and answers the status: `own`, or `WriteFault` where the sink failed, or
+/// `OutOfMemory` where there was no memory for the line, of which nothing is then written.
+pub fn say<T: Display, K: Sink>(alloc: Global, sink: &mut K, own: Status, shown: &T) -> Status
+    ensures said { (text : List ℕ) → T.output shown.now ≡ Some text → Says (number_of own) (line_of text) (number_of result)
         (sink_bytes K.Sink sink.old) (sink_bytes K.Sink sink.new) }
-    ensures status { (result ≡ own) ⊎ ((result ≡ 6) ⊎ (result ≡ 11)) }
-    ensures write_fault { own ≢ 6 → CountsFault (nat_eq result 6) (K.faults sink.old) (K.faults sink.new) }
+    ensures status { (result ≡ own) ⊎ ((result ≡ Status.WriteFault) ⊎ (result ≡ Status.OutOfMemory)) }
+    ensures write_fault { own ≢ Status.WriteFault → CountsFault (nat_eq (number_of result) 6) (K.faults sink.old) (K.faults sink.new) }
 {
     match format!(in alloc; "{shown}\n") {
         Ok(line) => match write_out(sink, line.as_bytes()) {
             Ok(()) => own,
-            Err(Failed) => 6,
+            Err(Failed) => Status::WriteFault,
         },
-        Err(_) => 11,
+        Err(_) => Status::OutOfMemory,
     }
 }
 

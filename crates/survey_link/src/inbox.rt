@@ -1,5 +1,5 @@
 //! The bytes that were read of a source and not yet used.
-ghost use Rattle.std.specs.Prelude.{◌≡◌, ◌+◌, ◌<◌, ◌≤◌, ◌⊎◌, ℕ, List, [], ◌++◌, length, take, drop, Ok, is_err, IfOk, OnErr};
+ghost use Rattle.std.specs.Prelude.{◌≡◌, ◌+◌, ◌<◌, ◌≤◌, ◌⊎◌, ℕ, List, [], ◌++◌, ◌==◌, length, take, drop, position, Ok, is_err, IfOk, OnErr};
 ghost use Rattle.std.specs.Io.KnownBytes.{Consumes, IsAtEnd};
 ghost use Rattle.survey_link.specs.Link.{CountsFault, readings_after};
 
@@ -134,4 +134,34 @@ impl Inbox {
         self.end += count;
         Ok(count)
     }
+
+    /// Moves the bytes to the front, reads once behind them, up to the place `limit` of the buffer, and answers how many bytes
+    /// came.
+    ///
+    /// # Errors
+    ///
+    /// `Failed` only where the source's count of faults rose; the bytes that are held stay.
+    pub fn read_more<S: Source>(&mut self, src: &mut S, limit: usize) -> Result<usize, Failed>
+        requires room { length (held self.old) < limit }
+        requires within { limit ≤ size self.old }
+        ensures read { IfOk result (λ count. (more : List ℕ) × (length more ≡ count) × (held self.new ≡ held self.old ++ more)
+            × Consumes (S.left src.old) (S.left src.new) more) }
+        ensures counted { S.readings src.new ≡ readings_after 1 (S.readings src.old) }
+        ensures end { result ≡ Ok 0 → IsAtEnd (S.left src.new) }
+        ensures kept { OnErr result ((held self.new ≡ held self.old) × (S.left src.new ≡ S.left src.old)) }
+        ensures faults { CountsFault (is_err result) (S.faults src.old) (S.faults src.new) }
+        ensures never_falls { S.faults src.old ≤ S.faults src.new }
+        ensures size { size self.new ≡ size self.old }
+        ensures limit { self.new.end ≤ limit }
+    {
+        self.move_to_front();
+        self.read(src, limit)
+    }
+}
+
+/// Where a byte first is.
+pub fn place_of(byte: u8, bytes: &[u8]) -> Option<usize>
+    ensures { result ≡ position (λ b. b == byte) bytes.now }
+{
+    bytes.iter().position(|b| *b == byte)
 }
