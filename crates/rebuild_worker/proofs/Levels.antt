@@ -27,10 +27,12 @@ level_shows shape tiles todo level small above is =
     subst P (sym is) (each_shows shape tiles todo small above)
 
 -- one merge goes from what is owed to what was made
-pub owed_to_made : (shape : PyramidShape) (tiles : List (ℕ × PixelTile)) (old new : List Named) (cell : PermittedCell) (todo left all : List PermittedCell)
-    → all_shown new ≡ all_shown old ++ merge_of shape tiles cell ∷ [] → todo ≡ cell ∷ left → all_shown old ++ merges_of shape tiles todo ≡ merges_of shape tiles all
+pub owed_to_made : (shape : PyramidShape) (tiles : List (ℕ × PixelTile)) (old new : List Named) (named : Named) (cell : PermittedCell) (todo left all : List PermittedCell)
+    → new ≡ old ++ named ∷ [] → shown named ≡ merge_of shape tiles cell → todo ≡ cell ∷ left → all_shown old ++ merges_of shape tiles todo ≡ merges_of shape tiles all
     → all_shown new ++ merges_of shape tiles left ≡ merges_of shape tiles all
-owed_to_made shape tiles old new cell todo left all made taken owed =
+owed_to_made shape tiles old new named cell todo left all pushed shows taken owed =
+    let made : all_shown new ≡ all_shown old ++ merge_of shape tiles cell ∷ [] =
+    ap all_shown pushed ∙ map-append shown old (named ∷ []) ∙ ap (λ one. all_shown old ++ one ∷ []) shows in
     ap (λ level. level ++ merges_of shape tiles left) made ∙ append_assoc (all_shown old) (merge_of shape tiles cell ∷ []) (merges_of shape tiles left)
     ∙ sym (ap (λ cells. all_shown old ++ merges_of shape tiles cells) taken) ∙ owed
 

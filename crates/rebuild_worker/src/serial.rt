@@ -1,8 +1,8 @@
 //! The merges of one order, one after the other.
-ghost use Rattle.std.specs.Prelude.{◌≡◌, ◌++◌, [], ◌∷◌, IfOk, All};
+ghost use Rattle.std.specs.Prelude.{◌≡◌, IfOk, All};
 ghost use Rattle.rebuild_worker.specs.Changed.{AreSources};
-ghost use Rattle.rebuild_worker.specs.Level.{merge_of, merges_of, IsAboveLeaves, HaveShape, ShowsItsCell};
-ghost use Rattle.rebuild_worker.specs.Shown.{shown, all_shown};
+ghost use Rattle.rebuild_worker.specs.Level.{merges_of, IsAboveLeaves, HaveShape, ShowsItsCell};
+ghost use Rattle.rebuild_worker.specs.Shown.{all_shown};
 
 use crate::merge::merge_cell;
 use crate::named::Named;
@@ -59,25 +59,8 @@ pub fn merge_all<G: Gate>(
 {
     let mut level = Vec::with_capacity(alloc, todo.len())?;
     while let Some(permit) = todo.take_first() {
-        push_merge(alloc, gate, shape, sources, permit, &mut level)?;
+        let named = merge_cell(alloc, gate, shape, sources, permit)?;
+        level.push(named)?;
     }
     Ok(level)
-}
-
-// Makes one merge more.
-fn push_merge<G: Gate>(
-    alloc: Global,
-    gate: &G,
-    shape: Shape,
-    sources: Sources<'_>,
-    permit: Permit,
-    level: &mut Vec<Named>,
-) -> Result<(), AllocError>
-    requires cell { IsAboveLeaves shape permit }
-    requires sources { AreSources shape sources }
-    ensures { IfOk result (λ _. all_shown level.new.items ≡ all_shown level.old.items ++ merge_of shape sources.entry.children.now permit ∷ []) }
-{
-    let named = merge_cell(alloc, gate, shape, sources, permit)?;
-    level.push(named)?;
-    Ok(())
 }
