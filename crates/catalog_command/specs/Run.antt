@@ -1,5 +1,5 @@
 -- What `catalog` does: it reads lines, and puts the tiles of their catalogue on the shelf.
-use Rattle.std.specs.Prelude.{◌≡◌, ◌⊎◌, ℕ, List, ◌++◌, length, Option, Result, Ok, Err, IsOkAnd, codes, decimal}
+use Rattle.std.specs.Prelude.{◌≡◌, ◌⊎◌, ℕ, List, [], ◌∷◌, ◌++◌, length, Option, Result, Ok, Err, IsOkAnd, codes, decimal}
 use Rattle.survey_link.specs.Shelf.{ShelfFiles}
 use Rattle.command_output.specs.Output.{SinkBytes, line_of, Says, EndsBy}
 use Rattle.hips_catalog.specs.Catalogue.{Catalogue, existing_tiles}
@@ -37,6 +37,13 @@ SaysOutcome (Err Cut) = EndsBy 4
 SaysOutcome (Err ReadFault) = EndsBy 5
 SaysOutcome (Err ShelfFault) = EndsBy 7
 SaysOutcome (Err OutOfMemory) = EndsBy 11
+
+-- how it can end where there is no catalogue on the shelf, and at all
+abbrev pub refused_statuses : List ℕ
+refused_statuses = 4 ∷ 5 ∷ 6 ∷ 7 ∷ 11 ∷ 16 ∷ []
+
+abbrev pub catalog_statuses : List ℕ
+catalog_statuses = 0 ∷ refused_statuses
 
 -- ---- what is done
 

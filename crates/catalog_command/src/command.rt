@@ -3,17 +3,18 @@ ghost use Rattle.std.specs.Prelude.{◌≡◌, ◌≢◌, ℕ, ◌≤◌, List, 
 ghost use Rattle.std.specs.Io.KnownBytes.{IsAtEnd};
 ghost use Rattle.survey_link.specs.Link.{CountsFault};
 ghost use Rattle.command_output.specs.Output.{sink_bytes};
+ghost use Rattle.command_output.specs.Status.{IsAmong, number_of};
 ghost use Rattle.catalog_command.specs.Input.{OfInput};
 ghost use Rattle.catalog_command.specs.Lines.{catalogue_of};
 ghost use Rattle.catalog_command.specs.Stops.{read_failed, stopped_at_shelf};
-ghost use Rattle.catalog_command.specs.Run.{RunsCatalog, IsOutcome, SaysOutcome};
+ghost use Rattle.catalog_command.specs.Run.{RunsCatalog, IsOutcome, SaysOutcome, catalog_statuses, refused_statuses};
 
 use crate::counts::Counts;
 use crate::logging::{say_stop, say_written};
 use crate::reading::read_catalog;
 use crate::refusal::CatalogRefusal;
 use crate::tiles::put_tiles;
-use command_output::say;
+use command_output::{Status, say};
 use log::Log;
 use std::alloc::Global;
 use std::time::Clock;
@@ -38,7 +39,7 @@ pub fn run_catalog<R, S, K, H>(
     source: &mut S,
     sink: &mut K,
     shelf: &mut H,
-) -> u8
+) -> Status
 where
     R: AllocGlobal + Clock + Log,
     S: Source,
@@ -47,18 +48,16 @@ where
     requires top { top ≤ 11 }
     requires least { 1 ≤ per_tile }
     requires most { per_tile ≤ 4096 }
-    ensures run { OfInput (λ input. RunsCatalog top per_tile input (H.files shelf.old) (H.files shelf.new) result
+    ensures run { OfInput (λ input. RunsCatalog top per_tile input (H.files shelf.old) (H.files shelf.new) (number_of result)
         (sink_bytes K.Sink sink.old) (sink_bytes K.Sink sink.new)) (S.left source.old) (S.left source.new) }
-    ensures end { result ≡ 0 → IsAtEnd (S.left source.new) }
-    ensures not_usage { result ≢ 1 }
-    ensures not_opened { (result ≢ 2) × (result ≢ 3) }
-    ensures not_door { result ≢ 8 }
-    ensures read_fault { CountsFault (nat_eq result 5) (S.faults source.old) (S.faults source.new) }
-    ensures write_fault { CountsFault (nat_eq result 6) (K.faults sink.old) (K.faults sink.new) }
-    ensures shelf_fault { CountsFault (nat_eq result 7) (H.faults shelf.old) (H.faults shelf.new) }
+    ensures end { number_of result ≡ 0 → IsAtEnd (S.left source.new) }
+    ensures ends { IsAmong catalog_statuses (number_of result) }
+    ensures read_fault { CountsFault (nat_eq (number_of result) 5) (S.faults source.old) (S.faults source.new) }
+    ensures write_fault { CountsFault (nat_eq (number_of result) 6) (K.faults sink.old) (K.faults sink.new) }
+    ensures shelf_fault { CountsFault (nat_eq (number_of result) 7) (H.faults shelf.old) (H.faults shelf.new) }
 {
     match put_catalog(rt, top, per_tile, source, shelf) {
-        Ok(counts) => say(rt.alloc(), sink, 0, &counts),
+        Ok(counts) => say(rt.alloc(), sink, Status::Done, &counts),
         Err(stop) => {
             say_stop(rt, stop);
             end_by(rt.alloc(), sink, stop)
@@ -95,21 +94,18 @@ where
 }
 
 // Writes why there is no catalogue, if that is written, and answers the status.
-fn end_by<K: Sink>(alloc: Global, sink: &mut K, stop: CatalogRefusal) -> u8
-    ensures said { SaysOutcome (Err stop) result (sink_bytes K.Sink sink.old) (sink_bytes K.Sink sink.new) }
-    ensures not_usage { result ≢ 1 }
-    ensures not_opened { (result ≢ 2) × (result ≢ 3) }
-    ensures not_door { result ≢ 8 }
-    ensures not_done { result ≢ 0 }
-    ensures read_fault { nat_eq result 5 ≡ read_failed {A = Counts} (Err stop) }
-    ensures write_fault { CountsFault (nat_eq result 6) (K.faults sink.old) (K.faults sink.new) }
-    ensures shelf_fault { nat_eq result 7 ≡ stopped_at_shelf {A = Counts} (Err stop) }
+fn end_by<K: Sink>(alloc: Global, sink: &mut K, stop: CatalogRefusal) -> Status
+    ensures said { SaysOutcome (Err stop) (number_of result) (sink_bytes K.Sink sink.old) (sink_bytes K.Sink sink.new) }
+    ensures ends { IsAmong refused_statuses (number_of result) }
+    ensures read_fault { nat_eq (number_of result) 5 ≡ read_failed {A = Counts} (Err stop) }
+    ensures write_fault { CountsFault (nat_eq (number_of result) 6) (K.faults sink.old) (K.faults sink.new) }
+    ensures shelf_fault { nat_eq (number_of result) 7 ≡ stopped_at_shelf {A = Counts} (Err stop) }
 {
     match stop {
-        CatalogRefusal::Cut => 4,
-        CatalogRefusal::Line(bad) => say(alloc, sink, 16, &bad),
-        CatalogRefusal::ReadFault => 5,
-        CatalogRefusal::ShelfFault => 7,
-        CatalogRefusal::OutOfMemory => 11,
+        CatalogRefusal::Cut => Status::Cut,
+        CatalogRefusal::Line(bad) => say(alloc, sink, Status::BadRow, &bad),
+        CatalogRefusal::ReadFault => Status::ReadFault,
+        CatalogRefusal::ShelfFault => Status::ShelfFault,
+        CatalogRefusal::OutOfMemory => Status::OutOfMemory,
     }
 }

@@ -7,7 +7,7 @@ ghost use Rattle.catalog_command.specs.Lines.{most_bytes};
 ghost use Rattle.catalog_command.specs.Unread.{place_of_feed, IsFound, Receives};
 
 use crate::found::Found;
-use survey_link::{Failed, Inbox, Source};
+use survey_link::{Failed, Inbox, Source, place_of};
 
 // How many bytes a line has at most, with its line feed.
 const MOST_BYTES: usize = 512;
@@ -31,25 +31,10 @@ pub(crate) fn find<S: Source>(inbox: &mut Inbox, source: &mut S) -> Result<Found
         if let Some(found) = told(inbox.held()) {
             return Ok(found);
         }
-        if read_more(inbox, source)? == 0 {
+        if inbox.read_more(source, ROOM)? == 0 {
             return Ok(at_end(inbox.held()));
         }
     }
-}
-
-// Reads once behind the bytes that are held, which are fewer than those of the longest line, and answers how many came.
-fn read_more<S: Source>(inbox: &mut Inbox, source: &mut S) -> Result<usize, Failed>
-    requires size { size inbox.old ≡ 65536 }
-    requires few { length (held inbox.old) < most_bytes }
-    ensures read { IfOk result (λ count. (more : List ℕ) × (length more ≡ count) × (held inbox.new ≡ held inbox.old ++ more)
-        × Consumes (S.left source.old) (S.left source.new) more) }
-    ensures end { result ≡ Ok 0 → IsAtEnd (S.left source.new) }
-    ensures kept { OnErr result ((held inbox.new ≡ held inbox.old) × (S.left source.new ≡ S.left source.old)) }
-    ensures faults { CountsFault (is_err result) (S.faults source.old) (S.faults source.new) }
-    ensures size { size inbox.new ≡ size inbox.old }
-{
-    inbox.move_to_front();
-    inbox.read(source, ROOM)
 }
 
 // What comes next, if the bytes held decide it.
@@ -59,12 +44,12 @@ fn told(held: &[u8]) -> Option<Found>
     ensures none { IsNone result → place_of_feed held.now ≡ None }
 {
     if held.len() < MOST_BYTES {
-        return match place_of_feed(held) {
+        return match place_of(b'\n', held) {
             Some(count) => Some(Found::Line(count)),
             None => None,
         };
     }
-    match place_of_feed(&held[..MOST_BYTES]) {
+    match place_of(b'\n', &held[..MOST_BYTES]) {
         Some(count) => Some(Found::Line(count)),
         None => Some(Found::Long),
     }
@@ -81,11 +66,4 @@ fn at_end(held: &[u8]) -> Found
     } else {
         Found::Cut
     }
-}
-
-// Where the first line feed is.
-fn place_of_feed(bytes: &[u8]) -> Option<usize>
-    ensures { result ≡ place_of_feed bytes.now }
-{
-    bytes.iter().position(|byte| *byte == b'\n')
 }

@@ -3,10 +3,10 @@ ghost use Rattle.std.specs.Prelude.{◌≤◌};
 
 use catalog_command::run_catalog;
 use log::Log;
+use memory_link::{MemShelf, MemSink, MemSource};
 use std::alloc::{AllocError, Global};
 use std::test::Fail;
 use std::time::Clock;
-use memory_link::{MemShelf, MemSink, MemSource};
 use survey_link::Shelf;
 
 /// What is between two `|` of a row.
@@ -53,7 +53,7 @@ pub(crate) fn run<R: AllocGlobal + Clock + Log>(
     if top > 11 || per_tile < 1 || per_tile > 4096 {
         return 255;
     }
-    run_catalog(rt, top as u8, per_tile as u32, source, sink, shelf)
+    run_catalog(rt, top as u8, per_tile as u32, source, sink, shelf).number()
 }
 
 /// The run of an input over a shelf, whose source gives so many bytes at a time: whether it ends by that status and writes that

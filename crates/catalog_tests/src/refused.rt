@@ -1,10 +1,10 @@
 //! Lines that are refused, the first and a later one, and inputs that are cut.
 use crate::commands::{bytes_of, field, goes, number};
 use log::Log;
+use memory_link::MemShelf;
 use std::alloc::{AllocError, Global};
 use std::test::Fail;
 use std::time::Clock;
-use memory_link::MemShelf;
 use survey_link::Shelf;
 
 // A line that is refused in a catalogue of order 1, and the kind of its fault. `*N` is N times `x`.

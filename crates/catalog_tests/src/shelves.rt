@@ -1,10 +1,10 @@
 //! A shelf that has the tiles of an earlier run, and fails at each call in turn.
 use crate::commands::{bytes_of, goes, has_files};
 use log::Log;
+use memory_link::{MemShelf, MemSink, MemSource};
 use std::alloc::Global;
 use std::test::Fail;
 use std::time::Clock;
-use memory_link::{MemShelf, MemSink, MemSource};
 use survey_link::Shelf;
 
 // The files of an earlier run, in which the row b was the best one, and two that are no tiles.

@@ -1,8 +1,10 @@
 //! Why `probe` ends without a tile.
 ghost use Rattle.std.specs.Prelude.{◌≡◌, nat_eq, Err, ⊤};
+ghost use Rattle.command_output.specs.Status.{number_of};
 ghost use Rattle.leaf_probe.specs.declared.fault.ProbeFault.TheVariants.{Read, OutOfMemory};
 ghost use Rattle.leaf_probe.specs.Status.{status_of, read_failed, write_failed};
 
+use command_output::Status;
 use std::alloc::{AllocError, AllocFailed};
 use survey_link::Failed;
 
@@ -27,19 +29,19 @@ pub enum ProbeFault {
 
 impl ProbeFault {
     /// The status that the program ends with.
-    pub fn status(self) -> u8
-        ensures status { result ≡ status_of self }
-        ensures read { nat_eq result 5 ≡ read_failed {A = ⊤} (Err self) }
-        ensures write { nat_eq result 6 ≡ write_failed {A = ⊤} (Err self) }
+    pub fn status(self) -> Status
+        ensures status { number_of result ≡ status_of self }
+        ensures read { nat_eq (number_of result) 5 ≡ read_failed {A = ⊤} (Err self) }
+        ensures write { nat_eq (number_of result) 6 ≡ write_failed {A = ⊤} (Err self) }
     {
         match self {
-            ProbeFault::Cut => 4,
-            ProbeFault::Read => 5,
-            ProbeFault::Write => 6,
-            ProbeFault::NoLeaf => 10,
-            ProbeFault::OutOfMemory => 11,
-            ProbeFault::TooMany => 12,
-            ProbeFault::OutOfRange => 13,
+            ProbeFault::Cut => Status::Cut,
+            ProbeFault::Read => Status::ReadFault,
+            ProbeFault::Write => Status::WriteFault,
+            ProbeFault::NoLeaf => Status::NoLeaf,
+            ProbeFault::OutOfMemory => Status::OutOfMemory,
+            ProbeFault::TooMany => Status::Spent,
+            ProbeFault::OutOfRange => Status::OutOfRange,
         }
     }
 }

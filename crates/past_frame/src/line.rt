@@ -3,6 +3,7 @@ ghost use Rattle.std.specs.Prelude.{◌≡◌, ℕ, ◌==◌, ◌^◌, ◌+◌, 
 ghost use Rattle.past_frame.specs.Line.{RecordLine, line_content, cut, number_below, batch_of, read_of, line_by, line_of, space};
 
 use decimal_scale::plain_decimal;
+use survey_link::place_of;
 
 /// What a line asks for.
 #[derive(Clone, Copy, Debug, PartialEq, Eq)]
@@ -77,11 +78,4 @@ fn cut(text: &[u8]) -> Option<(&[u8], &[u8])>
 {
     let at = place_of(b' ', text)?;
     Some((&text[..at], &text[at + 1..]))
-}
-
-/// Where a byte first is.
-pub(crate) fn place_of(byte: u8, bytes: &[u8]) -> Option<usize>
-    ensures { result ≡ position (λ b. b == byte) bytes.now }
-{
-    bytes.iter().position(|b| *b == byte)
 }

@@ -9,10 +9,10 @@ ghost use Rattle.past_frame.specs.Line.{batch_line, line_of, line_feed};
 ghost use Rattle.past_frame.specs.Record.{most_line};
 ghost use Rattle.past_frame.specs.Reading.{NeedsMore, ReadsRecord, LooksOn, NeedsLine, StopsLine, read_failed};
 
-use crate::line::{Line, line_of, place_of};
+use crate::line::{Line, line_of};
 use crate::record::{Record, RecordStop};
 use http_frame::take_exact;
-use survey_link::{Failed, Inbox, Source};
+use survey_link::{Failed, Inbox, Source, place_of};
 
 /// The greatest length of a line with its line feed: an inbox has so much room.
 pub const MAX_LINE: usize = 128;
@@ -141,8 +141,7 @@ fn read_more<S: Source>(inbox: &mut Inbox, src: &mut S) -> Result<(), RecordStop
     ensures never_falls { S.faults src.old ≤ S.faults src.new }
     ensures size { size inbox.new ≡ size inbox.old }
 {
-    inbox.move_to_front();
-    match inbox.read(src, MAX_LINE) {
+    match inbox.read_more(src, MAX_LINE) {
         Ok(count) => {
             if count > 0 {
                 Ok(())

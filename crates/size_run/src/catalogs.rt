@@ -1,11 +1,11 @@
 //! A catalogue of as many rows as it may have, and the line of one more.
 use catalog_command::run_catalog;
 use log::Log;
+use memory_link::{MemShelf, MemSink, MemSource};
 use std::alloc::{AllocError, Global};
 use std::io::Print;
 use std::test::Fail;
 use std::time::Clock;
-use memory_link::{MemShelf, MemSink, MemSource};
 
 // The ranks and ids of the rows, in their order: one row more than a catalogue may have.
 const FIRST: u64 = 1_000_000;
@@ -27,7 +27,7 @@ pub fn print_catalog<R: AllocGlobal + Print + Clock + Log>(rt: &R) -> Result<(),
     let mut source = MemSource::new(lines, PIECE, Vec::new(alloc));
     let mut sink = MemSink::new(alloc, PIECE, Vec::new(alloc))?;
     let mut shelf = MemShelf::new(alloc, Vec::new(alloc));
-    let status = run_catalog(rt, 0, 1, &mut source, &mut sink, &mut shelf);
+    let status = run_catalog(rt, 0, 1, &mut source, &mut sink, &mut shelf).number();
     println!(rt;
         "catalog bytes {bytes} status {status} {}",
         shown(sink.bytes())

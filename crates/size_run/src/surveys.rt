@@ -7,6 +7,7 @@ ghost use Rattle.survey_core.specs.State.{state_edits};
 use crate::tiles::leaves;
 use generation::Generation;
 use log::Log;
+use memory_link::MemShelf;
 use parent_rule::Steps;
 use shelf_io::{export, load};
 use std::alloc::{AllocError, Global};
@@ -17,7 +18,6 @@ use std::thread::Threads;
 use std::time::Clock;
 use survey_conf::Conf;
 use survey_core::{State, read_batch};
-use memory_link::MemShelf;
 use survey_link::{OpenGate, Shelf};
 
 static TEXT: &[u8] =
