@@ -1,0 +1,7 @@
+mod Fields
+mod Edits
+mod Payloads
+mod Records
+mod Wals
+mod Headers
+mod Loops
