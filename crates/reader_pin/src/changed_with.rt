@@ -9,11 +9,10 @@ ghost use Rattle.reader_pin.specs.Answers.{Accepts, AcceptsAll, TellsRefusal, Te
 
 use crate::answer::{Accepted, BoardBatch, BoardRefusal, Published};
 use crate::board::Board;
-use crate::build::{Built, build_whole};
 use edit_journal::Edit;
+use generation::Generation;
 use parent_rule::Steps;
 use std::alloc::AllocError;
-use std::mem::replace;
 use std::thread::Threads;
 use survey_core::State;
 use survey_link::Gate;
@@ -49,24 +48,24 @@ pub trait ChangedWith<R>: Board {
         ensures refused { IfErr result (TellsBatchRefusal (map edit_of edits.items) (Self.content self.old) (Self.content self.new)) };
 
     /// The board's own part of `publish`. `build` builds the generations of all edits of a state, one or two of them: a board
-    /// has no right to start threads. The counter of steps goes in and comes back.
+    /// has no right to start threads.
     ///
     /// # Errors
     ///
     /// `AllocError` where there is no memory for a generation or for the next state. It makes no event.
-    fn publish_by<F: Fn(&State, Steps) -> Built>(
+    fn publish_by<F: Fn(&State, &mut Steps) -> Result<Generation, AllocError>>(
         &mut self,
         rt: &R,
         build: &F,
-        steps: Steps,
-    ) -> (Result<Published, AllocError>, Steps)
+        steps: &mut Steps,
+    ) -> Result<Published, AllocError>
         requires callable { (state : _) (before : _) → F.pre build.now state before }
-        requires builds { (state : _) (before : _) (built : _) → F.post build.now state before built → Builds state.now before built }
-        ensures published { IfOk result.0 (TellsPublished (Self.content self.old) (Self.content self.new)) }
-        ensures unchanged { OnErr result.0 (Stays (Self.content self.old) (Self.content self.new)) }
-        ensures counted { IfOk result.0 (Self.counts (Self.content self.old) (Self.content self.new) steps result.1) }
-        ensures steps { OnOk result.0 (result.1 ≤ steps_after steps (2 * publish_work (Self.content self.old) (Self.content self.new))) }
-        ensures never_falls { steps ≤ result.1 };
+        requires builds { (state : _) (before : _) (built : _) (after : _) → F.post build.now state before built after → Builds state.now before.now built after.now }
+        ensures published { IfOk result (TellsPublished (Self.content self.old) (Self.content self.new)) }
+        ensures unchanged { OnErr result (Stays (Self.content self.old) (Self.content self.new)) }
+        ensures counted { IfOk result (Self.counts (Self.content self.old) (Self.content self.new) steps.old steps.new) }
+        ensures steps { OnOk result (steps.new ≤ steps_after steps.old (2 * publish_work (Self.content self.old) (Self.content self.new))) }
+        ensures never_falls { steps.old ≤ steps.new };
 
     /// Publishes all edits that the board has seen, and perhaps newer ones: one event, or none where all edits are published.
     /// The gate is passed before each merge of tiles. The steps rise by one for each: at most twice for each cell over a leaf
@@ -89,10 +88,14 @@ pub trait ChangedWith<R>: Board {
         ensures steps { OnOk result (steps.new ≤ steps_after steps.old (2 * publish_work (Self.content self.old) (Self.content self.new))) }
         ensures never_falls { steps.old ≤ steps.new }
     {
-        let build = |state: &State, before: Steps| build_whole(rt, gate, state, before);
-        let before = replace(steps, Steps::new());
-        let (published, after) = self.publish_by(rt, &build, before);
-        *steps = after;
-        published
+        let build = |state: &State, steps: &mut Steps| -> Result<Generation, AllocError>
+            ensures { Builds state.now steps.old result steps.new }
+        {
+            let journal = state.journal();
+            state
+                .generation()
+                .next(rt, journal, state.edits(), gate, steps)
+        };
+        self.publish_by(rt, &build, steps)
     }
 }

@@ -7,7 +7,6 @@
 
 mod answer;
 mod board;
-mod build;
 mod changed_with;
 mod held;
 pub mod laws;
@@ -20,7 +19,6 @@ mod survey;
 
 pub use answer::{Accepted, BoardBatch, BoardRefusal, Published};
 pub use board::Board;
-pub use build::Built;
 pub use changed_with::ChangedWith;
 pub use shared::Shared;
 pub use solo::Solo;

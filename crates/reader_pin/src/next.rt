@@ -2,9 +2,7 @@
 ghost use Rattle.std.specs.Prelude.{◌≡◌, ◌<◌, ◌≤◌, map, length, All, IfOk, IfErr};
 ghost use Rattle.edit_journal.specs.Edit.{edit_of};
 ghost use Rattle.edit_journal.specs.Leaves.{FitsEdit};
-ghost use Rattle.survey_core.specs.State.{state_edits};
 ghost use Rattle.reader_pin.specs.Board.{Publishes};
-ghost use Rattle.reader_pin.specs.Build.{whole_generation};
 ghost use Rattle.reader_pin.specs.Next.{Follows, IsPublishable, FollowsEdit, FollowsBatch, TellsRefusedEdit, TellsRefusedBatch};
 
 use crate::answer::{Accepted, BoardBatch, BoardRefusal};
@@ -53,21 +51,6 @@ pub(crate) fn after_batch(last: &State, batch: Vec<Edit>) -> Result<(State, u32)
         }),
         Err(BatchRefusal::OutOfMemory) => Err(BoardBatch::OutOfMemory),
     }
-}
-
-/// The state with the generation of all its edits published, where these weren't.
-pub(crate) fn after_generation(
-    alloc: Global,
-    last: &State,
-    generation: Generation,
-) -> Result<State, AllocError>
-    requires unpublished { last.now.tip < length (state_edits last.now) }
-    requires whole { generation ≡ whole_generation last.now }
-    ensures { IfOk result (Follows (Publishes (length (state_edits last.now))) last.now) }
-{
-    // For the prover: what a state is.
-    let _edits = last.edits();
-    after_prefix(alloc, last, generation)
 }
 
 /// The state with the generation of a longer prefix of its edits published.

@@ -11,12 +11,12 @@ ghost use Rattle.reader_pin.specs.Shared.{seated, HaveMet};
 
 use crate::answer::{Accepted, BoardBatch, BoardRefusal, Published};
 use crate::board::Board;
-use crate::build::Built;
 use crate::changed_with::ChangedWith;
 use crate::sight::Sight;
 use crate::survey::{SeenSurvey, Survey, SurveySeat, SurveyWindow};
 use dirty_plan::laws::more_touched_is_more_work;
 use edit_journal::Edit;
+use generation::Generation;
 use parent_rule::Steps;
 use shared_history::Naming;
 use std::alloc::{AllocError, Global};
@@ -121,23 +121,18 @@ impl<'a, J: Naming, R: Wait> ChangedWith<R> for Shared<'a, J> {
         self.sight.batch(rt, &mut **desk, edits)
     }
 
-    fn publish_by<F: Fn(&State, Steps) -> Built>(
+    fn publish_by<F: Fn(&State, &mut Steps) -> Result<Generation, AllocError>>(
         &mut self,
         rt: &R,
         build: &F,
-        steps: Steps,
-    ) -> (Result<Published, AllocError>, Steps) {
+        steps: &mut Steps,
+    ) -> Result<Published, AllocError> {
         // For the prover: more edits are no less work, and what was seen is a history.
         more_touched_is_more_work();
         let _last = self.sight.state();
         self.sight.look(&mut self.window);
-        let (built, steps) = self.sight.build_pending(build, steps);
-        match built {
-            Ok(built) => {
-                let mut desk = self.survey.lock(rt);
-                self.sight.publish(rt, &mut **desk, built, build, steps)
-            }
-            Err(error) => (Err(error), steps),
-        }
+        let built = self.sight.build_pending(build, steps)?;
+        let mut desk = self.survey.lock(rt);
+        self.sight.publish(rt, &mut **desk, built, build, steps)
     }
 }

@@ -8,14 +8,13 @@ ghost use Rattle.dirty_plan.specs.Dirty.{steps_after};
 ghost use Rattle.survey_core.specs.History.{edits_at, IsStep, IsHistory};
 ghost use Rattle.survey_core.specs.State.{state_edits, survey_state};
 ghost use Rattle.reader_pin.specs.Board.{IsOwned, Stays, Happens, Publishes, last_seen, state_in, edit_count, holding_last, holding_none, publish_work};
-ghost use Rattle.reader_pin.specs.Build.{Builds, BuildsAll, whole_generation, build_work};
+ghost use Rattle.reader_pin.specs.Build.{Builds, BuildsAll, build_work};
 ghost use Rattle.reader_pin.specs.Answers.{Accepts, AcceptsAll, TellsRefusal, TellsBatchRefusal, TellsPublished};
 ghost use Rattle.reader_pin.specs.Next.{IsPublishable};
 ghost use Rattle.reader_pin.specs.Solo.{after_event};
 ghost use Rattle.reader_pin.specs.Shared.{HasSeen, shared_content, held_at};
 
 use crate::answer::{Accepted, BoardBatch, BoardRefusal, Published};
-use crate::build::Built;
 use crate::held::Held;
 use crate::next::{after_batch, after_edit, after_prefix};
 use crate::survey::{SeenSurvey, SurveyDesk, SurveyWindow};
@@ -229,108 +228,84 @@ impl<J: Naming> Sight<J> {
     }
 
     /// The generation of all edits of the last state seen, where these aren't all published.
-    pub(crate) fn build_pending<F: Fn(&State, Steps) -> Built>(
+    pub(crate) fn build_pending<F: Fn(&State, &mut Steps) -> Result<Generation, AllocError>>(
         &self,
         build: &F,
-        steps: Steps,
-    ) -> (Result<Option<Generation>, AllocError>, Steps)
+        steps: &mut Steps,
+    ) -> Result<Option<Generation>, AllocError>
         requires callable { (state : _) (before : _) → F.pre build.now state before }
-        requires builds { (state : _) (before : _) (built : _) → F.post build.now state before built → Builds state.now before built }
-        ensures built { IfOk result.0 (BuildsAll (state_in self.now (last_seen self.now))) }
-        ensures steps { OnOk result.0 (result.1 ≤ steps_after steps (build_work (state_in self.now (last_seen self.now)))) }
-        ensures never_falls { steps ≤ result.1 }
+        requires builds { (state : _) (before : _) (built : _) (after : _) → F.post build.now state before built after → Builds state.now before.now built after.now }
+        ensures built { IfOk result (BuildsAll (state_in self.now (last_seen self.now))) }
+        ensures steps { OnOk result (steps.new ≤ steps_after steps.old (build_work (state_in self.now (last_seen self.now)))) }
+        ensures never_falls { steps.old ≤ steps.new }
     {
         let last = self.state();
         if last.tip() == last.edits() {
             // For the prover: a count fits 64 bits.
             let _count = steps.count();
-            return (Ok(None), steps);
+            return Ok(None);
         }
-        let Built { generation, steps } = build(last, steps);
-        match generation {
-            Ok(generation) => (Ok(Some(generation)), steps),
-            Err(error) => (Err(error), steps),
-        }
+        let generation = build(last, steps)?;
+        Ok(Some(generation))
     }
 
     /// Publishes, with the desk at hand, what was built of the last state seen; or all edits, where that is no more than what
     /// is published by now.
-    pub(crate) fn publish<R: Wait, F: Fn(&State, Steps) -> Built>(
+    pub(crate) fn publish<R: Wait, F: Fn(&State, &mut Steps) -> Result<Generation, AllocError>>(
         &mut self,
         rt: &R,
         desk: &mut SurveyDesk<J>,
         built: Option<Generation>,
         build: &F,
-        steps: Steps,
-    ) -> (Result<Published, AllocError>, Steps)
+        steps: &mut Steps,
+    ) -> Result<Published, AllocError>
         requires callable { (state : _) (before : _) → F.pre build.now state before }
-        requires builds { (state : _) (before : _) (built : _) → F.post build.now state before built → Builds state.now before built }
+        requires builds { (state : _) (before : _) (built : _) (after : _) → F.post build.now state before built after → Builds state.now before.now built after.now }
         requires built { BuildsAll (state_in self.old (last_seen self.old)) built }
-        ensures published { IfOk result.0 (TellsPublished self.old self.new) }
-        ensures unchanged { OnErr result.0 (Stays self.old self.new) }
-        ensures steps { OnOk result.0 (result.1 ≤ steps_after steps (publish_work self.old self.new)) }
-        ensures never_falls { steps ≤ result.1 }
+        ensures published { IfOk result (TellsPublished self.old self.new) }
+        ensures unchanged { OnErr result (Stays self.old self.new) }
+        ensures steps { OnOk result (steps.new ≤ steps_after steps.old (publish_work self.old self.new)) }
+        ensures never_falls { steps.old ≤ steps.new }
     {
         // For the prover: more edits are no less work, a count fits 64 bits, and what was seen is a history.
         more_touched_is_more_work();
         let _count = steps.count();
         let _pinned = self.state();
-        match self.catch_up(desk.newest()) {
-            Ok(()) => {}
-            Err(error) => return (Err(error), steps),
-        }
+        self.catch_up(desk.newest())?;
         let tip = self.state().tip();
         if let Some(generation) = built {
             if generation.prefix() > tip {
-                return (self.install(rt, desk, generation), steps);
+                return self.install(rt, desk, generation);
             }
         }
         self.publish_all(rt, desk, build, steps)
     }
 
     /// Publishes all edits, by one generation at most.
-    fn publish_all<R: Wait, F: Fn(&State, Steps) -> Built>(
+    fn publish_all<R: Wait, F: Fn(&State, &mut Steps) -> Result<Generation, AllocError>>(
         &mut self,
         rt: &R,
         desk: &mut SurveyDesk<J>,
         build: &F,
-        steps: Steps,
-    ) -> (Result<Published, AllocError>, Steps)
+        steps: &mut Steps,
+    ) -> Result<Published, AllocError>
         requires callable { (state : _) (before : _) → F.pre build.now state before }
-        requires builds { (state : _) (before : _) (built : _) → F.post build.now state before built → Builds state.now before built }
+        requires builds { (state : _) (before : _) (built : _) (after : _) → F.post build.now state before built after → Builds state.now before.now built after.now }
         requires seen { HasSeen desk.old.newest self.old }
-        ensures published { IfOk result.0 (TellsPublished self.old self.new) }
-        ensures unchanged { OnErr result.0 (Stays self.old self.new) }
-        ensures steps { OnOk result.0 (result.1 ≤ steps_after steps (publish_work self.old self.new)) }
-        ensures never_falls { steps ≤ result.1 }
+        ensures published { IfOk result (TellsPublished self.old self.new) }
+        ensures unchanged { OnErr result (Stays self.old self.new) }
+        ensures steps { OnOk result (steps.new ≤ steps_after steps.old (publish_work self.old self.new)) }
+        ensures never_falls { steps.old ≤ steps.new }
     {
         let last = self.state();
         let edits = last.edits();
         if last.tip() == edits {
             // For the prover: a count fits 64 bits.
             let _count = steps.count();
-            return (Ok(Published::Already(edits)), steps);
+            return Ok(Published::Already(edits));
         }
-        let Built { generation, steps } = build(last, steps);
-        (self.install_built(rt, desk, generation), steps)
-    }
-
-    /// Publishes the generation of all edits, which aren't all published.
-    fn install_built<R: Wait>(
-        &mut self,
-        rt: &R,
-        desk: &mut SurveyDesk<J>,
-        generation: Result<Generation, AllocError>,
-    ) -> Result<Published, AllocError>
-        requires seen { HasSeen desk.old.newest self.old }
-        requires unpublished { (last_seen self.old).tip < edit_count (last_seen self.old) }
-        requires whole { IfOk generation (λ generation. generation ≡ whole_generation (state_in self.old (last_seen self.old))) }
-        ensures published { IfOk result (λ published. published ≡ Published.New (edit_count (last_seen self.old))) }
-        ensures event { OnOk result (Happens (Publishes (edit_count (last_seen self.old))) self.old self.new) }
-        ensures edits { OnOk result (edits_at (last_seen self.new) ≡ edits_at (last_seen self.old)) }
-        ensures unchanged { OnErr result (self.new ≡ self.old) }
-    {
-        self.install(rt, desk, generation?)
+        let generation = build(last, steps)?;
+        self.install(rt, desk, generation)
     }
 
     /// Publishes a generation of a longer prefix than the published one.

@@ -1,22 +1,22 @@
 //! The board of a survey that nobody else changes.
-ghost use Rattle.std.specs.Prelude.{◌≡◌, ℕ, ◌*◌, ◌<◌, ◌≤◌, [], map, length, All, option_map, IsOk, IfOk, IfErr, OnOk, OnErr};
+ghost use Rattle.std.specs.Prelude.{◌≡◌, ℕ, ◌*◌, ◌<◌, ◌≤◌, [], map, length, All, option_map, IfOk, IfErr, OnOk, OnErr};
 ghost use Rattle.edit_journal.specs.Edit.{edit_of, leaf_of};
 ghost use Rattle.edit_journal.specs.Leaves.{FitsEdit, leaves_of};
 ghost use Rattle.edit_journal.specs.Faults.{has_leaf};
 ghost use Rattle.dirty_plan.specs.Dirty.{steps_after};
 ghost use Rattle.survey_core.specs.History.{edits_at, IsStep, IsHistory};
 ghost use Rattle.survey_core.specs.State.{state_edits, survey_state};
-ghost use Rattle.reader_pin.specs.Board.{IsOwned, Stays, Happens, Publishes, last_seen, state_in, edit_count, holding_last, holding_none, publish_work};
-ghost use Rattle.reader_pin.specs.Build.{Builds, whole_generation};
+ghost use Rattle.reader_pin.specs.Board.{IsOwned, Stays, Happens, Publishes, last_seen, state_in, holding_last, holding_none, publish_work};
+ghost use Rattle.reader_pin.specs.Build.{Builds};
+ghost use Rattle.reader_pin.specs.Next.{IsPublishable};
 ghost use Rattle.reader_pin.specs.Answers.{Accepts, AcceptsAll, TellsRefusal, TellsBatchRefusal, TellsPublished, CountsOnce};
 
 use crate::answer::{Accepted, BoardBatch, BoardRefusal, Published};
 use crate::board::Board;
-use crate::build::Built;
 use crate::changed_with::ChangedWith;
 use crate::held::Held;
 use crate::mark::Mark;
-use crate::next::{after_batch, after_edit, after_generation};
+use crate::next::{after_batch, after_edit, after_prefix};
 use edit_journal::Edit;
 use generation::Generation;
 use parent_rule::Steps;
@@ -90,26 +90,20 @@ impl Solo {
         Ok(())
     }
 
-    /// Publishes the generation of all edits, which aren't all published.
-    fn publish_built(
-        &mut self,
-        generation: Result<Generation, AllocError>,
-    ) -> Result<Published, AllocError>
-        requires unpublished { (last_seen self.old).tip < edit_count (last_seen self.old) }
-        requires whole { IfOk generation (λ generation. generation ≡ whole_generation (state_in self.old (last_seen self.old))) }
-        ensures built { OnOk result (IsOk generation) }
-        ensures published { IfOk result (λ published. published ≡ Published.New (edit_count (last_seen self.old))) }
-        ensures event { OnOk result (Happens (Publishes (edit_count (last_seen self.old))) self.old self.new) }
+    /// Publishes a generation of a longer prefix than the published one.
+    fn install(&mut self, generation: Generation) -> Result<Published, AllocError>
+        requires { IsPublishable (state_in self.old (last_seen self.old)) generation }
+        ensures published { IfOk result (λ published. published ≡ Published.New generation.prefix) }
+        ensures event { OnOk result (Happens (Publishes generation.prefix) self.old self.new) }
         ensures edits { OnOk result (edits_at (last_seen self.new) ≡ edits_at (last_seen self.old)) }
         ensures unchanged { OnErr result (self.new ≡ self.old) }
     {
-        let last = self.last();
-        let edits = last.edits();
-        let next = after_generation(self.alloc(), last, generation?)?;
+        let prefix = generation.prefix();
+        let next = after_prefix(self.alloc(), self.last(), generation)?;
         self.go_on(next)?;
         // For the prover: the event is its seat's.
         let _made = self.last();
-        Ok(Published::New(edits))
+        Ok(Published::New(prefix))
     }
 }
 
@@ -179,29 +173,29 @@ impl<R> ChangedWith<R> for Solo {
     }
 
     /// Publishes all edits, by one generation at most.
-    fn publish_by<F: Fn(&State, Steps) -> Built>(
+    fn publish_by<F: Fn(&State, &mut Steps) -> Result<Generation, AllocError>>(
         &mut self,
         _rt: &R,
         build: &F,
-        steps: Steps,
-    ) -> (Result<Published, AllocError>, Steps)
+        steps: &mut Steps,
+    ) -> Result<Published, AllocError>
         requires callable { (state : _) (before : _) → F.pre build.now state before }
-        requires builds { (state : _) (before : _) (built : _) → F.post build.now state before built → Builds state.now before built }
-        ensures published { IfOk result.0 (TellsPublished self.old self.new) }
-        ensures unchanged { OnErr result.0 (Stays self.old self.new) }
-        ensures counted { IfOk result.0 (CountsOnce self.old self.new steps result.1) }
-        ensures steps { OnOk result.0 (result.1 ≤ steps_after steps (2 * publish_work self.old self.new)) }
-        ensures once { OnOk result.0 (result.1 ≤ steps_after steps (publish_work self.old self.new)) }
-        ensures never_falls { steps ≤ result.1 }
+        requires builds { (state : _) (before : _) (built : _) (after : _) → F.post build.now state before built after → Builds state.now before.now built after.now }
+        ensures published { IfOk result (TellsPublished self.old self.new) }
+        ensures unchanged { OnErr result (Stays self.old self.new) }
+        ensures counted { IfOk result (CountsOnce self.old self.new steps.old steps.new) }
+        ensures steps { OnOk result (steps.new ≤ steps_after steps.old (2 * publish_work self.old self.new)) }
+        ensures once { OnOk result (steps.new ≤ steps_after steps.old (publish_work self.old self.new)) }
+        ensures never_falls { steps.old ≤ steps.new }
     {
         let last = self.last();
         let edits = last.edits();
         if last.tip() == edits {
             // For the prover: a count fits 64 bits.
             let _count = steps.count();
-            return (Ok(Published::Already(edits)), steps);
+            return Ok(Published::Already(edits));
         }
-        let Built { generation, steps } = build(last, steps);
-        (self.publish_built(generation), steps)
+        let generation = build(last, steps)?;
+        self.install(generation)
     }
 }

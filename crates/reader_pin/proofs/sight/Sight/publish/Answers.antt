@@ -28,13 +28,13 @@ returns-then-prefix-tip-clause-published g c =
 
 pub returns-clause-published : goal.returns-clause-published
 returns-clause-published g c =
-    result_later c.args.self.now c.catch_up.new.self c.publish_all.new.self c.publish_all.result.0 c.state-pinned.ensures.legal c.catch_up.ensures.stays c.publish_all.ensures.published
+    result_later c.args.self.now c.catch_up.new.self c.publish_all.new.self c.publish_all.result c.state-pinned.ensures.legal c.catch_up.ensures.stays c.publish_all.ensures.published
 
 pub returns-clause-unchanged : goal.returns-clause-unchanged
 returns-clause-unchanged g c =
-    on_err c.publish_all.result.0 (stays_stays c.args.self.now c.catch_up.new.self c.publish_all.new.self c.catch_up.ensures.stays) c.publish_all.ensures.unchanged
+    on_err c.publish_all.result (stays_stays c.args.self.now c.catch_up.new.self c.publish_all.new.self c.catch_up.ensures.stays) c.publish_all.ensures.unchanged
 
 pub returns-clause-steps : goal.returns-clause-steps
 returns-clause-steps g c =
-    steps_later c.more_touched_is_more_work.ensures c.args.self.now c.catch_up.new.self c.publish_all.new.self c.publish_all.result.0 c.args.steps c.publish_all.result.1
+    steps_later c.more_touched_is_more_work.ensures c.args.self.now c.catch_up.new.self c.publish_all.new.self c.publish_all.result c.args.steps.now c.publish_all.new.steps
     c.state-pinned.ensures.legal c.catch_up.ensures.stays c.publish_all.ensures.steps
