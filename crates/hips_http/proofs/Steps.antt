@@ -1,6 +1,6 @@
 -- One request, from its parts.
-use Rattle.std.proofs.Common.{◌≡◌, ◌⊎◌, inl, inr, ℕ, zero, suc, ◌+◌, ◌-◌, ◌<◌, ◌≤◌, ◌||◌, ◌==◌, Bool, true, false, List, [], ◌∷◌, ◌++◌, length, take, drop, Option, Some, None, Err, refl, sym, ap, ◌∙◌, subst, arith, append_assoc}
-use Rattle.std.specs.Prelude.{◌≢◌, IfSome, IsSomeAnd, if◌then◌else◌}
+use Rattle.std.proofs.Common.{◌≡◌, ◌⊎◌, inl, inr, ℕ, zero, suc, ◌+◌, ◌-◌, ◌<◌, ◌≤◌, ◌||◌, ◌==◌, Bool, true, false, List, [], ◌∷◌, ◌++◌, length, take, drop, Option, Some, None, Ok, Err, refl, sym, ap, ◌∙◌, subst, arith, append_assoc}
+use Rattle.std.specs.Prelude.{◌≢◌, Result, IfSome, IsSomeAnd, if◌then◌else◌}
 use Rattle.std.specs.Io.KnownBytes.{Appends, prepend_known}
 use Rattle.std.proofs.lemmas.List.{take-append-drop}
 use Rattle.survey_link.specs.Link.{AppendsPrefix, CountsFault}
@@ -11,7 +11,8 @@ use Rattle.http_frame.specs.declared.request.Request.{Request}
 use Rattle.http_frame.specs.declared.stop.FrameStop.{FrameStop}
 use Rattle.http_frame.specs.declared.stop.FrameStop.TheVariants.{End, Cut, ReadFault, Refuse}
 use Rattle.http_frame.specs.Fill.{read_failed}
-use Rattle.http_frame.specs.Frame.{FrameState, unread, StopsHead, StopsBody, KeepsUnread}
+use Rattle.http_frame.specs.declared.stop.Turn.TheVariants.{AtBody}
+use Rattle.http_frame.specs.Frame.{FrameState, unread, StopsHead, StopsBody, KeepsUnread, LeavesBody, LeavesBodyAt, LeavesBodyOf}
 use Rattle.http_frame.specs.Next.{IsFound, IsWhole, IsRefusedNext, IsCut}
 use Rattle.http_frame.specs.Reply.{is_reply_code, continue_bytes}
 use Rattle.hips_http.specs.declared.served.SessionEnd.{SessionEnd}
@@ -20,7 +21,7 @@ use Rattle.hips_http.specs.Replies.{Answer, leave_bytes, refusal_bytes}
 use Rattle.hips_http.specs.declared.open_connection.OpenConnection.{OpenConnection}
 use Rattle.hips_http.specs.Moment.{Input, Output, Moment, moment, unread_of, SameEnds}
 use Rattle.hips_http.specs.SessionRun.{IsCutInput, room_of, most_requests, is_read_fault, is_write_fault, CountsFaults}
-use Rattle.hips_http.specs.Progress.{EndsAt, EndsOne, Breaks, ReadsPart, body_end, ReadsCall, Replied, Halts, Serves, Serving, IsServedOne, BreaksOne, StopsOne, LeavesPart, reply_of}
+use Rattle.hips_http.specs.Progress.{EndsAt, EndsOne, Breaks, ReadsPart, body_end, TakesBody, LeavesNoBody, ReadsCall, Replied, Halts, Serves, Serving, IsServedOne, BreaksOne, StopsOne, LeavesPart, reply_of}
 use Rattle.hips_http.proofs.Whole.{appends_nothing}
 use Rattle.hips_http.proofs.Truncated.{found_front}
 
@@ -317,6 +318,21 @@ head_stops count old input output stop ended room_is why kept ends = record {
         (head_ends old.input.frame input.frame old.input.left input.left old.output.held output.held stop ended why kept ends),
   );
 }
+
+-- where a frame that was asked for a body of n bytes is: the body was taken, or it stopped
+at_body : (n : ℕ) (old new : Input) (result : Result (List ℕ) FrameStop) → old.frame.turn ≡ AtBody n → LeavesBody old.frame new.frame old.left new.left result
+    → LeavesBodyOf n old.frame new.frame old.left new.left result
+at_body n old new result at leaves = subst (λ turn. LeavesBodyAt turn old.frame new.frame old.left new.left result) at leaves.turn
+
+pub takes_body : (n : ℕ) (old new : Input) (body : List ℕ) → old.frame.turn ≡ AtBody n → LeavesBody old.frame new.frame old.left new.left (Ok body) → length body ≡ n → TakesBody n old new body
+takes_body n old new body at leaves long =
+    let of = at_body n old new (Ok body) at leaves in
+    record { bytes = of.read; count_is = long; turn = of.turn }
+
+pub leaves_no_body : (n : ℕ) (old new : Input) (stop : FrameStop) → old.frame.turn ≡ AtBody n → LeavesBody old.frame new.frame old.left new.left (Err stop) → LeavesNoBody n old new stop
+leaves_no_body n old new stop at leaves =
+    let of = at_body n old new (Err stop) at leaves in
+    record { why = of.stop; kept = of.stopped.kept }
 
 -- no body ends a connection by a failed writing
 pub body_reads : (stop : FrameStop) → body_end stop ≡ end.WriteFault → ⊥

@@ -132,12 +132,6 @@ pub record LeavesNoBody (count : ℕ) (old new : Input) (stop : FrameStop) : Typ
   pub why : StopsBody count old.frame new.frame old.left stop
   pub kept : KeepsUnread old.frame new.frame old.left new.left
 
--- a body was read, and the call is answered
-pub record RepliesTo (asked : Request) (wanted : Call) (old new : Input) (board board' : BoardContent) (steps steps' : ℕ) (answer : Answer) : Type 0 where
-  pub body : List ℕ
-  pub takes : TakesBody asked.length old new body
-  pub serves : (path : Option (List ℕ)) → Serves (record { asked = asked; path = path; body = body }) wanted board board' steps steps' answer
-
 -- ---- writing that fails
 
 -- a prefix of these bytes was written

@@ -13,7 +13,7 @@ ghost use Rattle.hips_http.specs.declared.served.SessionEnd.TheVariants.{WriteFa
 
 use crate::open_connection::{Means, OpenConnection};
 use crate::served::{Served, SessionEnd};
-use crate::step::{MOST_REQUESTS, serve_one};
+use crate::step::{MOST_REQUESTS, answer_next};
 use http_frame::Frame;
 use log::Log;
 use parent_rule::Steps;
@@ -129,7 +129,7 @@ pub fn session_in<
                 steps,
                 memory_faults: 0,
             };
-            let end = serve_requests(&means, &mut connection, top);
+            let end = answer_all(&means, &mut connection, top);
             return Served {
                 end,
                 memory_faults: connection.memory_faults,
@@ -148,7 +148,7 @@ pub fn session_in<
 }
 
 // Serves the requests of an open connection, one after another.
-fn serve_requests<
+fn answer_all<
     R: Threads + Sync + Clock + Log,
     B: ChangedWith<R>,
     S: Source,
@@ -174,7 +174,7 @@ fn serve_requests<
     ensures same { SameEnds connection.old connection.new }
 {
     for count in 0..MOST_REQUESTS {
-        match serve_one(means, connection, top, count) {
+        match answer_next(means, connection, top, count) {
             Ok(true) => return SessionEnd::Asked,
             Ok(false) => {}
             Err(end) => return end,

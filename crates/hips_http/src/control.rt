@@ -24,23 +24,10 @@ pub(crate) fn publish<R: Threads + Sync + Clock + Log, B: ChangedWith<R>, G: Gat
     ensures never_falls { steps.old ≤ steps.new }
     ensures serves { (request : Asking) → Serves request call.Publish (B.content board.old) (B.content board.new) steps.old steps.new result }
 {
-    // What others published since is none of this publication's.
-    board.pin();
-    publish_from(rt, board, gate, steps)
-}
-
-// The same; the edits that it makes visible are those beyond the last state that the board has seen.
-fn publish_from<R: Threads + Sync + Clock + Log, B: ChangedWith<R>, G: Gate + Sync>(
-    rt: &R,
-    board: &mut B,
-    gate: &G,
-    steps: &mut Steps,
-) -> TextReply
-    ensures never_falls { steps.old ≤ steps.new }
-    ensures serves { (request : Asking) → Serves request call.Publish (B.content board.old) (B.content board.new) steps.old steps.new result }
-{
     // The edits from an earlier tip on are no fewer.
     more_touched_is_more_work();
+    // What others published since is none of this publication's.
+    board.pin();
     let publishing = Publishing::begin(rt, board.last().tip(), steps.count());
     match board.publish(rt, gate, steps) {
         Ok(Published::New(k)) => {

@@ -9,6 +9,7 @@ ghost use Rattle.hips_http.specs.Progress.{Looks};
 ghost use Rattle.hips_http.specs.Replies.{IsReplyOf, file_kind, file_answer, not_found, sent_body};
 ghost use Rattle.survey_link.specs.Link.{parts_bytes};
 
+use fits_header::BLOCK_LEN;
 use http_frame::{Allow, Kind, Method, Number, Reply};
 use reader_pin::Board;
 use survey_core::State;
@@ -50,7 +51,7 @@ pub(crate) fn file_reply<'a>(
     close: bool,
     state: &'a State,
     file: &Option<Path>,
-    front: &'a mut [u8; 2880],
+    front: &'a mut [u8; BLOCK_LEN],
 ) -> FileReply<'a>
     ensures code { is_reply_code result.head.code ≡ true }
     ensures length { length (result.front.now ++ result.kept.now ++ result.zeros.now) ≡ result.head.length }

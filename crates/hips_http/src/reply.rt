@@ -4,7 +4,7 @@ ghost use Rattle.arrayvec.specs.ArrayVec.{array_vec_len};
 ghost use Rattle.http_frame.specs.Reply.{is_reply_code};
 ghost use Rattle.hips_http.specs.Replies;
 ghost use Rattle.hips_http.specs.Replies.{text_answer, empty_answer, refused_answer, refused_batch, cause_code, cause_text};
-ghost use Rattle.hips_http.specs.Verdict.{missing, unmet, limit, cause_of};
+ghost use Rattle.hips_http.specs.Verdict.{missing, unmet, cause_of};
 
 use crate::text::{Text, push_entry_fault, push_tile_fault};
 use edit_journal::EditFault;
@@ -152,24 +152,13 @@ impl TextReply {
         TextReply::of_words(412, Number::Edits(edits), b"precondition failed")
     }
 
-    // The limit with that number is reached, after so many edits.
-    fn limit(number: u32, edits: u32) -> TextReply
-        ensures { result ≡ refused_answer edits (limit number) }
-    {
-        let mut line = Text::new();
-        push_limit(&mut line, number);
-        TextReply::of_line(507, Number::Edits(edits), line)
-    }
-
     /// An edit has a fault, after so many edits.
     pub(crate) fn edit_refused(fault: EditFault, edits: u32) -> TextReply
         ensures { result ≡ refused_answer edits (cause_of fault) }
     {
-        match fault {
-            EditFault::Exists | EditFault::Absent => TextReply::unmet(edits),
-            EditFault::Edits => TextReply::limit(3, edits),
-            EditFault::Bytes => TextReply::limit(4, edits),
-        }
+        let mut line = Text::new();
+        push_fault(&mut line, fault);
+        TextReply::of_line(fault_code(fault), Number::Edits(edits), line)
     }
 
     /// The edit `at` of a batch has a fault, after so many edits.
@@ -248,17 +237,9 @@ fn push_fault(text: &mut Text, fault: EditFault)
 {
     match fault {
         EditFault::Exists | EditFault::Absent => push(text, b"precondition failed"),
-        EditFault::Edits => push_limit(text, 3),
-        EditFault::Bytes => push_limit(text, 4),
+        EditFault::Edits | EditFault::Bytes => {
+            push(text, b"limit ");
+            push_number(text, u64::from(fault.number()));
+        }
     }
-}
-
-// Appends the name of a limit.
-fn push_limit(text: &mut Text, number: u32)
-    requires { array_vec_len text.old ≤ 100 }
-    ensures text { text.new.items ≡ text.old.items ++ cause_text (limit number) }
-    ensures short { array_vec_len text.new ≤ array_vec_len text.old + 60 }
-{
-    push(text, b"limit ");
-    push_number(text, u64::from(number));
 }

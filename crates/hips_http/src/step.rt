@@ -17,7 +17,7 @@ ghost use Rattle.hips_http.specs.Progress.{ReadsCall, HasLeaf, HasFile, EndsAt, 
 ghost use Rattle.hips_http.specs.SessionRun.{FlushesAll, room_of, most_requests, is_read_fault, is_write_fault};
 ghost use Rattle.hips_http.specs.Readings.{NeedsRest, HoldsBehind};
 
-use crate::answer::{pass_body, reply_to};
+use crate::answer::answer;
 use crate::call::{Call, call_of, path_kind};
 use crate::file::{file_reply, look, sent_parts, shown};
 use crate::logging::{Stopwatch, say_reply};
@@ -25,6 +25,7 @@ use crate::open_connection::{Due, Means, OpenConnection};
 use crate::reply::TextReply;
 use crate::send::{send_refusal, send_text};
 use crate::served::SessionEnd;
+use fits_header::BLOCK_LEN;
 use http_frame::{Frame, FrameStop, Request, write_continue, write_reply_parts};
 use log::Log;
 use reader_pin::{Board, ChangedWith};
@@ -133,7 +134,7 @@ fn body_end(stop: FrameStop) -> SessionEnd
 /// # Errors
 ///
 /// How the connection ends: `WriteFault` where the reply couldn't be written, else as the body isn't whole.
-fn serve_file<R: Clock + Log, B: Board, S: Source, K: Sink>(
+fn answer_file<R: Clock + Log, B: Board, S: Source, K: Sink>(
     rt: &R,
     connection: &mut OpenConnection<'_, '_, '_, '_, '_, B, S, K>,
     due: &Due,
@@ -145,15 +146,15 @@ fn serve_file<R: Clock + Log, B: Board, S: Source, K: Sink>(
     ensures needed { ReadsWhere S.Source (IsShort due.now.request.length) connection.old.frame.now.held connection.old.src.now connection.new.src.now }
     ensures same { SameEnds connection.old connection.new }
 {
-    match pass_body(connection.frame, connection.src, due.request.length) {
-        Ok(()) => {}
+    match connection.frame.body(connection.src) {
+        Ok(_) => {}
         Err(stop) => return Err(body_end(stop)),
     }
     let path = connection.frame.path();
     look(connection.board);
     // For the prover: what a board has seen is a history.
     let _legal = connection.board.last();
-    let mut front = [0u8; 2880];
+    let mut front = [0u8; BLOCK_LEN];
     let reply = file_reply(due.close, shown(connection.board), file, &mut front);
     let body = sent_parts(due.request.method, &reply);
     let sent = write_reply_parts(connection.sink, &reply.head, body);
@@ -176,7 +177,7 @@ fn serve_file<R: Clock + Log, B: Board, S: Source, K: Sink>(
 /// # Errors
 ///
 /// How the connection ends: `WriteFault` where the reply couldn't be written, else as the body isn't whole.
-fn serve_text<
+fn answer_text<
     R: Threads + Sync + Clock + Log,
     B: ChangedWith<R>,
     S: Source,
@@ -195,15 +196,8 @@ fn serve_text<
     ensures needed { ReadsWhere S.Source (IsShort due.now.request.length) connection.old.frame.now.held connection.old.src.now connection.new.src.now }
     ensures same { SameEnds connection.old connection.new }
 {
-    let reply = match reply_to(
-        means,
-        connection.frame,
-        connection.board,
-        connection.src,
-        connection.steps,
-        due,
-    ) {
-        Ok(reply) => reply,
+    let reply = match connection.frame.body(connection.src) {
+        Ok(body) => answer(means, connection.board, connection.steps, due, body),
         Err(stop) => return Err(body_end(stop)),
     };
     connection.memory_faults = count_memory_fault(connection.memory_faults, &reply);
@@ -225,7 +219,7 @@ fn serve_text<
 /// # Errors
 ///
 /// How the connection ends instead.
-pub(crate) fn serve_one<
+pub(crate) fn answer_next<
     R: Threads + Sync + Clock + Log,
     B: ChangedWith<R>,
     S: Source,
@@ -263,11 +257,11 @@ pub(crate) fn serve_one<
         close: closes(request.close, count),
     };
     match &due.call {
-        Call::File(file) => match serve_file(means.rt, connection, &due, file) {
+        Call::File(file) => match answer_file(means.rt, connection, &due, file) {
             Ok(()) => return Ok(request.close),
             Err(end) => return Err(end),
         },
-        _ => match serve_text(means, connection, &due) {
+        _ => match answer_text(means, connection, &due) {
             Ok(()) => return Ok(request.close),
             Err(end) => return Err(end),
         },

@@ -9,32 +9,32 @@ use Rattle.hips_http.proofs.connection.session_in.Goals as goal
 
 pub returns-in-Some-clause-goes : goal.returns-in-Some-clause-goes
 returns-in-Some-clause-goes g c =
-    let new = c.serve_requests-end.new.connection in
-    let goes = goes_from (g.B.Board.content c.args.board.now) (g.B.Board.content c.release.new.self) (g.B.Board.content new.board.now) c.release.ensures c.serve_requests-end.ensures.serves.goes in
+    let new = c.answer_all-end.new.connection in
+    let goes = goes_from (g.B.Board.content c.args.board.now) (g.B.Board.content c.release.new.self) (g.B.Board.content new.board.now) c.release.ensures c.answer_all-end.ensures.serves.goes in
     search rules
 
 pub returns-in-Some-clause-order : goal.returns-in-Some-clause-order
 returns-in-Some-clause-order g c =
-    let new = c.serve_requests-end.new.connection in
+    let new = c.answer_all-end.new.connection in
     let order = order_from g.S.Source (g.B.Board.content c.args.board.now) (g.B.Board.content c.release.new.self) (g.B.Board.content new.board.now) (g.S.Source.left c.args.src.now)
     (connection_of g.S.Source g.K.Sink c.args.src.now c.args.sink.now) (connection_of g.S.Source g.K.Sink new.src.now new.sink.now)
-    c.args.steps.now new.steps.now (record { end = c.serve_requests-end.result; memory_faults = new.memory_faults }) c.args.src.now new.src.now c.release.ensures c.serve_requests-end.ensures.order in
+    c.args.steps.now new.steps.now (record { end = c.answer_all-end.result; memory_faults = new.memory_faults }) c.args.src.now new.src.now c.release.ensures c.answer_all-end.ensures.order in
     order_at g.S.Source g.K.Sink g.B.Board.content _ _ _ _ _ _ new.board.now _ new.src.now _ new.sink.now _ new.steps.now _ (search rules) (search rules) (search rules) (search rules) order
 
 pub returns-in-Some-clause-served : goal.returns-in-Some-clause-served
 returns-in-Some-clause-served g c =
-    let new = c.serve_requests-end.new.connection in
+    let new = c.answer_all-end.new.connection in
     let served = served_from g.S.Source (g.B.Board.content c.args.board.now) (g.B.Board.content c.release.new.self) (g.B.Board.content new.board.now) (g.S.Source.left c.args.src.now)
     (connection_of g.S.Source g.K.Sink c.args.src.now c.args.sink.now) (connection_of g.S.Source g.K.Sink new.src.now new.sink.now)
-    c.args.steps.now new.steps.now (record { end = c.serve_requests-end.result; memory_faults = new.memory_faults }) c.args.src.now new.src.now c.release.ensures c.serve_requests-end.ensures.order in
+    c.args.steps.now new.steps.now (record { end = c.answer_all-end.result; memory_faults = new.memory_faults }) c.args.src.now new.src.now c.release.ensures c.answer_all-end.ensures.order in
     search rules
 
 pub returns-in-Some-clause-reads : goal.returns-in-Some-clause-reads
 returns-in-Some-clause-reads g c =
-    let new = c.serve_requests-end.new.connection in
+    let new = c.answer_all-end.new.connection in
     let reads = reads_from g.S.Source (g.B.Board.content c.args.board.now) (g.B.Board.content c.release.new.self) (g.B.Board.content new.board.now) (g.S.Source.left c.args.src.now)
     (connection_of g.S.Source g.K.Sink c.args.src.now c.args.sink.now) (connection_of g.S.Source g.K.Sink new.src.now new.sink.now)
-    c.args.steps.now new.steps.now (record { end = c.serve_requests-end.result; memory_faults = new.memory_faults }) c.args.src.now new.src.now c.release.ensures c.serve_requests-end.ensures.order in
+    c.args.steps.now new.steps.now (record { end = c.answer_all-end.result; memory_faults = new.memory_faults }) c.args.src.now new.src.now c.release.ensures c.answer_all-end.ensures.order in
     search rules
 
 pub returns-in-None-clause-goes : goal.returns-in-None-clause-goes

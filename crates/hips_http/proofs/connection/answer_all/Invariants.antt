@@ -2,7 +2,7 @@ use Rattle.std.specs.Prelude.{IsSome}
 use Rattle.hips_http.specs.Moment.{moment_of, SameEnds}
 use Rattle.hips_http.proofs.ReadRequests.{HasRead}
 use Rattle.hips_http.proofs.Sessions.{IsLoop}
-use Rattle.hips_http.proofs.connection.serve_requests.Given as goal
+use Rattle.hips_http.proofs.connection.answer_all.Given as goal
 
 abbrev pub invariant-loop-count : goal.invariant-loop-count
 invariant-loop-count g l = SameEnds l.fn.connection l.connection

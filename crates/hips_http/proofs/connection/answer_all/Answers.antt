@@ -7,7 +7,7 @@ use Rattle.hips_http.proofs.ReadRequests.{NeedsAmong, has_read_none, has_read_mo
 use Rattle.hips_http.proofs.InOrder.{in_order}
 use Rattle.hips_http.proofs.Steps.{same_ends}
 use Rattle.hips_http.proofs.Sessions.{begins_loop, loop_goes_on, asked_all, stopped_all, spent_all}
-use Rattle.hips_http.proofs.connection.serve_requests.Goals as goal
+use Rattle.hips_http.proofs.connection.answer_all.Goals as goal
 
 pub loop-count-init : goal.loop-count-init
 loop-count-init g c =
@@ -23,7 +23,7 @@ loop-count-preserved g c =
     let at = moment_of g.S.Source g.K.Sink g.B.Board.content in
     let first = c.args.connection.now in
     let now = c.loop-count.connection in
-    let new = c.serve_one.new.connection in
+    let new = c.answer_next.new.connection in
     let i = c.loop-count.invariant in
     let e = c.in-Ok-false.ensures in
     let s = rw c.in-Ok-false.field-0-test at e.serves in (
@@ -40,13 +40,13 @@ pub returns-in-Ok-true-clause-serves : goal.returns-in-Ok-true-clause-serves
 returns-in-Ok-true-clause-serves g c =
     let at = moment_of g.S.Source g.K.Sink g.B.Board.content in
     let s = rw c.in-Ok-true.field-0-test at c.in-Ok-true.ensures.serves in
-    (asked_all c.loop-count.count c.args.top (at c.args.connection.now) (at c.loop-count.connection) (at c.serve_one.new.connection) c.loop-count.invariant.1 s.never_falls c.loop-count-test.true s).serves
+    (asked_all c.loop-count.count c.args.top (at c.args.connection.now) (at c.loop-count.connection) (at c.answer_next.new.connection) c.loop-count.invariant.1 s.never_falls c.loop-count-test.true s).serves
 
 pub returns-in-Err-clause-serves : goal.returns-in-Err-clause-serves
 returns-in-Err-clause-serves g c =
     let at = moment_of g.S.Source g.K.Sink g.B.Board.content in
     let s = c.in-Err.ensures.serves in
-    (stopped_all c.loop-count.count c.args.top (at c.args.connection.now) (at c.loop-count.connection) (at c.serve_one.new.connection) c.loop-count.invariant.1 s.never_falls c.in-Err.end c.loop-count-test.true s).serves
+    (stopped_all c.loop-count.count c.args.top (at c.args.connection.now) (at c.loop-count.connection) (at c.answer_next.new.connection) c.loop-count.invariant.1 s.never_falls c.in-Err.end c.loop-count-test.true s).serves
 
 pub returns-clause-serves : goal.returns-clause-serves
 returns-clause-serves g c =
@@ -57,10 +57,10 @@ returns-clause-serves g c =
 -- ---- the ends
 
 pub returns-in-Ok-true-clause-same : goal.returns-in-Ok-true-clause-same
-returns-in-Ok-true-clause-same g c = same_ends c.args.connection.now c.loop-count.connection c.serve_one.new.connection c.loop-count.invariant.0 c.in-Ok-true.ensures.same
+returns-in-Ok-true-clause-same g c = same_ends c.args.connection.now c.loop-count.connection c.answer_next.new.connection c.loop-count.invariant.0 c.in-Ok-true.ensures.same
 
 pub returns-in-Err-clause-same : goal.returns-in-Err-clause-same
-returns-in-Err-clause-same g c = same_ends c.args.connection.now c.loop-count.connection c.serve_one.new.connection c.loop-count.invariant.0 c.in-Err.ensures.same
+returns-in-Err-clause-same g c = same_ends c.args.connection.now c.loop-count.connection c.answer_next.new.connection c.loop-count.invariant.0 c.in-Err.ensures.same
 
 -- ---- what was read, and in which order
 
@@ -69,7 +69,7 @@ returns-in-Ok-true-clause-order g c =
     let at = moment_of g.S.Source g.K.Sink g.B.Board.content in
     let first = c.args.connection.now in
     let now = c.loop-count.connection in
-    let new = c.serve_one.new.connection in
+    let new = c.answer_next.new.connection in
     let i = c.loop-count.invariant in
     let s = rw c.in-Ok-true.field-0-test at c.in-Ok-true.ensures.serves in
     in_order g.S.Source _ c.loop-count.count (at first) (at new) Asked first.src.now new.src.now (g.S.Source.left first.src.now)
@@ -87,7 +87,7 @@ returns-in-Err-clause-order g c =
     let at = moment_of g.S.Source g.K.Sink g.B.Board.content in
     let first = c.args.connection.now in
     let now = c.loop-count.connection in
-    let new = c.serve_one.new.connection in
+    let new = c.answer_next.new.connection in
     let i = c.loop-count.invariant in
     let s = c.in-Err.ensures.serves in
     in_order g.S.Source _ c.loop-count.count (at first) (at new) c.in-Err.end first.src.now new.src.now (g.S.Source.left first.src.now)
