@@ -1,0 +1,3 @@
+pub mod Shut
+pub mod Wal
+pub mod Laws

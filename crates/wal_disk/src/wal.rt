@@ -1,0 +1,207 @@
+//! Records behind one another.
+
+ghost use Rattle.std.specs.Prelude.{◌<◌, ◌≤◌, ◌^◌};
+
+use crate::stop::{CommitStop, DiskFailed, StageStop};
+use sqlite_disk::Disk;
+
+/// The greatest length of a WAL.
+const MOST_BYTES: usize = 1 << 62;
+
+/// A write-ahead log, whose last record ends before the byte `end`, which is the gate of the next one; the bytes up to `next`
+/// are staged behind it.
+#[derive(Drop)]
+pub struct Wal<D> {
+    device: D,
+    end: usize,
+    next: usize,
+    ghost order: { end < next },
+    ghost fits: { next ≤ 2 ^ 62 },
+}
+
+impl<D: Disk> Wal<D> {
+    ghost use Rattle.std.specs.Prelude.{◌≡◌, ◌+◌, ◌^◌, ◌<◌, ◌≤◌, [], ◌∷◌, ◌++◌, List, ℕ, length, OnOk, OnErr, IfErr, IsTrue, IsErrOf};
+    ghost use Rattle.sqlite_disk.specs.Disk.{MoreFaults};
+    ghost use Rattle.wal_disk.specs.Shut.{Shut, with_record};
+    ghost use Rattle.wal_disk.specs.Wal.{IsStaged, IsUnsure, IsClosed, IsGated, IsShutAgain, Stopped};
+
+    /// The WAL that the device holds up to `end`, where no open gate stands, whatever a crash leaves.
+    pub fn new(device: D, end: usize) -> Wal<D>
+        requires { end < 2 ^ 62 }
+        ensures { (front : List ℕ) → end ≡ length front → ((c : List ℕ) → D.may_leave device c → Shut front c) → IsStaged D.seen D.may_leave front [] result }
+    {
+        Wal {
+            device,
+            end,
+            next: end + 1,
+        }
+    }
+
+    /// How many bytes the header and the records have.
+    pub fn end(&self) -> usize
+        ensures { result ≡ self.now.end }
+    {
+        self.end
+    }
+
+    /// Whether more may be asked of the device: no sync has failed.
+    pub fn may_be_used(&self) -> bool
+        ensures { result ≡ D.is_usable self.now.device }
+    {
+        self.device.may_be_used()
+    }
+
+    /// The device.
+    pub fn into_device(self) -> D
+        ensures { result ≡ self.device }
+    {
+        self.device
+    }
+
+    /// Writes more bytes of the next record, of those behind its gate. The WAL keeps the records that it has.
+    ///
+    /// # Errors
+    ///
+    /// `Full` only where the WAL would reach 2^62 bytes; `Failed` only where the disk failed. What was staged before stays staged.
+    pub fn stage(&mut self, bytes: &[u8]) -> Result<(), StageStop>
+        requires usable { IsTrue (D.is_usable self.old.device) }
+        requires some { 0 < length bytes.now }
+        ensures staged { (front body : List ℕ) → IsStaged D.seen D.may_leave front body self.old
+            → OnOk result (IsStaged D.seen D.may_leave front (body ++ bytes.now) self.new) }
+        ensures kept { (front body : List ℕ) → IsStaged D.seen D.may_leave front body self.old
+            → OnErr result (IsStaged D.seen D.may_leave front body self.new) }
+        ensures room { OnOk result (self.new.next < 2 ^ 62) }
+        ensures usable { IsTrue (D.is_usable self.new.device) }
+        ensures full { IsErrOf result StageStop.Full → 2 ^ 62 ≤ self.old.next + length bytes.now }
+        ensures failed { IsErrOf result StageStop.Failed → MoreFaults (D.faults self.old.device) (D.faults self.new.device) }
+    {
+        if bytes.len() >= MOST_BYTES - self.next {
+            return Err(StageStop::Full);
+        }
+        match self.device.write_at(self.next, bytes) {
+            Ok(()) => {
+                self.next += bytes.len();
+                Ok(())
+            }
+            Err(_) => Err(StageStop::Failed),
+        }
+    }
+
+    /// Drops what is staged.
+    pub fn discard(&mut self)
+        ensures dropped { (front body : List ℕ) → IsStaged D.seen D.may_leave front body self.old → IsStaged D.seen D.may_leave front [] self.new }
+        ensures device { self.new.device ≡ self.old.device }
+    {
+        self.next = self.end + 1;
+    }
+
+    /// Makes the bytes that are staged a record. At Ok each crash from then on leaves it in the file.
+    ///
+    /// # Errors
+    ///
+    /// Only where the disk failed. `NotKept`: no crash leaves the record, and its bytes are still staged. `Unsure`: a crash leaves
+    /// the record or not.
+    pub fn commit(&mut self) -> Result<(), CommitStop>
+        requires usable { IsTrue (D.is_usable self.old.device) }
+        requires room { self.old.next < 2 ^ 62 }
+        ensures kept { (front body : List ℕ) → IsStaged D.seen D.may_leave front body self.old
+            → OnOk result (IsStaged D.seen D.may_leave (with_record front body) [] self.new) }
+        ensures stopped { (front body : List ℕ) → IsStaged D.seen D.may_leave front body self.old
+            → IfErr result (Stopped D.seen D.may_leave front body self.new) }
+        ensures usable { OnOk result (IsTrue (D.is_usable self.new.device)) }
+        ensures failed { OnErr result (MoreFaults (D.faults self.old.device) (D.faults self.new.device)) }
+    {
+        match self.close_behind() {
+            Ok(()) => self.open_gate(),
+            Err(_) => Err(CommitStop::NotKept),
+        }
+    }
+
+    // Writes a closed gate behind what is staged, and syncs.
+    fn close_behind(&mut self) -> Result<(), DiskFailed>
+        requires usable { IsTrue (D.is_usable self.old.device) }
+        ensures closed { (front body : List ℕ) → IsStaged D.seen D.may_leave front body self.old
+            → OnOk result (IsClosed D.seen D.may_leave front body self.new) }
+        ensures kept { (front body : List ℕ) → IsStaged D.seen D.may_leave front body self.old
+            → OnErr result (IsStaged D.seen D.may_leave front body self.new) }
+        ensures places { (self.new.end ≡ self.old.end) × (self.new.next ≡ self.old.next) }
+        ensures usable { OnOk result (IsTrue (D.is_usable self.new.device)) }
+        ensures failed { OnErr result (MoreFaults (D.faults self.old.device) (D.faults self.new.device)) }
+        ensures never_falls { D.faults self.old.device ≤ D.faults self.new.device }
+    {
+        match self.device.write_at(self.next, &[0]) {
+            Ok(()) => match self.device.sync() {
+                Ok(()) => Ok(()),
+                Err(_) => Err(DiskFailed),
+            },
+            Err(_) => Err(DiskFailed),
+        }
+    }
+
+    // Opens the gate of a record that is on the disk, and syncs.
+    fn open_gate(&mut self) -> Result<(), CommitStop>
+        requires usable { IsTrue (D.is_usable self.old.device) }
+        requires room { self.old.next < 2 ^ 62 }
+        ensures kept { (front body : List ℕ) → IsClosed D.seen D.may_leave front body self.old
+            → OnOk result (IsStaged D.seen D.may_leave (with_record front body) [] self.new) }
+        ensures stopped { (front body : List ℕ) → IsClosed D.seen D.may_leave front body self.old
+            → IfErr result (Stopped D.seen D.may_leave front body self.new) }
+        ensures usable { OnOk result (IsTrue (D.is_usable self.new.device)) }
+        ensures failed { OnErr result (MoreFaults (D.faults self.old.device) (D.faults self.new.device)) }
+    {
+        match self.device.write_at(self.end, &[1]) {
+            Ok(()) => match self.device.sync() {
+                Ok(()) => {
+                    self.end = self.next;
+                    self.next += 1;
+                    Ok(())
+                }
+                Err(_) => Err(CommitStop::Unsure),
+            },
+            Err(_) => match self.shut_gate() {
+                Ok(()) => Err(CommitStop::NotKept),
+                Err(_) => Err(CommitStop::Unsure),
+            },
+        }
+    }
+
+    // Shuts the gate behind the last record, and syncs.
+    fn shut_gate(&mut self) -> Result<(), DiskFailed>
+        requires usable { IsTrue (D.is_usable self.old.device) }
+        ensures shut { (front body : List ℕ) → IsGated D.seen D.may_leave front body self.old
+            → OnOk result (IsShutAgain D.seen D.may_leave front body self.new) }
+        ensures unsure { (front body : List ℕ) → IsGated D.seen D.may_leave front body self.old
+            → OnErr result (IsUnsure D.seen D.may_leave front body self.new) }
+        ensures places { (self.new.end ≡ self.old.end) × (self.new.next ≡ self.old.next) }
+        ensures usable { OnOk result (IsTrue (D.is_usable self.new.device)) }
+        ensures failed { OnErr result (MoreFaults (D.faults self.old.device) (D.faults self.new.device)) }
+        ensures never_falls { D.faults self.old.device ≤ D.faults self.new.device }
+    {
+        match self.device.write_at(self.end, &[0]) {
+            Ok(()) => match self.device.sync() {
+                Ok(()) => Ok(()),
+                Err(_) => Err(DiskFailed),
+            },
+            Err(_) => Err(DiskFailed),
+        }
+    }
+
+    /// Takes the last record, of so many bytes, away again, with all that is staged.
+    ///
+    /// # Errors
+    ///
+    /// Only where the disk failed: a crash then leaves the record or not.
+    pub fn take_back(&mut self, count: usize) -> Result<(), DiskFailed>
+        requires usable { IsTrue (D.is_usable self.old.device) }
+        requires count { count ≤ self.old.end }
+        ensures taken { (front body : List ℕ) → IsStaged D.seen D.may_leave (with_record front body) [] self.old → count ≡ 1 + length body
+            → OnOk result (IsStaged D.seen D.may_leave front [] self.new) }
+        ensures unsure { (front body : List ℕ) → IsStaged D.seen D.may_leave (with_record front body) [] self.old → count ≡ 1 + length body
+            → OnErr result (IsUnsure D.seen D.may_leave front body self.new) }
+        ensures failed { OnErr result (MoreFaults (D.faults self.old.device) (D.faults self.new.device)) }
+    {
+        self.end -= count;
+        self.next = self.end + 1;
+        self.shut_gate()
+    }
+}
