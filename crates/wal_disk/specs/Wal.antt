@@ -6,6 +6,16 @@ use Rattle.wal_disk.specs.declared.stop.CommitStop.TheVariants.{NotKept, Unsure}
 use Rattle.wal_disk.specs.declared.wal.Wal.{Wal}
 use Rattle.wal_disk.specs.Shut.{Shut, HasStaged, WithOrWithout, IsReady}
 
+-- its device, how many bytes the header and the records have, and where the next byte of a record would be staged
+abbrev pub device_of : {D : Type 0} → Wal D → D
+device_of wal = wal.device
+
+abbrev pub end_of : {D : Type 0} → Wal D → ℕ
+end_of wal = wal.end
+
+abbrev pub next_of : {D : Type 0} → Wal D → ℕ
+next_of wal = wal.next
+
 module _ {D : Type 0} (seen : D → List ℕ) (may_leave : D → List ℕ → Type 0) where
   -- each crash leaves these bytes up to a gate that isn't open, behind which those others are staged
   pub record IsStaged (front body : List ℕ) (wal : Wal D) : Type 0 where
