@@ -70,9 +70,9 @@ impl<D: Disk> Wal<D> {
             → OnOk result (IsStaged D.seen D.may_leave front (body ++ bytes.now) self.new) }
         ensures kept { (front body : List ℕ) → IsStaged D.seen D.may_leave front body self.old
             → OnErr result (IsStaged D.seen D.may_leave front body self.new) }
-        ensures room { OnOk result ((next_of self.new) < 2 ^ 62) }
+        ensures room { OnOk result (next_of self.new < 2 ^ 62) }
         ensures usable { IsTrue (D.is_usable (device_of self.new)) }
-        ensures full { IsErrOf result StageStop.Full → 2 ^ 62 ≤ (next_of self.old) + length bytes.now }
+        ensures full { IsErrOf result StageStop.Full → 2 ^ 62 ≤ next_of self.old + length bytes.now }
         ensures failed { IsErrOf result StageStop.Failed → MoreFaults (D.faults (device_of self.old)) (D.faults (device_of self.new)) }
     {
         if bytes.len() >= MOST_BYTES - self.next {
@@ -90,7 +90,7 @@ impl<D: Disk> Wal<D> {
     /// Drops what is staged.
     pub fn discard(&mut self)
         ensures dropped { (front body : List ℕ) → IsStaged D.seen D.may_leave front body self.old → IsStaged D.seen D.may_leave front [] self.new }
-        ensures device { (device_of self.new) ≡ (device_of self.old) }
+        ensures device { device_of self.new ≡ device_of self.old }
     {
         self.next = self.end + 1;
     }
@@ -103,7 +103,7 @@ impl<D: Disk> Wal<D> {
     /// the record or not.
     pub fn commit(&mut self) -> Result<(), CommitStop>
         requires usable { IsTrue (D.is_usable (device_of self.old)) }
-        requires room { (next_of self.old) < 2 ^ 62 }
+        requires room { next_of self.old < 2 ^ 62 }
         ensures kept { (front body : List ℕ) → IsStaged D.seen D.may_leave front body self.old
             → OnOk result (IsStaged D.seen D.may_leave (with_record front body) [] self.new) }
         ensures stopped { (front body : List ℕ) → IsStaged D.seen D.may_leave front body self.old
@@ -124,7 +124,7 @@ impl<D: Disk> Wal<D> {
             → OnOk result (IsClosed D.seen D.may_leave front body self.new) }
         ensures kept { (front body : List ℕ) → IsStaged D.seen D.may_leave front body self.old
             → OnErr result (IsStaged D.seen D.may_leave front body self.new) }
-        ensures places { ((end_of self.new) ≡ (end_of self.old)) × ((next_of self.new) ≡ (next_of self.old)) }
+        ensures places { (end_of self.new ≡ end_of self.old) × (next_of self.new ≡ next_of self.old) }
         ensures usable { OnOk result (IsTrue (D.is_usable (device_of self.new))) }
         ensures failed { OnErr result (MoreFaults (D.faults (device_of self.old)) (D.faults (device_of self.new))) }
         ensures never_falls { D.faults (device_of self.old) ≤ D.faults (device_of self.new) }
@@ -141,7 +141,7 @@ impl<D: Disk> Wal<D> {
     // Opens the gate of a record that is on the disk, and syncs.
     fn open_gate(&mut self) -> Result<(), CommitStop>
         requires usable { IsTrue (D.is_usable (device_of self.old)) }
-        requires room { (next_of self.old) < 2 ^ 62 }
+        requires room { next_of self.old < 2 ^ 62 }
         ensures kept { (front body : List ℕ) → IsClosed D.seen D.may_leave front body self.old
             → OnOk result (IsStaged D.seen D.may_leave (with_record front body) [] self.new) }
         ensures stopped { (front body : List ℕ) → IsClosed D.seen D.may_leave front body self.old
@@ -172,7 +172,7 @@ impl<D: Disk> Wal<D> {
             → OnOk result (IsShutAgain D.seen D.may_leave front body self.new) }
         ensures unsure { (front body : List ℕ) → IsGated D.seen D.may_leave front body self.old
             → OnErr result (IsUnsure D.seen D.may_leave front body self.new) }
-        ensures places { ((end_of self.new) ≡ (end_of self.old)) × ((next_of self.new) ≡ (next_of self.old)) }
+        ensures places { (end_of self.new ≡ end_of self.old) × (next_of self.new ≡ next_of self.old) }
         ensures usable { OnOk result (IsTrue (D.is_usable (device_of self.new))) }
         ensures failed { OnErr result (MoreFaults (D.faults (device_of self.old)) (D.faults (device_of self.new))) }
         ensures never_falls { D.faults (device_of self.old) ≤ D.faults (device_of self.new) }
@@ -193,7 +193,7 @@ impl<D: Disk> Wal<D> {
     /// Only where the disk failed: a crash then leaves the record or not.
     pub fn take_back(&mut self, count: usize) -> Result<(), DiskFailed>
         requires usable { IsTrue (D.is_usable (device_of self.old)) }
-        requires count { count ≤ (end_of self.old) }
+        requires count { count ≤ end_of self.old }
         ensures taken { (front body : List ℕ) → IsStaged D.seen D.may_leave (with_record front body) [] self.old → count ≡ 1 + length body
             → OnOk result (IsStaged D.seen D.may_leave front [] self.new) }
         ensures unsure { (front body : List ℕ) → IsStaged D.seen D.may_leave (with_record front body) [] self.old → count ≡ 1 + length body
