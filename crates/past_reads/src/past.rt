@@ -20,7 +20,7 @@ use std::sync::Arc;
 use std::thread::Threads;
 use std::time::Clock;
 use survey_conf::Conf;
-use survey_link::Gate;
+use survey_link::{Gate, Means};
 
 /// The generations of a survey that were asked for last, at most eight of them. The generation of the opening leaves is kept
 /// beside these, if it was given.
@@ -170,7 +170,12 @@ impl Past {
             return Err(PastRefusal::Split { k });
         }
         let known = journal.share()?;
-        let generation = self.generation_of(rt, journal, k, gate, steps)?;
+        let means = Means {
+            rt,
+            alloc: self.alloc,
+            gate,
+        };
+        let generation = self.generation_of(&means, journal, k, steps)?;
         self.keep(known, k, generation.clone()?)?;
         Ok(generation)
     }
@@ -188,10 +193,9 @@ impl Past {
     // The generation of the first `k` edits of the journal, which is held or made.
     fn generation_of<R: Threads + Sync + Clock + Log, G: Gate + Sync>(
         &self,
-        rt: &R,
+        means: &Means<'_, R, G>,
         journal: &Journal,
         k: u32,
-        gate: &G,
         steps: &mut Steps,
     ) -> Result<Arc<Generation>, AllocError>
         requires journal { GoesOnFrom self.now journal.now }
@@ -206,17 +210,16 @@ impl Past {
                 let _count = steps.count();
                 held.clone()
             }
-            None => self.make(rt, journal, k, gate, steps),
+            None => self.make(means, journal, k, steps),
         }
     }
 
     // The same of edits whose generation isn't held.
     fn make<R: Threads + Sync + Clock + Log, G: Gate + Sync>(
         &self,
-        rt: &R,
+        means: &Means<'_, R, G>,
         journal: &Journal,
         k: u32,
-        gate: &G,
         steps: &mut Steps,
     ) -> Result<Arc<Generation>, AllocError>
         requires journal { GoesOnFrom self.now journal.now }
@@ -225,23 +228,22 @@ impl Past {
         ensures steps { steps.new ≤ steps.old + work_from self.now.conf self.now.opening (edits_of journal.now.batches) k (base self.now.opened k self.now.held) }
         ensures never_falls { steps.old ≤ steps.new }
     {
-        let making = Making::begin(rt, steps.count());
+        let making = Making::begin(means.rt, steps.count());
         let from = self.base(k);
         let made = match from {
-            Some(base) => base.next(rt, journal, k, gate, steps)?,
-            None => self.make_afresh(rt, journal, k, gate, steps)?,
+            Some(base) => base.next(means.rt, journal, k, means.gate, steps)?,
+            None => self.make_afresh(means, journal, k, steps)?,
         };
-        making.say_made(rt, k, from.map(|base| base.prefix()), steps.count());
-        Ok(Arc::new(self.alloc, made)?)
+        making.say_made(means.rt, k, from.map(|base| base.prefix()), steps.count());
+        Ok(Arc::new(means.alloc, made)?)
     }
 
     // The same from the opening leaves.
     fn make_afresh<R: Threads + Sync, G: Gate + Sync>(
         &self,
-        rt: &R,
+        means: &Means<'_, R, G>,
         journal: &Journal,
         k: u32,
-        gate: &G,
         steps: &mut Steps,
     ) -> Result<Generation, AllocError>
         requires journal { GoesOnFrom self.now journal.now }
@@ -252,8 +254,9 @@ impl Past {
     {
         // For the prover: how many edits there are bounds `k`.
         let _count = journal.len();
+        let Means { rt, alloc, gate } = *means;
         let leaves = journal.opening().share()?;
-        let opening = Generation::start(rt, self.alloc, self.conf.clone()?, leaves, gate, steps)?;
+        let opening = Generation::start(rt, alloc, self.conf.clone()?, leaves, gate, steps)?;
         opening.next(rt, journal, k, gate, steps)
     }
 
