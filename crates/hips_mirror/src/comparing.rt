@@ -25,11 +25,10 @@ use leaf_store::Store;
 use log::Log;
 use mirror_frame::{Due, Peer};
 use parent_rule::Steps;
+use shelf_io::first_generation;
 use std::alloc::{AllocError, Global};
-use std::sync::Arc;
 use std::thread::Threads;
-use survey_conf::Conf;
-use survey_link::{Gate, Sink, Source};
+use survey_link::{Gate, Means, Sink, Source};
 use tile_path::Path;
 use tile_path::laws::spellings_differ;
 use tile_pixels::Tile;
@@ -66,11 +65,9 @@ pub(crate) fn read_mosaic<R: Log, S: Source, K: Sink>(
 ///
 /// `Differs` with the path of the properties if and only if these differ; `OutOfMemory`.
 pub(crate) fn build<R: Threads + Sync, G: Gate + Sync>(
-    rt: &R,
-    alloc: Global,
+    means: &Means<'_, R, G>,
     survey: PeerSurvey,
     leaves: Store<Tile>,
-    gate: &G,
     steps: &mut Steps,
 ) -> Result<Generation, MirrorRefusal>
     requires { FitsLeaves survey.conf.shape leaves }
@@ -86,7 +83,7 @@ pub(crate) fn build<R: Threads + Sync, G: Gate + Sync>(
             path: Path::Properties,
         });
     }
-    Ok(start(rt, alloc, survey.conf, leaves, gate, steps)?)
+    Ok(first_generation(means, survey.conf, leaves, steps)?)
 }
 
 /// Compares the mosaic of the generation with the one that the peer sent, where there is a leaf.
@@ -112,24 +109,6 @@ pub(crate) fn compare_mosaic(
         Ok(false) => Err(MirrorRefusal::Differs { path: Path::Allsky }),
         Err(AllocError) => Err(MirrorRefusal::OutOfMemory),
     }
-}
-
-// The files of the leaves.
-fn start<R: Threads + Sync, G: Gate + Sync>(
-    rt: &R,
-    alloc: Global,
-    conf: Conf,
-    leaves: Store<Tile>,
-    gate: &G,
-    steps: &mut Steps,
-) -> Result<Generation, AllocError>
-    requires { FitsLeaves conf.shape leaves }
-    ensures made { IfOk result (λ made. made ≡ record { conf = conf; prefix = 0; leaves = leaves }) }
-    ensures steps { steps.new ≤ steps.old + tiles_above conf.shape (leaf_map leaves) }
-    ensures steps_never_fall { steps.old ≤ steps.new }
-{
-    let conf = Arc::new(alloc, conf)?;
-    Generation::start(rt, alloc, conf, leaves, gate, steps)
 }
 
 // Whether the mosaic of the generation, which has a leaf, has these bytes.

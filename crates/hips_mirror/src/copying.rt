@@ -29,7 +29,7 @@ use shelf_io::export;
 use std::alloc::Global;
 use std::thread::Threads;
 use std::time::Clock;
-use survey_link::{Gate, LinkFault, Shelf, Sink, Source};
+use survey_link::{Gate, LinkFault, Means, Shelf, Sink, Source};
 
 /// Copies one published state of a peer's survey onto the shelf, and answers how many files these are. It asks the peer to
 /// hold its newest state, reads its description, its coverage, its leaves one after another, and its mosaic, builds all files
@@ -68,7 +68,8 @@ pub fn mirror<R: Threads + Sync + Clock + Log, S: Source, K: Sink, H: Shelf, G: 
     ensures steps { OnErr result ((steps.new ≡ steps.old) ⊎ StepsFit (S.left src.old) steps.old steps.new) }
     ensures steps_never_fall { steps.old ≤ steps.new }
 {
-    match copy(rt, alloc, src, sink, gate, steps) {
+    let means = Means { rt, alloc, gate };
+    match copy(&means, src, sink, steps) {
         Ok(generation) => put_files(rt, alloc, shelf, &generation),
         Err(refusal) => Err(refusal),
     }
@@ -96,11 +97,9 @@ fn put_files<R: Clock + Log, H: Shelf>(
 
 // The generation of the state that the peer holds, once the last reply was read.
 fn copy<R: Threads + Sync + Clock + Log, S: Source, K: Sink, G: Gate + Sync>(
-    rt: &R,
-    alloc: Global,
+    means: &Means<'_, R, G>,
     src: &mut S,
     sink: &mut K,
-    gate: &G,
     steps: &mut Steps,
 ) -> Result<Generation, MirrorRefusal>
     ensures copied { IfOk result (λ made. TrueOf (S.left src.old) (λ bytes. IsCopy bytes made.conf (leaf_map made.leaves))) }
@@ -115,21 +114,19 @@ fn copy<R: Threads + Sync + Clock + Log, S: Source, K: Sink, G: Gate + Sync>(
     ensures steps { OnErr result ((steps.new ≡ steps.old) ⊎ StepsFit (S.left src.old) steps.old steps.new) }
     ensures steps_never_fall { steps.old ≤ steps.new }
 {
-    let mut received = Received::new(alloc)?;
+    let mut received = Received::new(means.alloc)?;
     let mut peer = Peer {
         src,
         sink,
         received: &mut received,
     };
-    copy_from(rt, alloc, &mut peer, gate, steps)
+    copy_from(means, &mut peer, steps)
 }
 
 // The same, from a peer of which nothing was asked.
 fn copy_from<R: Threads + Sync + Clock + Log, S: Source, K: Sink, G: Gate + Sync>(
-    rt: &R,
-    alloc: Global,
+    means: &Means<'_, R, G>,
     peer: &mut Peer<'_, '_, '_, S, K>,
-    gate: &G,
     steps: &mut Steps,
 ) -> Result<Generation, MirrorRefusal>
     ensures copied { IfOk result (λ made. (k : ℕ) × Reaches S.Source K.Sink k (asks made.conf.shape.top (keys_of made.leaves))
@@ -139,14 +136,15 @@ fn copy_from<R: Threads + Sync + Clock + Log, S: Source, K: Sink, G: Gate + Sync
     ensures steps { OnErr result ((steps.new ≡ steps.old) ⊎ StepsFit (unread_at S.Source peer.old) steps.old steps.new) }
     ensures steps_never_fall { steps.old ≤ steps.new }
 {
+    let (rt, alloc) = (means.rt, means.alloc);
     let survey = read_description(rt, alloc, peer)?;
     let numbers = read_cover(rt, alloc, peer, &survey)?;
-    let leaves = read_leaves(rt, alloc, peer, &survey, &numbers, steps)?;
+    let leaves = read_leaves(means, peer, &survey, &numbers, steps)?;
     let count = leaves.len();
     read_mosaic(rt, peer, survey.pinned, count)?;
     let pinned = survey.pinned;
     say_building(rt, count);
-    let built = build(rt, alloc, survey, leaves, gate, steps);
+    let built = build(means, survey, leaves, steps);
     say_refused(rt, &Request::mosaic(count), &built);
     let generation = built?;
     let compared = compare_mosaic(alloc, &generation, peer.body());

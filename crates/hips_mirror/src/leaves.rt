@@ -28,7 +28,7 @@ use std::alloc::{AllocError, Global};
 use std::sync::Arc;
 use std::time::Clock;
 use survey_conf::Conf;
-use survey_link::{Sink, Source};
+use survey_link::{Means, Sink, Source};
 use tile_pixels::Tile;
 
 /// Reads the tiles of these leaves, one after another; each is decoded before the next is asked for. The steps rise by one for
@@ -37,9 +37,8 @@ use tile_pixels::Tile;
 /// # Errors
 ///
 /// As `ask`; `Leaf` for the first leaf that is refused, if and only if one is.
-pub(crate) fn read_leaves<R: Clock + Log, S: Source, K: Sink>(
-    rt: &R,
-    alloc: Global,
+pub(crate) fn read_leaves<R: Clock + Log, S: Source, K: Sink, G>(
+    means: &Means<'_, R, G>,
     peer: &mut Peer<'_, '_, '_, S, K>,
     survey: &PeerSurvey,
     numbers: &[u64],
@@ -59,6 +58,7 @@ pub(crate) fn read_leaves<R: Clock + Log, S: Source, K: Sink>(
 {
     // For the prover: a count fits 64 bits.
     let _count = steps.count();
+    let (rt, alloc) = (means.rt, means.alloc);
     let mut tiles = Store::new(alloc);
     let mut progress = Progress::begin(rt, "leaves copied", Some(numbers.len() as u64));
     for number in numbers {

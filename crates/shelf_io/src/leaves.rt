@@ -24,7 +24,7 @@ use std::alloc::{AllocError, Global};
 use std::sync::Arc;
 use std::time::Clock;
 use survey_conf::Conf;
-use survey_link::Shelf;
+use survey_link::{Means, Shelf};
 use tile_path::Path;
 use tile_pixels::Tile;
 
@@ -35,9 +35,8 @@ use tile_pixels::Tile;
 ///
 /// `Tile` for the first leaf whose file is refused; `ShelfFault` if and only if the shelf's count of faults rose;
 /// `OutOfMemory`.
-pub(crate) fn read_leaves<R: Clock + Log, H: Shelf>(
-    rt: &R,
-    alloc: Global,
+pub(crate) fn read_leaves<R: Clock + Log, H: Shelf, G>(
+    means: &Means<'_, R, G>,
     shelf: &mut H,
     conf: &Conf,
     leaves: &[u64],
@@ -62,12 +61,12 @@ pub(crate) fn read_leaves<R: Clock + Log, H: Shelf>(
 {
     // For the prover: a count fits 64 bits.
     let _count = steps.count();
-    let mut tiles = Store::new(alloc);
-    let mut progress = Progress::begin(rt, "leaves read", Some(leaves.len() as u64));
+    let mut tiles = Store::new(means.alloc);
+    let mut progress = Progress::begin(means.rt, "leaves read", Some(leaves.len() as u64));
     for leaf in leaves {
-        let tile = read_leaf(rt, alloc, shelf, conf, *leaf, steps)?;
-        add_leaf(alloc, conf, *leaf, tile, &mut tiles)?;
-        progress.part_done(rt);
+        let tile = read_leaf(means, shelf, conf, *leaf, steps)?;
+        add_leaf(means.alloc, conf, *leaf, tile, &mut tiles)?;
+        progress.part_done(means.rt);
     }
     Ok(tiles)
 }
@@ -107,9 +106,8 @@ fn put_tile(alloc: Global, leaf: u64, tile: Tile, tiles: &mut Store<Tile>) -> Re
 }
 
 // The tile of a leaf, where it has a file.
-fn read_leaf<R: Log, H: Shelf>(
-    rt: &R,
-    alloc: Global,
+fn read_leaf<R: Log, H: Shelf, G>(
+    means: &Means<'_, R, G>,
     shelf: &mut H,
     conf: &Conf,
     leaf: u64,
@@ -132,12 +130,12 @@ fn read_leaf<R: Log, H: Shelf>(
     // For the prover: a count fits 64 bits.
     let _count = steps.count();
     let cell = Cell::new(conf.shape().top, leaf).unwrap();
-    let path = Path::Tile(cell).to_string(alloc)?;
-    match shelf.get(alloc, &path)? {
-        Some(bytes) => match decode(alloc, &bytes, conf, steps) {
+    let path = Path::Tile(cell).to_string(means.alloc)?;
+    match shelf.get(means.alloc, &path)? {
+        Some(bytes) => match decode(means.alloc, &bytes, conf, steps) {
             Ok(tile) => Ok(Some(tile)),
             Err(TileRefusal::Fault(fault)) => {
-                say_tile_fault(rt, cell, &bytes, fault);
+                say_tile_fault(means.rt, cell, &bytes, fault);
                 Err(LoadRefusal::Tile { cell, fault })
             }
             Err(TileRefusal::OutOfMemory) => Err(LoadRefusal::OutOfMemory),

@@ -23,7 +23,7 @@ mod verdict;
 mod verifying;
 
 pub use exporting::export;
-pub use loading::load;
+pub use loading::{first_generation, load};
 pub use refusal::LoadRefusal;
 pub use verdict::Verdict;
 pub use verifying::verify;

@@ -25,7 +25,7 @@ use std::sync::Arc;
 use std::thread::Threads;
 use std::time::Clock;
 use survey_conf::Conf;
-use survey_link::{Gate, Shelf};
+use survey_link::{Gate, Means, Shelf};
 use tile_pixels::Tile;
 
 /// The generation that the shelf's files describe: that of `survey.conf` and of every path of a tile of the leaves' order. No
@@ -60,8 +60,9 @@ pub fn load<R: Threads + Sync + Clock + Log, H: Shelf, G: Gate + Sync>(
     ensures steps_told { IfSome (H.files shelf.old) (λ files. steps.new ≤ steps.old + opening_steps files) }
     ensures steps_never_fall { steps.old ≤ steps.new }
 {
-    let survey = read_survey(rt, alloc, shelf, steps)?;
-    Ok(build(rt, alloc, survey, gate, steps)?)
+    let means = Means { rt, alloc, gate };
+    let survey = read_survey(&means, shelf, steps)?;
+    Ok(first_generation(&means, survey.conf, survey.leaves, steps)?)
 }
 
 // What a shelf was opened as.
@@ -73,9 +74,8 @@ struct ShelfSurvey {
 
 // The description and the leaf tiles that the shelf has. Which leaves have files is found out, and how many these are is
 // judged, before the first of them is read.
-fn read_survey<R: Clock + Log, H: Shelf>(
-    rt: &R,
-    alloc: Global,
+fn read_survey<R: Clock + Log, H: Shelf, G>(
+    means: &Means<'_, R, G>,
     shelf: &mut H,
     steps: &mut Steps,
 ) -> Result<ShelfSurvey, LoadRefusal>
@@ -92,29 +92,33 @@ fn read_survey<R: Clock + Log, H: Shelf>(
     ensures steps_told { IfSome (H.files shelf.old) (λ files. steps.new ≤ steps.old + leaf_count files) }
     ensures steps_never_fall { steps.old ≤ steps.new }
 {
+    let (rt, alloc) = (means.rt, means.alloc);
     let conf = read_conf(rt, alloc, shelf)?;
     let shape = conf.shape();
     let numbers = shelf_leaves(rt, alloc, shelf, shape.top)?;
     judge_count(rt, shape, numbers.len())?;
-    let leaves = read_leaves(rt, alloc, shelf, &conf, &numbers, steps)?;
+    let leaves = read_leaves(means, shelf, &conf, &numbers, steps)?;
     Ok(ShelfSurvey { conf, leaves })
 }
 
-// The generation of a survey, with no edit.
-fn build<R: Threads + Sync, G: Gate + Sync>(
-    rt: &R,
-    alloc: Global,
-    survey: ShelfSurvey,
-    gate: &G,
+/// The generation of a survey with these leaves, with no edit. The steps rise by one for each tile that exists above the leaves.
+///
+/// # Errors
+///
+/// `AllocError` where there is no memory for it.
+pub fn first_generation<R: Threads + Sync, G: Gate + Sync>(
+    means: &Means<'_, R, G>,
+    conf: Conf,
+    leaves: Store<Tile>,
     steps: &mut Steps,
 ) -> Result<Generation, AllocError>
-    requires { FitsLeaves survey.conf.shape survey.leaves }
-    ensures made { IfOk result (λ made. made ≡ record { conf = survey.conf; prefix = 0; leaves = survey.leaves }) }
-    ensures counted { OnOk result (steps.new ≡ steps_after steps.old (tiles_above survey.conf.shape (leaf_map survey.leaves))) }
-    ensures steps { steps.new ≤ steps.old + tiles_above survey.conf.shape (leaf_map survey.leaves) }
+    requires { FitsLeaves conf.shape leaves }
+    ensures made { IfOk result (λ made. made ≡ record { conf = conf; prefix = 0; leaves = leaves }) }
+    ensures counted { OnOk result (steps.new ≡ steps_after steps.old (tiles_above conf.shape (leaf_map leaves))) }
+    ensures steps { steps.new ≤ steps.old + tiles_above conf.shape (leaf_map leaves) }
     ensures steps_never_fall { steps.old ≤ steps.new }
 {
-    let ShelfSurvey { conf, leaves } = survey;
+    let Means { rt, alloc, gate } = *means;
     let conf = Arc::new(alloc, conf)?;
     Generation::start(rt, alloc, conf, leaves, gate, steps)
 }
