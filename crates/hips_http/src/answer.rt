@@ -7,7 +7,7 @@ ghost use Rattle.hips_http.specs.Progress.{Serves, HasLeaf, is_text};
 use crate::call::Call;
 use crate::change::{batch, delete, put};
 use crate::control::{pin, publish, unpin};
-use crate::open_connection::{Due, Means};
+use crate::open_connection::Due;
 use crate::reply::TextReply;
 use http_frame::Allow;
 use log::Log;
@@ -15,11 +15,11 @@ use parent_rule::Steps;
 use reader_pin::{Board, ChangedWith};
 use std::thread::Threads;
 use std::time::Clock;
-use survey_link::Gate;
+use survey_link::{Gate, Means};
 
 /// Answers a call that isn't that for a file, by the body of its request.
 pub(crate) fn answer<R: Threads + Sync + Clock + Log, B: ChangedWith<R>, G: Gate + Sync>(
-    means: &Means<'_, '_, R, G>,
+    means: &Means<'_, R, G>,
     board: &mut B,
     steps: &mut Steps,
     due: &Due,

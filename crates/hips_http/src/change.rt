@@ -16,7 +16,6 @@ ghost use Rattle.hips_http.specs.Replies.{refused_answer};
 ghost use Rattle.hips_http.specs.Answers.{Asking};
 ghost use Rattle.hips_http.specs.Progress.{Serves};
 
-use crate::open_connection::Means;
 use crate::reply::TextReply;
 use crate::room::{say_batch, say_edit};
 use edit_journal::{Edit, EditFault};
@@ -28,11 +27,12 @@ use reader_pin::{BoardBatch, BoardRefusal, ChangedWith};
 use std::alloc::Global;
 use std::sync::Arc;
 use survey_core::{BatchRead, State, read_batch};
+use survey_link::Means;
 use tile_pixels::Tile;
 
 /// Answers PUT of a leaf: it has the tile of the body from then on, where the request's preconditions hold.
 pub(crate) fn put<R: Log, G, B: ChangedWith<R>>(
-    means: &Means<'_, '_, R, G>,
+    means: &Means<'_, R, G>,
     board: &mut B,
     request: &Request,
     leaf: u64,

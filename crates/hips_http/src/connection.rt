@@ -11,7 +11,7 @@ ghost use Rattle.hips_http.specs.Progress.{ServesAll, IsServedTo};
 ghost use Rattle.hips_http.specs.Readings.{NeedsNext, FollowsReplies};
 ghost use Rattle.hips_http.specs.declared.served.SessionEnd.TheVariants.{WriteFault, OutOfMemory};
 
-use crate::open_connection::{Means, OpenConnection};
+use crate::open_connection::OpenConnection;
 use crate::served::{Served, SessionEnd};
 use crate::step::{MOST_REQUESTS, answer_next};
 use http_frame::Frame;
@@ -22,7 +22,7 @@ use std::alloc::Global;
 use std::thread::Threads;
 use std::time::Clock;
 use survey_core::batch_room;
-use survey_link::{Gate, Sink, Source};
+use survey_link::{Gate, Means, Sink, Source};
 
 /// Serves one connection: reads its requests and answers each from the states that the board sees, until the input ends, a
 /// request asked to close, 65,536 were answered, or the source or the sink failed. It releases the board's pin first. Each
@@ -155,7 +155,7 @@ fn answer_all<
     K: Sink,
     G: Gate + Sync,
 >(
-    means: &Means<'_, '_, R, G>,
+    means: &Means<'_, R, G>,
     connection: &mut OpenConnection<'_, '_, '_, '_, '_, B, S, K>,
     top: u8,
 ) -> SessionEnd

@@ -21,7 +21,7 @@ use crate::answer::answer;
 use crate::call::{Call, call_of, path_kind};
 use crate::file::{file_reply, look, sent_parts, shown};
 use crate::logging::{Stopwatch, say_reply};
-use crate::open_connection::{Due, Means, OpenConnection};
+use crate::open_connection::{Due, OpenConnection};
 use crate::reply::TextReply;
 use crate::send::{send_refusal, send_text};
 use crate::served::SessionEnd;
@@ -31,7 +31,7 @@ use log::Log;
 use reader_pin::{Board, ChangedWith};
 use std::thread::Threads;
 use std::time::Clock;
-use survey_link::{Failed, Gate, Sink, Source};
+use survey_link::{Failed, Gate, Means, Sink, Source};
 use tile_path::Path;
 
 /// The most requests of a connection.
@@ -184,7 +184,7 @@ fn answer_text<
     K: Sink,
     G: Gate + Sync,
 >(
-    means: &Means<'_, '_, R, G>,
+    means: &Means<'_, R, G>,
     connection: &mut OpenConnection<'_, '_, '_, '_, '_, B, S, K>,
     due: &Due,
 ) -> Result<(), SessionEnd>
@@ -226,7 +226,7 @@ pub(crate) fn answer_next<
     K: Sink,
     G: Gate + Sync,
 >(
-    means: &Means<'_, '_, R, G>,
+    means: &Means<'_, R, G>,
     connection: &mut OpenConnection<'_, '_, '_, '_, '_, B, S, K>,
     top: u8,
     count: u32,

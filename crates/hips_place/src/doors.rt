@@ -9,7 +9,7 @@ ghost use Rattle.hips_place.specs.declared.place.PlaceEnd.TheVariants.{Done, Fai
 ghost use Rattle.hips_place.specs.declared.doors.ServeRefusal.TheVariants.{NotOpened};
 ghost use Rattle.hips_place.specs.Place.{door_of, ServesAs, SomeRises, AreFirstSeats, HaveAllMet, OwnsAmong};
 
-use crate::place::{InConnection, Means, PlaceEnd};
+use crate::place::{InConnection, PlaceEnd};
 use crate::places::serve_places;
 use log::Log;
 use reader_pin::{Board, Shared, Survey, SurveyBook, SurveySeat, open_shared};
@@ -21,7 +21,7 @@ use std::sync::Wait;
 use std::thread::Threads;
 use std::time::Clock;
 use survey_core::State;
-use survey_link::{Door, Gate};
+use survey_link::{Door, Gate, Means};
 use thiserror::Error;
 
 /// What there was no memory for when serving the doors of a survey.
@@ -45,11 +45,9 @@ pub enum ServeRefusal {
 ///
 /// Where there is no memory to open the survey, or for boards to meet.
 pub fn serve_doors<R: Threads + Wait + Sync + Clock + Log, D: Door + Send, G: Gate + Sync>(
-    rt: &R,
-    alloc: Global,
+    means: &Means<'_, R, G>,
     state: State,
     most: u32,
-    gate: &G,
     doors: &mut [D],
 ) -> Result<PlaceEnd, ServeRefusal>
 where
@@ -64,13 +62,12 @@ where
     ensures sound { IfOk result (λ end. end ≢ Failed → map D.faults doors.new ≡ map D.faults doors.old) }
     ensures done { result ≡ Ok Done → map D.memory_faults doors.new ≡ map D.memory_faults doors.old }
 {
-    let means = Means { rt, alloc, gate };
-    serve_named::<Brand, R, D, G>(&means, SurveyBook::new(), state, most, doors)
+    serve_named::<Brand, R, D, G>(means, SurveyBook::new(), state, most, doors)
 }
 
 // The same, under the name of the survey's book.
 fn serve_named<J, R, D, G>(
-    means: &Means<'_, '_, R, G>,
+    means: &Means<'_, R, G>,
     book: SurveyBook,
     state: State,
     most: u32,
@@ -102,7 +99,7 @@ where
 
 // Serves the doors at the seats of a survey that was just opened; then the first board meets each other one.
 fn serve_seats<'a, J, R, D, G>(
-    means: &Means<'_, '_, R, G>,
+    means: &Means<'_, R, G>,
     survey: &'a Survey<J>,
     seats: Vec<SurveySeat<J>>,
     most: u32,

@@ -10,4 +10,4 @@ mod place;
 mod places;
 
 pub use doors::{ServeRefusal, serve_doors};
-pub use place::{InConnection, Means, NamesConnections, PlaceEnd, serve_place};
+pub use place::{InConnection, NamesConnections, PlaceEnd, serve_place};

@@ -15,7 +15,7 @@ use std::alloc::Global;
 use std::marker::Brand;
 use std::thread::Threads;
 use std::time::Clock;
-use survey_link::{Door, DoorFault, Gate};
+use survey_link::{Door, DoorFault, Gate, Means};
 
 /// A runtime by which a connection is served: what it logs names the connection's place and its number there.
 pub type InConnection<R> = Span<'static, R, With<'static, With<'static, (), usize>, u32>>;
@@ -69,17 +69,6 @@ impl PlaceEnd {
             _ => self,
         }
     }
-}
-
-/// What a server works with.
-#[derive(Drop)]
-pub struct Means<'r, 'g, R, G> {
-    /// Threads, the clock and the log.
-    pub rt: &'r R,
-    /// Memory.
-    pub alloc: Global,
-    /// The gate that publications pass.
-    pub gate: &'g G,
 }
 
 /// Takes up to `most` connections from the door, one after another, serves each from the states that the board sees, and
@@ -153,7 +142,7 @@ fn serve_connection<
     D: Door,
     G: Gate + Sync,
 >(
-    means: &Means<'_, '_, N, G>,
+    means: &Means<'_, N, G>,
     frame: &mut Option<Frame>,
     board: &mut B,
     door: &mut D,

@@ -3,13 +3,13 @@ ghost use Rattle.std.specs.Prelude.{◌≡◌, ◌<◌, map, length};
 ghost use denote.Param.Send.{IsSync, IsSend};
 ghost use Rattle.hips_place.specs.Place.{ArePlaces, door_of};
 
-use crate::place::{Means, NamesConnections, PlaceEnd, serve_place};
+use crate::place::{NamesConnections, PlaceEnd, serve_place};
 use log::Log;
 use parent_rule::Steps;
 use reader_pin::ChangedWith;
 use std::thread::{Threads, join_mut};
 use std::time::Clock;
-use survey_link::{Door, Gate};
+use survey_link::{Door, Gate, Means};
 
 /// Serves the doors at once, each by the board at its place: up to `most` connections of each, one after another. Each place
 /// has a thread and a counter of steps of its own; where no thread can be started, the places that it was for are served
@@ -24,13 +24,7 @@ pub(crate) fn serve_places<
     B: ChangedWith<N> + Send,
     D: Door + Send,
     G: Gate + Sync,
->(
-    means: &Means<'_, '_, R, G>,
-    first: usize,
-    most: u32,
-    boards: &mut [B],
-    doors: &mut [D],
-) -> PlaceEnd
+>(means: &Means<'_, R, G>, first: usize, most: u32, boards: &mut [B], doors: &mut [D]) -> PlaceEnd
 where
     D::In: Send,
     D::Out: Send,
@@ -86,7 +80,7 @@ fn serve_halves<
     B: ChangedWith<N> + Send,
     D: Door + Send,
     G: Gate + Sync,
->(means: &Means<'_, '_, R, G>, halves: &Halves, boards: &mut [B], doors: &mut [D]) -> PlaceEnd
+>(means: &Means<'_, R, G>, halves: &Halves, boards: &mut [B], doors: &mut [D]) -> PlaceEnd
 where
     D::In: Send,
     D::Out: Send,
