@@ -8,7 +8,6 @@ ghost use Rattle.command_output.specs.Output.{sink_bytes};
 ghost use Rattle.past_session.specs.Steps.{answer_text, answer_cost, session_after, Sends, FailsToSend};
 
 use crate::ending::Halt;
-use crate::ends::Work;
 use crate::file::{send_file, send_refusal};
 use crate::kept::Session;
 use crate::send::send_text;
@@ -18,7 +17,7 @@ use parent_rule::Steps;
 use past_frame::Record;
 use std::thread::Threads;
 use std::time::Clock;
-use survey_link::{Gate, Sink};
+use survey_link::{Gate, Means, Sink};
 
 impl Session {
     /// Answers a record with this text, and flushes the answer.
@@ -29,23 +28,23 @@ impl Session {
     /// any is written.
     pub(crate) fn answer<R: Threads + Sync + Clock + Log, K: Sink, G: Gate + Sync>(
         &mut self,
-        work: &mut Work<'_, '_, '_, R, G>,
+        means: &Means<'_, R, G>,
         sink: &mut K,
         asked: Record,
         text: &[u8],
+        steps: &mut Steps,
     ) -> Result<(), Halt>
         ensures sends { OnOk result (Sends (answer_text self.old (record_of asked text.now)) (sink_bytes K.Sink sink.old) (sink_bytes K.Sink sink.new)) }
         ensures after { OnOk result (self.new ≡ session_after self.old (record_of asked text.now)) }
         ensures fails { IfErr result (FailsToSend (answer_text self.old (record_of asked text.now)) (sink_bytes K.Sink sink.old) (sink_bytes K.Sink sink.new)) }
-        ensures steps { work.new.steps.now ≤ work.old.steps.now + answer_cost self.old (record_of asked text.now) }
+        ensures steps { steps.new ≤ steps.old + answer_cost self.old (record_of asked text.now) }
         ensures faults { CountsFault (send_failed result) (K.faults sink.old) (K.faults sink.new) }
         ensures never_falls { K.faults sink.old ≤ K.faults sink.new }
-        ensures steps_never_fall { work.old.steps.now ≤ work.new.steps.now }
-        ensures same { work.new.steps.ghost_name ≡ work.old.steps.ghost_name }
+        ensures steps_never_fall { steps.old ≤ steps.new }
     {
         match asked {
-            Record::Batch => self.answer_batch(sink, text, work.steps),
-            Record::Read { k } => self.answer_read(work, sink, k, text),
+            Record::Batch => self.answer_batch(sink, text, steps),
+            Record::Read { k } => self.answer_read(means, sink, k, text, steps),
         }
     }
 
@@ -72,26 +71,23 @@ impl Session {
     // Answers a read of the file at a path, by the first `k` edits.
     fn answer_read<R: Threads + Sync + Clock + Log, K: Sink, G: Gate + Sync>(
         &mut self,
-        work: &mut Work<'_, '_, '_, R, G>,
+        means: &Means<'_, R, G>,
         sink: &mut K,
         k: u32,
         path: &[u8],
+        steps: &mut Steps,
     ) -> Result<(), Halt>
         ensures sends { OnOk result (Sends (answer_text self.old (read k path.now)) (sink_bytes K.Sink sink.old) (sink_bytes K.Sink sink.new)) }
         ensures after { OnOk result (self.new ≡ session_after self.old (read k path.now)) }
         ensures fails { IfErr result (FailsToSend (answer_text self.old (read k path.now)) (sink_bytes K.Sink sink.old) (sink_bytes K.Sink sink.new)) }
-        ensures steps { work.new.steps.now ≤ work.old.steps.now + answer_cost self.old (read k path.now) }
+        ensures steps { steps.new ≤ steps.old + answer_cost self.old (read k path.now) }
         ensures faults { CountsFault (send_failed result) (K.faults sink.old) (K.faults sink.new) }
         ensures never_falls { K.faults sink.old ≤ K.faults sink.new }
-        ensures steps_never_fall { work.old.steps.now ≤ work.new.steps.now }
-        ensures same { work.new.steps.ghost_name ≡ work.old.steps.ghost_name }
+        ensures steps_never_fall { steps.old ≤ steps.new }
     {
         // Later edits touch no leaf that all of them don't.
         more_touched_is_more_work();
-        match self
-            .past
-            .at(work.rt, &self.journal, k, work.gate, work.steps)
-        {
+        match self.past.at(means.rt, &self.journal, k, means.gate, steps) {
             Ok(generation) => return send_file(self.alloc, sink, &generation, path),
             Err(refusal) => return send_refusal(self.alloc, sink, refusal),
         }

@@ -1,9 +1,8 @@
-//! What a session reads and writes, what came, and what it works with, each in one value.
+//! What a session reads and writes, and what came, each in one value.
 ghost use Rattle.std.specs.Prelude.{◌≡◌};
 ghost use Rattle.survey_link.specs.Inbox.{size};
 ghost use Rattle.past_frame.specs.Record.{most_line};
 
-use parent_rule::Steps;
 use survey_link::Inbox;
 
 /// The two ends of a session.
@@ -19,12 +18,4 @@ pub(crate) struct Input {
     pub(crate) inbox: Inbox,
     pub(crate) text: Vec<u8>,
     ghost room: { size inbox ≡ most_line },
-}
-
-/// The runtime, the gate that a long work asks, and the count of steps.
-#[derive(Drop)]
-pub(crate) struct Work<'r, 'g, 't, R, G> {
-    pub(crate) rt: &'r R,
-    pub(crate) gate: &'g G,
-    pub(crate) steps: &'t mut Steps,
 }

@@ -1,5 +1,5 @@
 //! What a session keeps between records.
-ghost use Rattle.std.specs.Prelude.{◌≡◌, ◌≤◌, ◌<◌, ◌+◌, ◌++◌, ◌∷◌, [], codes, decimal, map, length, All, None, Err, IfOk, OnOk, OnErr};
+ghost use Rattle.std.specs.Prelude.{◌≡◌, ◌≤◌, ◌<◌, ◌+◌, ◌^◌, ◌++◌, ◌∷◌, [], codes, decimal, map, length, All, None, Err, IfOk, OnOk, OnErr};
 ghost use Rattle.std.specs.Arc.{arc_value};
 ghost use Rattle.edit_journal.specs.Edit.{edit_of};
 ghost use Rattle.edit_journal.specs.Leaves.{charge_of, FitsEdit};
@@ -8,6 +8,7 @@ ghost use Rattle.survey_core.specs.BatchBody.{batch_entries, tile_count};
 ghost use Rattle.survey_core.specs.Faults.{entry_fault_text};
 ghost use Rattle.past_frame.specs.Line.{line_feed};
 ghost use Rattle.past_session.specs.Answers.{first_state, batch_verdict, batch_text, verdict_by};
+ghost use Rattle.past_session.specs.Records.{room_of};
 ghost use Rattle.past_session.specs.Session.{state_edits, batch_accepted};
 
 use crate::ending::Halt;
@@ -19,7 +20,7 @@ use std::alloc::{AllocError, Global};
 use std::marker::Model;
 use std::sync::Arc;
 use survey_conf::Conf;
-use survey_core::{BatchRead, EntryFault, read_batch};
+use survey_core::{BatchRead, EntryFault, batch_room, read_batch};
 
 /// What a session keeps between records: the edits that were accepted, and a few generations. Contracts see the survey's
 /// description and opening leaves, the batches, and after how many edits the survey was when a file was last looked for.
@@ -89,6 +90,14 @@ impl Session {
             journal,
             past,
         })
+    }
+
+    /// The length of the longest body of a batch that is taken.
+    pub(crate) fn room(&self) -> usize
+        ensures room { result ≡ room_of self.now.conf }
+        ensures at_most { result ≤ 2 ^ 30 }
+    {
+        batch_room(&self.conf)
     }
 
     /// Accepts a batch by its body, and answers what is written of it: how many edits there are then, or why it is refused,

@@ -16,7 +16,7 @@ ghost use Rattle.past_session.specs.Order.{Moment, moment, first_moment, SameEnd
 ghost use Rattle.past_session.specs.declared.ending.PastEnd.TheVariants.{WriteFault};
 
 use crate::ending::{PastEnd, end_of};
-use crate::ends::{Ends, Input, Work};
+use crate::ends::{Ends, Input};
 use crate::kept::Session;
 use generation::Generation;
 use log::Log;
@@ -27,8 +27,7 @@ use std::alloc::{AllocError, Global};
 use std::sync::Arc;
 use std::thread::Threads;
 use std::time::Clock;
-use survey_core::batch_room;
-use survey_link::{Gate, Inbox, Sink, Source};
+use survey_link::{Gate, Inbox, Means, Sink, Source};
 
 // How many records are taken.
 const MOST_RECORDS: u64 = 65_536;
@@ -76,12 +75,11 @@ pub fn past_session<R: Threads + Sync + Clock + Log, S: Source, K: Sink, G: Gate
     ensures steps_never_fall { steps.old ≤ steps.new }
 {
     records_stand();
-    let room = batch_room(opening.conf());
     match begin(alloc, opening, cache) {
         Ok((mut session, mut input)) => {
             let mut ends = Ends { src, sink };
-            let mut work = Work { rt, gate, steps };
-            answer_all(&mut session, &mut ends, &mut input, &mut work, room)
+            let means = Means { rt, alloc, gate };
+            answer_all(&mut session, &mut ends, &mut input, &means, steps)
         }
         Err(_) => PastEnd::OutOfMemory,
     }
@@ -111,19 +109,16 @@ fn answer_all<R: Threads + Sync + Clock + Log, S: Source, K: Sink, G: Gate + Syn
     session: &mut Session,
     ends: &mut Ends<'_, '_, S, K>,
     input: &mut Input,
-    work: &mut Work<'_, '_, '_, R, G>,
-    room: usize,
+    means: &Means<'_, R, G>,
+    steps: &mut Steps,
 ) -> PastEnd
-    requires room { room ≡ room_of session.old.conf }
-    requires at_most { room ≤ 2 ^ 30 }
-    ensures order { InOrder S.Source K.Sink (moment session.old ends.old input.old work.old.steps.now) (moment session.new ends.new input.new work.new.steps.now) result }
-    ensures faults { Faults S.Source K.Sink (is_read_fault result) (is_write_fault result) (moment session.old ends.old input.old work.old.steps.now) (moment session.new ends.new input.new work.new.steps.now) }
-    ensures never_falls { NeverFalls S.Source K.Sink (moment session.old ends.old input.old work.old.steps.now) (moment session.new ends.new input.new work.new.steps.now) }
+    ensures order { InOrder S.Source K.Sink (moment session.old ends.old input.old steps.old) (moment session.new ends.new input.new steps.new) result }
+    ensures faults { Faults S.Source K.Sink (is_read_fault result) (is_write_fault result) (moment session.old ends.old input.old steps.old) (moment session.new ends.new input.new steps.new) }
+    ensures never_falls { NeverFalls S.Source K.Sink (moment session.old ends.old input.old steps.old) (moment session.new ends.new input.new steps.new) }
     ensures same_ends { SameEnds ends.old ends.new }
-    ensures same_steps { work.new.steps.ghost_name ≡ work.old.steps.ghost_name }
 {
     for at in 0..MOST_RECORDS {
-        match answer_next(session, ends, input, work, room, at) {
+        match answer_next(session, ends, input, means, at, steps) {
             Ok(()) => {}
             Err(end) => return end,
         }
@@ -136,25 +131,23 @@ fn answer_next<R: Threads + Sync + Clock + Log, S: Source, K: Sink, G: Gate + Sy
     session: &mut Session,
     ends: &mut Ends<'_, '_, S, K>,
     input: &mut Input,
-    work: &mut Work<'_, '_, '_, R, G>,
-    room: usize,
+    means: &Means<'_, R, G>,
     at: u64,
+    steps: &mut Steps,
 ) -> Result<(), PastEnd>
-    requires room { room ≡ room_of session.old.conf }
-    requires at_most { room ≤ 2 ^ 30 }
-    ensures answers { OnOk result ((asked : PastRecord) × (mid : Moment S K) × IsAsked S.Source K.Sink asked (moment session.old ends.old input.old work.old.steps.now) mid
-        × IsAnswered S.Source K.Sink asked mid (moment session.new ends.new input.new work.new.steps.now)) }
-    ensures ends { IfErr result (EndsAt S.Source K.Sink at (moment session.old ends.old input.old work.old.steps.now) (moment session.new ends.new input.new work.new.steps.now)) }
-    ensures no_fault { OnOk result (Faults S.Source K.Sink false false (moment session.old ends.old input.old work.old.steps.now) (moment session.new ends.new input.new work.new.steps.now)) }
-    ensures faults { IfErr result (λ end. Faults S.Source K.Sink (is_read_fault end) (is_write_fault end) (moment session.old ends.old input.old work.old.steps.now) (moment session.new ends.new input.new work.new.steps.now)) }
-    ensures never_falls { NeverFalls S.Source K.Sink (moment session.old ends.old input.old work.old.steps.now) (moment session.new ends.new input.new work.new.steps.now) }
+    ensures answers { OnOk result ((asked : PastRecord) × (mid : Moment S K) × IsAsked S.Source K.Sink asked (moment session.old ends.old input.old steps.old) mid
+        × IsAnswered S.Source K.Sink asked mid (moment session.new ends.new input.new steps.new)) }
+    ensures ends { IfErr result (EndsAt S.Source K.Sink at (moment session.old ends.old input.old steps.old) (moment session.new ends.new input.new steps.new)) }
+    ensures no_fault { OnOk result (Faults S.Source K.Sink false false (moment session.old ends.old input.old steps.old) (moment session.new ends.new input.new steps.new)) }
+    ensures faults { IfErr result (λ end. Faults S.Source K.Sink (is_read_fault end) (is_write_fault end) (moment session.old ends.old input.old steps.old) (moment session.new ends.new input.new steps.new)) }
+    ensures never_falls { NeverFalls S.Source K.Sink (moment session.old ends.old input.old steps.old) (moment session.new ends.new input.new steps.new) }
     ensures same_ends { SameEnds ends.old ends.new }
-    ensures same_steps { work.new.steps.ghost_name ≡ work.old.steps.ghost_name }
 {
     // For the prover: a count fits 64 bits.
-    let _count = work.steps.count();
+    let _count = steps.count();
+    let room = session.room();
     let asked = read_next(ends, input, room, at)?;
-    session.answer(work, ends.sink, asked, &input.text)?;
+    session.answer(means, ends.sink, asked, &input.text, steps)?;
     Ok(())
 }
 

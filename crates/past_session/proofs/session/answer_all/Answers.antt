@@ -7,9 +7,8 @@ use Rattle.past_session.proofs.session.answer_all.Goals as goal
 
 pub loop-at-init : goal.loop-at-init
 loop-at-init g c = record {
-  loop = loop_begins g.S.Source g.K.Sink (moment c.args.session.now c.args.ends.now c.args.input.now c.args.work.now.steps.now);
+  loop = loop_begins g.S.Source g.K.Sink (moment c.args.session.now c.args.ends.now c.args.input.now c.args.steps.now);
   same_ends = record { src = refl; sink = refl };
-  same_steps = refl;
 }
 
 pub loop-at-preserved : goal.loop-at-preserved
@@ -18,14 +17,13 @@ loop-at-preserved g c =
     record {
       loop = loop_goes_on g.S.Source g.K.Sink _ _ _ c.loop-at.at c.loop-at.invariant.loop e.answers e.never_falls e.no_fault;
       same_ends = record { src = e.same_ends.src ∙ c.loop-at.invariant.same_ends.src; sink = e.same_ends.sink ∙ c.loop-at.invariant.same_ends.sink };
-      same_steps = e.same_steps ∙ c.loop-at.invariant.same_steps;
     }
 
 pub returns-in-Err-clause-order : goal.returns-in-Err-clause-order
 returns-in-Err-clause-order g c =
     let loop = c.loop-at.invariant.loop in
-    let behind = moment c.loop-at.session c.loop-at.ends c.loop-at.input c.loop-at.work.steps.now in
-    let last = moment c.answer_next.new.session c.answer_next.new.ends c.answer_next.new.input c.answer_next.new.work.steps.now in
+    let behind = moment c.loop-at.session c.loop-at.ends c.loop-at.input c.loop-at.steps in
+    let last = moment c.answer_next.new.session c.answer_next.new.ends c.answer_next.new.input c.answer_next.new.steps in
     record {
       records = loop.records;
       behind = behind;
@@ -38,9 +36,9 @@ returns-clause-order g c =
     let loop = c.loop-at.invariant.loop in
     record {
       records = loop.records;
-      behind = moment c.loop-at.session c.loop-at.ends c.loop-at.input c.loop-at.work.steps.now;
+      behind = moment c.loop-at.session c.loop-at.ends c.loop-at.input c.loop-at.steps;
       converses = loop.converses;
-      ends = inr (omega (arith, loop.count_is, c.loop-at-test.false, c.loop-at.auto.at-end), c.end_behind_all.ensures.ends c.loop-at.session c.loop-at.work.steps.now);
+      ends = inr (omega (arith, loop.count_is, c.loop-at-test.false, c.loop-at.auto.at-end), c.end_behind_all.ensures.ends c.loop-at.session c.loop-at.steps);
     }
 
 pub returns-in-Err-clause-faults : goal.returns-in-Err-clause-faults

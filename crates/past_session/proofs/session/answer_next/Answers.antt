@@ -9,15 +9,15 @@ use Rattle.past_session.proofs.session.answer_next.Goals as goal
 pub returns-in_err-asked-clause-ends : goal.returns-in_err-asked-clause-ends
 returns-in_err-asked-clause-ends g c =
     let p = err_from_is_err_and c.from_residual.result c.from_residual.ensures.1 in
-    rw (p.1, p.2) (c.in_err-asked.ensures.ends c.args.session.now c.args.work.now.steps.now c.requires.room)
+    rw (p.1, p.2) (c.in_err-asked.ensures.ends c.args.session.now c.args.steps.now c.room-room.ensures.room)
 
 pub returns-in_err-answer-clause-ends : goal.returns-in_err-answer-clause-ends
 returns-in_err-answer-clause-ends g c =
     let p = err_from_is_err_and c.from_residual-in_err-answer.result c.from_residual-in_err-answer.ensures.1 in
     rw (p.1, p.2) (part_answered g.S.Source g.K.Sink _ _ c.args.at c.in_err-answer.field-0.0 (record {
       asked = record_of c.in_ok-asked.asked c.read_next.new.input.text.items;
-      mid = moment c.args.session.now c.read_next.new.ends c.read_next.new.input c.args.work.now.steps.now;
-      is_asked = c.in_ok-asked.ensures.asked c.args.session.now c.args.work.now.steps.now c.requires.room;
+      mid = moment c.args.session.now c.read_next.new.ends c.read_next.new.input c.args.steps.now;
+      is_asked = c.in_ok-asked.ensures.asked c.args.session.now c.args.steps.now c.room-room.ensures.room;
       src = refl;
       fails = rw c.deref.ensures.value at c.in_err-answer.ensures.fails;
       cost = rw c.deref.ensures.value at c.answer.ensures.steps;
@@ -26,8 +26,8 @@ returns-in_err-answer-clause-ends g c =
 pub returns-clause-answers : goal.returns-clause-answers
 returns-clause-answers g c = (
   record_of c.in_ok-asked.asked c.read_next.new.input.text.items,
-  moment c.args.session.now c.read_next.new.ends c.read_next.new.input c.args.work.now.steps.now,
-  c.in_ok-asked.ensures.asked c.args.session.now c.args.work.now.steps.now c.requires.room,
+  moment c.args.session.now c.read_next.new.ends c.read_next.new.input c.args.steps.now,
+  c.in_ok-asked.ensures.asked c.args.session.now c.args.steps.now c.room-room.ensures.room,
   record {
     session = rw c.deref.ensures.value at c.in_ok-answer.ensures.after;
     src = refl;

@@ -25,7 +25,7 @@ returns-in-Ok-clause-after g c =
 pub returns-in-Ok-clause-steps : goal.returns-in-Ok-clause-steps
 returns-in-Ok-clause-steps g c =
     let inside = c.self.inside in
-    rw (sym c.self.view_is) (found_cost (arc_value inside.conf) inside.journal inside.past c.args.k c.args.path.now c.self.invariant c.more_touched_is_more_work.ensures c.args.work.now.steps.now c.at.new.steps c.in-Ok.ensures.steps c.in-Ok.ensures.whole)
+    rw (sym c.self.view_is) (found_cost (arc_value inside.conf) inside.journal inside.past c.args.k c.args.path.now c.self.invariant c.more_touched_is_more_work.ensures c.args.steps.now c.at.new.steps c.in-Ok.ensures.steps c.in-Ok.ensures.whole)
 
 pub returns-in-Err-clause-sends : goal.returns-in-Err-clause-sends
 returns-in-Err-clause-sends g c =
@@ -45,4 +45,4 @@ returns-in-Err-clause-after g c =
 pub returns-in-Err-clause-steps : goal.returns-in-Err-clause-steps
 returns-in-Err-clause-steps g c =
     let inside = c.self.inside in
-    rw (sym c.self.view_is) (refused_cost (arc_value inside.conf) inside.journal inside.past c.args.k c.args.path.now c.self.invariant c.more_touched_is_more_work.ensures c.args.work.now.steps.now c.at.new.steps c.at.ensures.steps c.in-Err.refusal c.in-Err.ensures.refused c.in-Err.ensures.no_steps)
+    rw (sym c.self.view_is) (refused_cost (arc_value inside.conf) inside.journal inside.past c.args.k c.args.path.now c.self.invariant c.more_touched_is_more_work.ensures c.args.steps.now c.at.new.steps c.at.ensures.steps c.in-Err.refusal c.in-Err.ensures.refused c.in-Err.ensures.no_steps)
