@@ -219,7 +219,7 @@ fn run<R: AllocGlobal + Clock + Log>(
     if top > 11 || per_tile < 1 || per_tile > 4096 {
         return 255;
     }
-    run_catalog(rt, top, per_tile, source, sink, shelf)
+    run_catalog(rt, top, per_tile, source, sink, shelf).number()
 }
 
 // Whether the run of a row over that sink and that shelf ends so, and writes that line.
