@@ -74,7 +74,7 @@ fn status_over(
         None => Err("no tile is asked for".into()),
         Some(asked) => match probe(alloc, &asked, source, sink, &mut Steps::new()) {
             Ok(()) => Ok(0),
-            Err(fault) => Ok(fault.status()),
+            Err(fault) => Ok(fault.status().number()),
         },
     }
 }
