@@ -9,20 +9,14 @@ mod lines;
 #[cfg(test)]
 mod make;
 #[cfg(test)]
-mod mirror;
-#[cfg(test)]
 mod probe;
 #[cfg(test)]
 mod runs;
 #[cfg(test)]
 mod script;
 #[cfg(test)]
-mod serve;
-#[cfg(test)]
 mod session;
 #[cfg(test)]
 mod survey;
 #[cfg(test)]
 mod texts;
-#[cfg(test)]
-mod together;

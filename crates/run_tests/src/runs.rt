@@ -19,6 +19,7 @@
 use crate::texts::{SMALL, bytes_of, field, paths, shelf_of};
 use hipsd_run::run;
 use log::Log;
+use memory_link::{MemDoor, MemShelf, MemSink, MemSource};
 use parent_rule::Steps;
 use std::alloc::{AllocError, Global};
 use std::process::Abort;
@@ -26,32 +27,31 @@ use std::sync::Wait;
 use std::test::Fail;
 use std::thread::Threads;
 use std::time::Clock;
-use memory_link::{MemDoor, MemShelf, MemSink, MemSource};
-use survey_link::{Door, OpenGate};
+use survey_link::OpenGate;
 
-// Runs a command line over these ends, and answers its status.
-fn run_line<R, D>(
-    rt: &R,
-    line: &str,
-    source: &mut MemSource,
-    sink: &mut MemSink,
-    shelf: &mut MemShelf,
-    doors: &mut Vec<D>,
-) -> Result<u8, AllocError>
-where
-    R: AllocGlobal + Threads + Wait + Sync + Clock + Log,
-    D: Door + Send,
-    D::In: Send,
-    D::Out: Send,
-{
-    let alloc = rt.alloc();
+// The words of a command line.
+fn words_of(alloc: Global, line: &str) -> Result<Vec<String>, AllocError> {
     let mut words = Vec::new(alloc);
     for word in line.split_whitespace() {
         words.push(String::from_str(alloc, word)?)?;
     }
+    Ok(words)
+}
+
+// Runs a command over these ends and no doors, and answers its status.
+fn run_words<R: AllocGlobal + Threads + Wait + Sync + Clock + Log>(
+    rt: &R,
+    words: &[String],
+    source: &mut MemSource,
+    sink: &mut MemSink,
+    shelf: &mut MemShelf,
+) -> u8 {
+    let mut doors: Vec<MemDoor> = Vec::new(rt.alloc());
     let gate = OpenGate::new();
     let mut steps = Steps::new();
-    Ok(run(rt, &words, source, sink, shelf, doors, &gate, &mut steps))
+    run(
+        rt, words, source, sink, shelf, &mut doors, &gate, &mut steps,
+    )
 }
 
 // The number in a field of a row, or else this one.
@@ -68,54 +68,32 @@ fn failing(alloc: Global, row: &str, at: usize) -> Result<Vec<u64>, AllocError> 
     Ok(calls)
 }
 
-/// Runs the command line of a row with that input over the shelf and the doors, and answers its status and the output.
-pub(crate) fn ran_with_doors<R, D>(
+// Whether the run of a row over that sink and that shelf ends by its status.
+fn ends<R: AllocGlobal + Threads + Wait + Sync + Clock + Log>(
     rt: &R,
     row: &str,
-    input: Vec<u8>,
+    sink: &mut MemSink,
     shelf: &mut MemShelf,
-    doors: &mut Vec<D>,
-) -> Result<(u8, Vec<u8>), Fail>
-where
-    R: AllocGlobal + Threads + Wait + Sync + Clock + Log,
-    D: Door + Send,
-    D::In: Send,
-    D::Out: Send,
-{
+) -> Result<bool, Fail> {
     let alloc = rt.alloc();
+    let words = words_of(alloc, field(row, 0))?;
+    let input = bytes_of(alloc, field(row, 1))?;
     let piece = number_or(row, 5, 1_000).max(1);
     let mut source = MemSource::new(input, piece, failing(alloc, row, 6)?);
-    let mut sink = MemSink::new(alloc, number_or(row, 7, 65_536), failing(alloc, row, 8)?)?;
-    let status = run_line(rt, field(row, 0), &mut source, &mut sink, shelf, doors)?;
-    Ok((status, Vec::from_slice(alloc, sink.bytes())?))
+    let status = run_words(rt, &words, &mut source, sink, shelf);
+    Ok(field(row, 2).parse::<u8>() == Ok(status))
 }
 
-/// The same without doors.
-pub(crate) fn ran<R: AllocGlobal + Threads + Wait + Sync + Clock + Log>(
-    rt: &R,
-    row: &str,
-    input: Vec<u8>,
-    shelf: &mut MemShelf,
-) -> Result<(u8, Vec<u8>), Fail> {
-    let mut doors: Vec<MemDoor> = Vec::new(rt.alloc());
-    ran_with_doors(rt, row, input, shelf, &mut doors)
-}
-
-/// Whether a run with that status and that output ended as its row says.
-pub(crate) fn is_so(alloc: Global, row: &str, status: u8, written: &[u8]) -> Result<bool, Fail> {
-    let output = bytes_of(alloc, field(row, 3))?;
-    Ok(field(row, 2).parse::<u8>() == Ok(status) && written == output.as_slice())
-}
-
-/// Whether the run of a row over that shelf ends so.
-pub(crate) fn ends<R: AllocGlobal + Threads + Wait + Sync + Clock + Log>(
+// The same, and whether the output is that of the row.
+fn writes<R: AllocGlobal + Threads + Wait + Sync + Clock + Log>(
     rt: &R,
     row: &str,
     shelf: &mut MemShelf,
 ) -> Result<bool, Fail> {
     let alloc = rt.alloc();
-    let (status, written) = ran(rt, row, bytes_of(alloc, field(row, 1))?, shelf)?;
-    is_so(alloc, row, status, &written)
+    let mut sink = MemSink::new(alloc, number_or(row, 7, 65_536), failing(alloc, row, 8)?)?;
+    let ended = ends(rt, row, &mut sink, shelf)?;
+    Ok(ended && sink.bytes() == bytes_of(alloc, field(row, 3))?.as_slice())
 }
 
 // The same, and whether the shelf has the paths after it that the row says.
@@ -125,7 +103,7 @@ fn leaves<R: AllocGlobal + Threads + Wait + Sync + Clock + Log>(
     shelf: &mut MemShelf,
 ) -> Result<bool, Fail> {
     let before = paths(rt.alloc(), shelf)?;
-    let ended = ends(rt, row, shelf)?;
+    let ended = writes(rt, row, shelf)?;
     let after = paths(rt.alloc(), shelf)?;
     match field(row, 9) {
         "" => Ok(ended && after == before),
@@ -133,8 +111,8 @@ fn leaves<R: AllocGlobal + Threads + Wait + Sync + Clock + Log>(
     }
 }
 
-/// Whether the run of a row goes so over a shelf of its own.
-pub(crate) fn goes<R: AllocGlobal + Threads + Wait + Sync + Clock + Log>(
+// Whether the run of a row goes so over a shelf of its own.
+fn goes<R: AllocGlobal + Threads + Wait + Sync + Clock + Log>(
     rt: &R,
     row: &str,
 ) -> Result<bool, Fail> {

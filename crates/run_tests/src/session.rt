@@ -1,12 +1,6 @@
 //! Runs of `session`: requests and replies, byte for byte.
-use crate::runs::{all_go, ran};
-use crate::texts::{SMALL, bytes_of, field, paths, shelf_of};
-use log::Log;
-use std::process::Abort;
-use std::sync::Wait;
+use crate::runs::all_go;
 use std::test::Fail;
-use std::thread::Threads;
-use std::time::Clock;
 
 // The requests of a connection, the status, and all that is written.
 static SESSIONS: &str = "\
@@ -29,46 +23,4 @@ POST /batch HTTP/1.1~Host: a~Content-Length: 2911~~put 0 2888^%tile 4 0 1 2 3 5%
 fn serves_one_connection(rt: HostRuntime) -> Result<(), Fail> {
     all_go(&rt, "session|", SESSIONS, "||65536")?;
     all_go(&rt, "session|", SESSIONS, "||1000")
-}
-
-// The status of the connection that edits and publishes, with these further fields of its row; `None` where the output isn't a
-// first part of its own, or the shelf changed.
-fn status_with<R: AllocGlobal + Threads + Wait + Sync + Clock + Log>(
-    rt: &R,
-    fields: &str,
-) -> Result<Option<u8>, Fail> {
-    let alloc = rt.alloc();
-    let requests = SESSIONS.lines().nth(3).unwrap_or("");
-    let row = format!(in alloc; "session|{requests}{fields}")?;
-    let mut shelf = shelf_of(alloc, SMALL)?;
-    let (status, written) = ran(rt, &row, bytes_of(alloc, field(&row, 1))?, &mut shelf)?;
-    let is_part = bytes_of(alloc, field(&row, 3))?.starts_with(&written);
-    let stays = paths(alloc, &mut shelf)?.as_str() == "survey.conf";
-    Ok(if is_part && stays { Some(status) } else { None })
-}
-
-// How many calls of an end fail, each by that status, up to the first whose number is beyond the last call. `fields` are those
-// of the row before the call.
-fn count_failed<R: AllocGlobal + Threads + Wait + Sync + Clock + Log + Abort>(
-    rt: &R,
-    fields: &str,
-    wanted: u8,
-) -> Result<u32, Fail> {
-    let mut failed = 0_u32;
-    for call in 0..40_u8 {
-        let fields = format!(in rt.alloc(); "{fields}{call}")?;
-        let status = status_with(rt, &fields)?;
-        assert!(rt; status == Some(wanted) || status == Some(0), "{fields}");
-        failed = failed.saturating_add(u32::from(status == Some(wanted)));
-    }
-    Ok(failed)
-}
-
-#[test]
-fn fails_where_an_end_does(rt: HostRuntime) -> Result<(), Fail> {
-    let reads = count_failed(&rt, "|||", 5)?;
-    let writes = count_failed(&rt, "|||||", 6)?;
-    let failed = reads.saturating_add(writes);
-    assert!(rt; 8 < failed && failed < 40, "{failed}");
-    Ok(())
 }

@@ -7,10 +7,10 @@
 //! - `conf`: the first lines of a description
 //! - `properties`: those of the small survey, up to the number of its leaves
 
+use memory_link::MemShelf;
 use small_files::{PROPERTIES, cell_header, description_with};
 use std::alloc::Global;
 use std::test::Fail;
-use memory_link::MemShelf;
 use survey_link::Shelf;
 
 static CONF: &str = description_with!("");
@@ -97,9 +97,9 @@ fn put_leaves(alloc: Global, shelf: &mut MemShelf, words: &str) -> Result<(), Fa
     Ok(())
 }
 
-/// Puts a file on the shelf: its path, a space and its text. `leaves ORDER COUNT` puts some that aren't whole, and `none`
-/// puts nothing there.
-pub(crate) fn put(alloc: Global, shelf: &mut MemShelf, file: &str) -> Result<(), Fail> {
+// Puts a file on the shelf: its path, a space and its text. `leaves ORDER COUNT` puts some that aren't whole, and `none`
+// puts nothing there.
+fn put(alloc: Global, shelf: &mut MemShelf, file: &str) -> Result<(), Fail> {
     match file.split_once(' ') {
         Some(("leaves", words)) => put_leaves(alloc, shelf, words),
         Some((path, text)) => Ok(shelf.put(path, &bytes_of(alloc, text)?)?),
@@ -107,18 +107,12 @@ pub(crate) fn put(alloc: Global, shelf: &mut MemShelf, file: &str) -> Result<(),
     }
 }
 
-/// Puts files on the shelf; a `&` separates two.
-pub(crate) fn put_all(alloc: Global, shelf: &mut MemShelf, files: &str) -> Result<(), Fail> {
-    for file in files.split('&') {
-        put(alloc, shelf, file)?;
-    }
-    Ok(())
-}
-
-/// A shelf with these files.
+/// A shelf with these files; a `&` separates two.
 pub(crate) fn shelf_of(alloc: Global, files: &str) -> Result<MemShelf, Fail> {
     let mut shelf = MemShelf::new(alloc, Vec::new(alloc));
-    put_all(alloc, &mut shelf, files)?;
+    for file in files.split('&') {
+        put(alloc, &mut shelf, file)?;
+    }
     Ok(shelf)
 }
 
