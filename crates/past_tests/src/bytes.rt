@@ -50,17 +50,11 @@ fn push_part(alloc: Global, bytes: &mut Vec<u8>, part: &str) -> Result<(), Fail>
     }
 }
 
-// Appends what a text stands for.
-pub(crate) fn push_bytes(alloc: Global, bytes: &mut Vec<u8>, text: &str) -> Result<(), Fail> {
-    for part in text.split('%') {
-        push_part(alloc, bytes, part)?;
-    }
-    Ok(())
-}
-
-// The bytes that a text stands for.
+/// The bytes that a text stands for.
 pub(crate) fn bytes_of(alloc: Global, text: &str) -> Result<Vec<u8>, Fail> {
     let mut bytes = Vec::new(alloc);
-    push_bytes(alloc, &mut bytes, text)?;
+    for part in text.split('%') {
+        push_part(alloc, &mut bytes, part)?;
+    }
     Ok(bytes)
 }

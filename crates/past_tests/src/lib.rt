@@ -1,6 +1,6 @@
 //! Tests of `past_reads` and `past_session`: past states of a small survey (`surveys`) that are read in any order
-//! (`prefixes`, and `orders` of a longer history), or by a list (`lists`); whole sessions, and such as break off
-//! (`sessions`), by texts that stand for bytes (`bytes`).
+//! (`prefixes`), or by a list (`lists`); whole sessions, and such as break off (`sessions`), by texts that stand for bytes
+//! (`bytes`).
 //!
 //! They test the finished crates from a crate of their own: there each would be proved a second time.
 #![tactic(auto)]
@@ -9,8 +9,6 @@
 mod bytes;
 #[cfg(test)]
 mod lists;
-#[cfg(test)]
-mod orders;
 #[cfg(test)]
 mod prefixes;
 #[cfg(test)]

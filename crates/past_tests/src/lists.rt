@@ -8,11 +8,6 @@ use std::test::Fail;
 use survey_link::OpenGate;
 use tile_path::Path;
 
-// Batches of one, two and one edits.
-static BATCHES: &str = "put 0 2888;%leaf 4 0 1 2 3 5%
-remove 0;put 1 2888;%leaf 4 1 1 2 3 5%
-add 3071 2888;%leaf 4 3071 1 2 3 5%";
-
 // After how many edits which file is read, and the answer.
 static READS: &str = "1 Norder3/Dir0/Npix0.fits|%whole 3 0 -32768 -32768 3 -32768%
 4 Norder3/Dir0/Npix767.fits|%whole 3 767 -32768 3 -32768 -32768%
@@ -59,7 +54,7 @@ fn expected(alloc: Global, row: &str) -> Result<Vec<u8>, Fail> {
 fn each_read_of_a_list_is_answered_as_if_alone(rt: HostRuntime) -> Result<(), Fail> {
     let alloc = rt.alloc();
     let conf = survey(alloc)?;
-    let journal = journal(alloc, &conf, BATCHES, 3)?;
+    let journal = journal(alloc, &conf)?;
     let mut past = Past::new(alloc, conf, &journal, 1)?;
     let reads = reads(alloc)?;
     let gate = OpenGate::new();

@@ -1,8 +1,8 @@
 use Rattle.std.proofs.Common.{◌≡◌}
-use Rattle.past_tests.proofs.surveys.grown_by.Given as goal
+use Rattle.past_tests.proofs.surveys.journal.Given as goal
 
 abbrev pub invariant-loop-text : goal.invariant-loop-text
 invariant-loop-text l =
     (goal.iterator-loop-text).can_next l.text-iterator ×
     ((goal.iterator-loop-text).is_finite l.text-iterator ×
-    ((l.journal.shape ≡ l.conf.shape) × (l.journal.opening ≡ l.first.opening)))
+    (l.journal.shape ≡ l.conf.shape))
