@@ -1,8 +1,11 @@
 -- What `run` says of words by their status, where no command needs more doors than there are.
-use Rattle.std.proofs.Common.{◌≡◌, ℕ, ◌≤◌, List, length, arith}
-use Rattle.hipsd_run.specs.Command.{Asks, IsCommand, IsCommandFor, doors_of}
+use Rattle.std.proofs.Common.{◌≡◌, ℕ, ◌≤◌, ◌∙◌, List, length, ap, sym, subst, arith}
+use Rattle.command_output.specs.Status.{IsAmong}
+use Rattle.leaf_probe.specs.declared.asked.Probe.{Probe}
+use Rattle.hipsd_run.specs.Command.{Asks, IsCommand, IsCommandFor, doors_of, statuses_of}
 use Rattle.hipsd_run.specs.Runs.{Ends, RunsWords}
 use Rattle.survey_commands.specs.Serve.{IsServe}
+use Rattle.survey_commands.specs.declared.serve.AskedPlaces.{AskedPlaces}
 use Rattle.hipsd_run.specs.declared.command.Command.{Command}
 use Rattle.hipsd_run.specs.declared.command.Command.TheVariants.{Probe as ProbeCommand, Session, Export, Verify, Make, Serve, Past, Catalog, Mirror}
 
@@ -26,7 +29,25 @@ pub none_of_many : (words : List (List ℕ)) (doors : ℕ) → 64 ≤ doors → 
 none_of_many words doors many none (command, asks) =
     let few = few_doors words command asks in none (command, asks, omega arith)
 
--- the status 1 is that of words that ask for nothing
+-- no command ends by the status of the usage
+never_1 : (command : Command) → ¬ IsAmong (statuses_of command) 1
+never_1 (ProbeCommand asked) ends = ends
+never_1 Session ends = ends
+never_1 Export ends = ends
+never_1 Verify ends = ends
+never_1 (Make n m) ends = ends
+never_1 (Past n) ends = ends
+never_1 (Catalog k n) ends = ends
+never_1 Mirror ends = ends
+never_1 (Serve asked) ends = ends
+
+-- so it is that of words that ask for nothing
 pub usage_only : {S H D : Type 0} (words : List (List ℕ)) (old new : Ends S H D) (status : ℕ)
     → RunsWords words old new status → status ≡ 1 → ¬ IsCommandFor (length old.doors.items) words
-usage_only words old new status ran one (command, asks, fits) = (ran.run command asks fits).not_usage one
+usage_only words old new status ran one (command, asks, fits) =
+    never_1 command (subst (λ (n : ℕ). IsAmong (statuses_of command) n) one (ran.run command asks fits).ends)
+
+-- no words ask for a probe and for places
+pub not_both : (words : List (List ℕ)) (asked : Probe) (places : AskedPlaces) → Asks words (ProbeCommand asked) → ¬ Asks words (Serve places)
+not_both words asked places probe serve =
+    let same : 5 ≡ 4 = ap length (sym probe.spelled ∙ serve.spelled) in absurd (omega (arith, same))

@@ -13,6 +13,7 @@ ghost use Rattle.hipsd_run.specs.Command.{texts, Asks, IsCommand, IsCommandFor};
 
 mod faults;
 
+use command_output::Status;
 use faults::{say_fault, say_peer_fault};
 use hipsd_run::{Command, command_for, run, say_version, second_word, words};
 use log::sink::Console;
@@ -29,37 +30,11 @@ use std_link::{FolderShelf, StreamSink, StreamSource};
 use survey_link::{OpenGate, Sink, Source};
 use tcp_link::{TcpDoor, Trial, dial, tcp_doors, try_address};
 
-/// The status where nobody can listen at the address.
-const NO_ADDRESS: u8 = 8;
-
-/// The status where there is no memory for the words or the ends.
-const NO_MEMORY: u8 = 11;
-
 /// How many doors there are.
 const DOORS: usize = 64;
 
 /// The environment variable that names a level of the log.
 const LOG: &str = "HIPSD_LOG";
-
-// Runs the words, but for those that ask for a server at an address at which nobody can listen. A logger's own network knows
-// neither names nor paths, so these are looked up by `net`.
-fn start<R>(rt: &R, net: &HostRuntime, words: &[String]) -> io::Result<u8>
-where
-    R: Runtime + AllocGlobal + Threads + Wait + Log + Send + Sync + Clone + Drop,
-    R::Reader: Drop,
-{
-    match command_for(words, DOORS) {
-        Some(Command::Serve(_)) => {
-            say_version(rt);
-            if can_listen(rt, net, second_word(words)) {
-                run_words(rt, net, words)
-            } else {
-                Ok(NO_ADDRESS)
-            }
-        }
-        _ => run_words(rt, net, words),
-    }
-}
 
 // Whether one can listen at the address. If not, why is logged.
 fn can_listen<R: Log>(rt: &R, net: &HostRuntime, address: &str) -> bool {
@@ -77,7 +52,9 @@ fn can_listen<R: Log>(rt: &R, net: &HostRuntime, address: &str) -> bool {
 }
 
 // Runs the words, and passes the status on: `mirror` over a connection to its peer, all others over standard input and output.
-fn run_words<R>(rt: &R, net: &HostRuntime, words: &[String]) -> io::Result<u8>
+// A server isn't run at an address at which nobody can listen. A logger's own network knows neither names nor paths, so these
+// are looked up by `net`.
+fn start<R>(rt: &R, net: &HostRuntime, words: &[String]) -> io::Result<u8>
 where
     R: Runtime + AllocGlobal + Threads + Wait + Log + Send + Sync + Clone + Drop,
     R::Reader: Drop,
@@ -87,6 +64,14 @@ where
         → cell_count asked.order ≤ asked.npix → IfOk result (λ status. status ≡ 13) }
 {
     match command_for(words, DOORS) {
+        Some(Command::Serve(_)) => {
+            say_version(rt);
+            if can_listen(rt, net, second_word(words)) {
+                run_with_streams(rt, net, words)
+            } else {
+                Ok(Status::DoorFault.number())
+            }
+        }
         Some(Command::Mirror) => run_with_peer(rt, net, words),
         _ => run_with_streams(rt, net, words),
     }
@@ -160,7 +145,7 @@ fn exit_code(ended: io::Result<u8>) -> ExitCode
 {
     match ended {
         Ok(status) => ExitCode::from(status),
-        Err(_) => ExitCode::from(NO_MEMORY),
+        Err(_) => ExitCode::from(Status::OutOfMemory.number()),
     }
 }
 

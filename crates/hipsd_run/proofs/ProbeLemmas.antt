@@ -4,7 +4,8 @@ use Rattle.leaf_probe.specs.declared.fault.ProbeFault.{ProbeFault}
 use Rattle.leaf_probe.specs.declared.fault.ProbeFault.TheVariants.{Cut, Read, Write, NoLeaf, OutOfMemory, TooMany, OutOfRange}
 use Rattle.leaf_probe.specs.Status.{status_of}
 use Rattle.leaf_probe.specs.Reading.{StandsFor}
-use Rattle.hipsd_run.specs.Probe.{EndsBy}
+use Rattle.command_output.specs.Status.{IsAmong}
+use Rattle.hipsd_run.specs.Probe.{EndsBy, probe_statuses}
 
 -- it is that of the answer, unless an end failed or there was no memory
 pub ends_by : (fault : ProbeFault) (status : ℕ) → StandsFor fault status → EndsBy status (status_of fault)
@@ -33,3 +34,13 @@ is_write NoLeaf e = absurd (omega arith)
 is_write OutOfMemory e = absurd (omega arith)
 is_write TooMany e = absurd (omega arith)
 is_write OutOfRange e = absurd (omega arith)
+
+-- it is one that `probe` can end by
+pub among : (fault : ProbeFault) → IsAmong probe_statuses (status_of fault)
+among Cut = refl
+among Read = refl
+among Write = refl
+among NoLeaf = refl
+among OutOfMemory = refl
+among TooMany = refl
+among OutOfRange = refl

@@ -2,9 +2,14 @@
 use Rattle.std.specs.Prelude.{◌≡◌, ℕ, ◌≤◌, Bool, true, false, List, [], ◌∷◌, map, codes, decimal, String, string_bytes, ⊤}
 use Rattle.std.specs.declared.alloc.Global.{Global}
 use Rattle.leaf_probe.specs.Probe.{IsProbe}
-use Rattle.survey_commands.specs.Make.{IsMake}
-use Rattle.survey_commands.specs.Serve.{IsServe}
-use Rattle.survey_commands.specs.Past.{IsPast}
+use Rattle.survey_commands.specs.Survey.{export_statuses, verify_statuses}
+use Rattle.survey_commands.specs.Session.{session_statuses}
+use Rattle.survey_commands.specs.Make.{IsMake, make_statuses}
+use Rattle.survey_commands.specs.Serve.{IsServe, serve_statuses}
+use Rattle.survey_commands.specs.Past.{IsPast, past_statuses}
+use Rattle.survey_commands.specs.Mirror.{mirror_statuses}
+use Rattle.catalog_command.specs.Run.{catalog_statuses}
+use Rattle.hipsd_run.specs.Probe.{probe_statuses}
 use Rattle.hipsd_run.specs.declared.command.Command.{Command}
 use Rattle.hipsd_run.specs.declared.command.Command.TheVariants.{Probe as ProbeCommand, Session, Export, Verify, Make, Serve, Past, Catalog, Mirror}
 
@@ -114,3 +119,15 @@ opens_doors (Serve asked) = true
 opens_doors (Past cache) = false
 opens_doors (Catalog top per_tile) = false
 opens_doors Mirror = false
+
+-- how a command can end: by these statuses
+abbrev pub statuses_of : Command → List ℕ
+statuses_of (ProbeCommand asked) = probe_statuses
+statuses_of Session = session_statuses
+statuses_of Export = export_statuses
+statuses_of Verify = verify_statuses
+statuses_of (Make number edits) = make_statuses
+statuses_of (Serve asked) = serve_statuses
+statuses_of (Past cache) = past_statuses
+statuses_of (Catalog top per_tile) = catalog_statuses
+statuses_of Mirror = mirror_statuses

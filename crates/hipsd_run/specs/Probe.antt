@@ -1,11 +1,15 @@
 -- What `probe` answers and writes, over the source and the sink as a connection.
-use Rattle.std.specs.Prelude.{◌≡◌, ◌≢◌, ◌⊎◌, ℕ, List, Some}
+use Rattle.std.specs.Prelude.{◌≡◌, ◌≢◌, ◌⊎◌, ℕ, List, Some, [], ◌∷◌}
 use Rattle.std.specs.Io.KnownBytes.{Appends, IsAtEnd}
 use Rattle.survey_link.specs.Link.{AppendsPrefix}
 use Rattle.survey_link.specs.Door.{Connection}
 use Rattle.leaf_probe.specs.Probe.{probe_answer, probe_steps}
 use Rattle.leaf_probe.specs.Merging.{steps_after}
 use Rattle.leaf_probe.specs.declared.asked.Probe.{Probe}
+
+-- how it can end
+abbrev pub probe_statuses : List ℕ
+probe_statuses = 0 ∷ 4 ∷ 5 ∷ 6 ∷ 10 ∷ 11 ∷ 12 ∷ 13 ∷ []
 
 -- the status is this one, unless the source or the sink failed or there was no memory
 abbrev pub EndsBy : ℕ → ℕ → Type 0

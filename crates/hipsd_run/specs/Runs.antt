@@ -9,6 +9,7 @@ use Rattle.survey_link.specs.Shelf.{ShelfFiles}
 use Rattle.survey_link.specs.declared.source.Source.{Ghosts as SourceGhosts}
 use Rattle.survey_link.specs.declared.sink.Sink.{Ghosts as SinkGhosts}
 use Rattle.survey_link.specs.declared.shelf.Shelf.{Ghosts as ShelfGhosts}
+use Rattle.command_output.specs.Status.{IsAmong}
 use Rattle.leaf_probe.specs.Reading.{ReadsToTheEnd}
 use Rattle.leaf_probe.specs.declared.asked.Probe.{Probe}
 use Rattle.hips_http.specs.Moment.{connection_of}
@@ -21,7 +22,7 @@ use Rattle.survey_commands.specs.Past.{RunsPast, RunsPastOver, FlushesPast}
 use Rattle.survey_commands.specs.Mirror.{RunsMirror, copying_of}
 use Rattle.catalog_command.specs.Input.{OfInput}
 use Rattle.catalog_command.specs.Run.{RunsCatalog}
-use Rattle.hipsd_run.specs.Command.{Asks, IsCommandFor, doors_of, reads_source, opens_shelf, writes_files, opens_doors}
+use Rattle.hipsd_run.specs.Command.{Asks, IsCommandFor, doors_of, reads_source, opens_shelf, writes_files, opens_doors, statuses_of}
 use Rattle.hipsd_run.specs.Probe.{RunsProbe}
 use Rattle.hipsd_run.specs.declared.command.Command.{Command}
 use Rattle.hipsd_run.specs.declared.command.Command.TheVariants.{Probe as ProbeCommand, Session, Export, Verify, Make, Serve, Past, Catalog, Mirror}
@@ -99,11 +100,11 @@ pub record KeepsUnused {S H D : Type 0} (command : Command) (old new : Ends S H 
   pub doors : opens_doors command ≡ false → new.doors ≡ old.doors
   pub beyond : drop (doors_of command) new.doors.items ≡ drop (doors_of command) old.doors.items
 
--- a command: what its own function promises; its status is not that of the usage
+-- a command: what its own function promises, and a status that it can end by
 pub record Runs {S H D : Type 0} (command : Command) (old new : Ends S H D) (status : ℕ) : Type 0 where
   pub does : Does command old new status
   pub unused : KeepsUnused command old new
-  pub not_usage : status ≢ 1
+  pub ends : IsAmong (statuses_of command) status
 
 -- ---- what an invalid command line does
 

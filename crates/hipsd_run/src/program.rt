@@ -1,20 +1,20 @@
 //! The whole program, over whatever ends it is given.
-ghost use Rattle.std.specs.Prelude.{◌≡◌, ◌≢◌, ◌≤◌, nat_eq};
+ghost use Rattle.std.specs.Prelude.{◌≡◌, ◌≤◌, nat_eq};
 ghost use Rattle.healpix_nested.specs.Cells.{cell_count};
 ghost use Rattle.survey_link.specs.Link.{CountsFault};
+ghost use Rattle.command_output.specs.Status.{IsAmong, number_of};
 ghost use Rattle.leaf_probe.specs.Probe.{IsProbe};
 ghost use Rattle.leaf_probe.specs.Reading.{ReadsToTheEnd};
 ghost use Rattle.hips_http.specs.Moment.{connection_of};
 ghost use Rattle.hips_place.specs.Place.{door_of};
 ghost use Rattle.hipsd_run.specs.Command.{texts};
-ghost use Rattle.hipsd_run.specs.Probe.{RunsProbe};
+ghost use Rattle.hipsd_run.specs.Probe.{RunsProbe, probe_statuses};
 ghost use Rattle.hipsd_run.specs.Runs.{RunsWords, PrintsUsage, ends_of};
 
 use crate::command::{Command, command_for};
 use crate::help::say_commands;
 use catalog_command::run_catalog;
-use command_output::write_out;
-use hips_place::Means;
+use command_output::{Status, write_out};
 use leaf_probe::{Probe, probe};
 use log::Log;
 use parent_rule::Steps;
@@ -25,7 +25,7 @@ use std::time::Clock;
 use survey_commands::{
     run_export, run_make, run_mirror, run_past, run_serve, run_session, run_verify,
 };
-use survey_link::{Door, Gate, Shelf, Sink, Source};
+use survey_link::{Door, Gate, Means, Shelf, Sink, Source};
 
 /// Runs the command that the words ask for, over these ends, and answers its status.
 ///
@@ -75,40 +75,39 @@ where
         (ends_of S.Source K.Sink H.Shelf (door_of D.Door) source.new sink.new shelf.new doors.new steps.new)
         result }
 {
-    let means = Means {
-        rt,
-        alloc: rt.alloc(),
-        gate,
-    };
+    let alloc = rt.alloc();
+    let means = Means { rt, alloc, gate };
     match command_for(words, doors.len()) {
         None => {
             say_commands(rt, words);
-            usage(sink)
+            usage(sink).number()
         }
         Some(command) => match command {
-            Command::Probe(asked) => run_probe(rt.alloc(), &asked, source, sink, steps),
-            Command::Session => run_session(rt, source, sink, shelf, gate, steps),
-            Command::Export => run_export(rt, sink, shelf, gate, steps),
-            Command::Verify => run_verify(rt, sink, shelf, gate, steps),
-            Command::Make { number, edits } => run_make(rt, number, edits, sink, gate, steps),
-            Command::Serve(asked) => run_serve(&means, asked, sink, shelf, steps, doors),
-            Command::Past { cache } => run_past(&means, cache, source, sink, shelf, steps),
-            Command::Catalog { top, per_tile } => {
-                run_catalog(rt, top, per_tile, source, sink, shelf)
+            Command::Probe(asked) => run_probe(alloc, &asked, source, sink, steps).number(),
+            Command::Session => run_session(&means, source, sink, shelf, steps).number(),
+            Command::Export => run_export(&means, sink, shelf, steps).number(),
+            Command::Verify => run_verify(&means, sink, shelf, steps).number(),
+            Command::Make { number, edits } => {
+                run_make(&means, number, edits, sink, steps).number()
             }
-            Command::Mirror => run_mirror(rt, source, sink, shelf, gate, steps),
+            Command::Serve(asked) => run_serve(&means, asked, sink, shelf, steps, doors).number(),
+            Command::Past { cache } => run_past(&means, cache, source, sink, shelf, steps).number(),
+            Command::Catalog { top, per_tile } => {
+                run_catalog(rt, top, per_tile, source, sink, shelf).number()
+            }
+            Command::Mirror => run_mirror(&means, source, sink, shelf, steps).number(),
         },
     }
 }
 
 // Writes how the program is called.
-fn usage<K: Sink>(sink: &mut K) -> u8
-    ensures prints { PrintsUsage (K.held sink.old) (K.held sink.new) (K.flushed sink.new) result }
-    ensures fault { CountsFault (nat_eq result 6) (K.faults sink.old) (K.faults sink.new) }
+fn usage<K: Sink>(sink: &mut K) -> Status
+    ensures prints { PrintsUsage (K.held sink.old) (K.held sink.new) (K.flushed sink.new) (number_of result) }
+    ensures fault { CountsFault (nat_eq (number_of result) 6) (K.faults sink.old) (K.faults sink.new) }
 {
     match write_out(sink, b"usage: hipsd COMMAND\n") {
-        Ok(()) => 1,
-        Err(_) => 6,
+        Ok(()) => Status::Usage,
+        Err(_) => Status::WriteFault,
     }
 }
 
@@ -119,23 +118,20 @@ fn run_probe<S: Source, K: Sink>(
     source: &mut S,
     sink: &mut K,
     steps: &mut Steps,
-) -> u8
+) -> Status
     requires { IsProbe asked.now }
     ensures run { RunsProbe asked.now
         (connection_of S.Source K.Sink source.old sink.old) (connection_of S.Source K.Sink source.new sink.new)
-        steps.old steps.new result }
-    ensures range { cell_count asked.now.order ≤ asked.now.npix → (result ≡ 13) × (source.new ≡ source.old) }
+        steps.old steps.new (number_of result) }
+    ensures range { cell_count asked.now.order ≤ asked.now.npix → (number_of result ≡ 13) × (source.new ≡ source.old) }
     ensures reads { ReadsToTheEnd (S.left source.old) (S.left source.new) (S.readings source.old) (S.readings source.new) }
-    ensures not_usage { result ≢ 1 }
-    ensures not_opened { (result ≢ 2) × (result ≢ 3) }
-    ensures not_shelf { result ≢ 7 }
-    ensures not_door { result ≢ 8 }
-    ensures read_fault { CountsFault (nat_eq result 5) (S.faults source.old) (S.faults source.new) }
-    ensures write_fault { CountsFault (nat_eq result 6) (K.faults sink.old) (K.faults sink.new) }
+    ensures ends { IsAmong probe_statuses (number_of result) }
+    ensures read_fault { CountsFault (nat_eq (number_of result) 5) (S.faults source.old) (S.faults source.new) }
+    ensures write_fault { CountsFault (nat_eq (number_of result) 6) (K.faults sink.old) (K.faults sink.new) }
     ensures steps_never_fall { steps.old ≤ steps.new }
 {
     match probe(alloc, asked, source, sink, steps) {
-        Ok(()) => 0,
+        Ok(()) => Status::Done,
         Err(fault) => fault.status(),
     }
 }

@@ -1,6 +1,6 @@
 -- What `make` does: the script of a made survey is served as one connection, by a board that nobody else has, and the state
 -- that it leads to is summed up.
-use Rattle.std.specs.Prelude.{◌≡◌, ◌⊎◌, ℕ, ◌^◌, ◌<◌, ◌≤◌, List, [], ◌++◌, length, sum, sum_by, unwrap_or, codes, decimal}
+use Rattle.std.specs.Prelude.{◌≡◌, ◌⊎◌, ℕ, ◌^◌, ◌<◌, ◌≤◌, List, [], ◌++◌, length, sum, sum_by, unwrap_or, codes, decimal, ◌∷◌}
 use Rattle.std.specs.FinMap.{len, get}
 use Rattle.survey_conf.specs.Description.{Description}
 use Rattle.tile_path.specs.Spelling.{spelling}
@@ -76,6 +76,10 @@ pub record IsMade (number edits : ℕ) (summary : Summary) : Type 0 where
   pub states : List SurveyState
   pub runs : RunsScript made_survey (made_script number edits) states
   pub is : summary ≡ summary_of made [] edits (last_of states)
+
+-- how it can end
+abbrev pub make_statuses : List ℕ
+make_statuses = 0 ∷ 6 ∷ 11 ∷ []
 
 -- `make`: the summary is written; or there was no memory, and nothing is
 abbrev pub RunsMake : ℕ → ℕ → ℕ → SinkBytes → SinkBytes → Type 0

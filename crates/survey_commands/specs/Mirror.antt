@@ -1,6 +1,6 @@
 -- What `mirror` does: it copies one published state of a peer's survey onto the shelf. The source has what the peer sends, and
 -- the sink gets the requests.
-use Rattle.std.specs.Prelude.{◌≡◌, ◌≢◌, ◌⊎◌, ℕ, Option, Result, Ok, Err}
+use Rattle.std.specs.Prelude.{◌≡◌, ◌≢◌, ◌⊎◌, ℕ, Option, Result, Ok, Err, List, [], ◌∷◌}
 use Rattle.survey_link.specs.Door.{Connection}
 use Rattle.survey_link.specs.Shelf.{ShelfFiles}
 use Rattle.shelf_io.specs.Survey.{OthersStay}
@@ -22,6 +22,10 @@ refusal_status ReadFault = 5
 refusal_status WriteFault = 6
 refusal_status ShelfFault = 7
 refusal_status OutOfMemory = 11
+
+-- how it can end
+abbrev pub mirror_statuses : List ℕ
+mirror_statuses = 0 ∷ 4 ∷ 5 ∷ 6 ∷ 7 ∷ 11 ∷ 21 ∷ 22 ∷ 23 ∷ 24 ∷ 25 ∷ 26 ∷ []
 
 -- ---- the run
 

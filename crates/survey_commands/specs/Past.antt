@@ -1,5 +1,5 @@
 -- What `past` does: it opens the shelf, and answers records about past states of its survey, over the source and the sink.
-use Rattle.std.specs.Prelude.{◌≡◌, ◌≢◌, ℕ, ◌+◌, ◌≤◌, List, [], length, Option, Some, Result, Ok, Err, IfSome}
+use Rattle.std.specs.Prelude.{◌≡◌, ◌≢◌, ℕ, ◌+◌, ◌≤◌, List, [], length, Option, Some, Result, Ok, Err, IfSome, ◌∷◌}
 use Rattle.std.specs.Io.KnownBytes.{Consumes}
 use Rattle.survey_link.specs.Door.{Connection}
 use Rattle.survey_link.specs.Shelf.{ShelfFiles}
@@ -30,6 +30,13 @@ past_status WriteFault = 6
 past_status OutOfMemory = 11
 past_status Spent = 12
 past_status (BadLine at) = 17
+
+-- how records can end, and how the command can
+abbrev pub ended_statuses : List ℕ
+ended_statuses = 0 ∷ 4 ∷ 5 ∷ 6 ∷ 11 ∷ 12 ∷ 17 ∷ []
+
+abbrev pub past_statuses : List ℕ
+past_statuses = 2 ∷ 3 ∷ 7 ∷ ended_statuses
 
 -- ---- the run
 

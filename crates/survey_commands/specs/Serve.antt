@@ -1,5 +1,5 @@
 -- What `serve` does: it opens the shelf, and serves the connections of many doors at once, over boards of that survey.
-use Rattle.std.specs.Prelude.{◌≡◌, ℕ, ◌≤◌, List, [], Option, Result, Ok, Err}
+use Rattle.std.specs.Prelude.{◌≡◌, ℕ, ◌≤◌, List, [], Option, Result, Ok, Err, ◌∷◌}
 use Rattle.survey_link.specs.Shelf.{ShelfFiles}
 use Rattle.command_output.specs.Output.{SinkBytes}
 use Rattle.shelf_io.specs.Opening.{OpenedSurvey}
@@ -38,6 +38,10 @@ place_status OutOfMemory = 11
 abbrev pub serve_status : Result PlaceEnd ServeRefusal → ℕ
 serve_status (Ok end) = place_status end
 serve_status (Err refusal) = 11
+
+-- how it can end
+abbrev pub serve_statuses : List ℕ
+serve_statuses = 0 ∷ 2 ∷ 3 ∷ 6 ∷ 7 ∷ 8 ∷ 11 ∷ []
 
 -- ---- the run
 

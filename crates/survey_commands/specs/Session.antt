@@ -40,6 +40,13 @@ end_status OutOfMemory = 11
 end_status Spent = 12
 end_status (Refused code) = 14
 
+-- how one can end that is served, and how the command can
+abbrev pub served_statuses : List ℕ
+served_statuses = 0 ∷ 4 ∷ 5 ∷ 6 ∷ 11 ∷ 12 ∷ 14 ∷ []
+
+abbrev pub session_statuses : List ℕ
+session_statuses = 2 ∷ 3 ∷ 7 ∷ served_statuses
+
 -- ---- the run
 
 -- a connection as the proof sees it, whose source had this input, after all that the sink held back was flushed

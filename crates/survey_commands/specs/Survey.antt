@@ -1,5 +1,5 @@
 -- What `export` and `verify` find on a shelf, what they leave there, and what they write.
-use Rattle.std.specs.Prelude.{◌≡◌, ℕ, List, ◌++◌, Option, Some, None, Result, Ok, Err, IsOkAnd, codes, decimal, ⊤}
+use Rattle.std.specs.Prelude.{◌≡◌, ℕ, List, ◌++◌, Option, Some, None, Result, Ok, Err, IsOkAnd, codes, decimal, ⊤, [], ◌∷◌}
 use Rattle.std.specs.Result.{result_err}
 use Rattle.std.specs.FinMap.{len}
 use Rattle.survey_link.specs.Door.{Connection}
@@ -57,6 +57,10 @@ SaysWhy (TooMany leaves) = Says 3 (line_of (load_text (TooMany leaves)))
 SaysWhy ShelfFault = EndsBy 7
 SaysWhy OutOfMemory = EndsBy 11
 
+-- how a command can end that doesn't open the shelf
+abbrev pub unopened_statuses : List ℕ
+unopened_statuses = 2 ∷ 3 ∷ 6 ∷ 7 ∷ 11 ∷ []
+
 abbrev pub export_text : ℕ → List ℕ
 export_text count = codes "exported " ++ decimal count
 
@@ -73,6 +77,13 @@ SaysVerdict (Ok verdict) = Says (verdict_status verdict) (line_of (verdict_text 
 SaysVerdict (Err refusal) = SaysWhy refusal
 
 -- ---- whole runs
+
+-- how they can end
+abbrev pub export_statuses : List ℕ
+export_statuses = 0 ∷ unopened_statuses
+
+abbrev pub verify_statuses : List ℕ
+verify_statuses = 9 ∷ export_statuses
 
 -- `export`, over the files and the sink before and after, with its status
 abbrev pub RunsExport : Option ShelfFiles → Option ShelfFiles → ℕ → SinkBytes → SinkBytes → Type 0

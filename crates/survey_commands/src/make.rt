@@ -1,26 +1,26 @@
 //! The command `make`: a survey is made by its script, and summed up.
-ghost use Rattle.std.specs.Prelude.{◌≡◌, ◌≢◌, ℕ, ◌≤◌, [], nat_eq, IfOk, OnOk};
+ghost use Rattle.std.specs.Prelude.{◌≡◌, ℕ, ◌≤◌, [], nat_eq, IfOk, OnOk};
 ghost use Rattle.survey_link.specs.Link.{CountsFault};
 ghost use Rattle.command_output.specs.Output.{sink_bytes};
+ghost use Rattle.command_output.specs.Status.{IsAmong, number_of};
 ghost use Rattle.shelf_io.specs.Opening.{OpenedSurvey};
 ghost use Rattle.survey_commands.specs.Session.{board_of};
-ghost use Rattle.survey_commands.specs.Make.{IsMake, made_survey, RunsScript, IsMade, RunsMake};
+ghost use Rattle.survey_commands.specs.Make.{IsMake, made_survey, RunsScript, IsMade, RunsMake, make_statuses};
 
 use crate::session::first_board;
 use crate::summary::{Summary, summary_of};
-use command_output::say;
-use generation::Generation;
+use command_output::{Status, say};
 use hips_http::{SessionEnd, session};
 use leaf_store::Store;
 use log::Log;
+use memory_link::SureSource;
 use parent_rule::Steps;
 use reader_pin::{Board, Solo};
+use shelf_io::first_generation;
 use std::alloc::AllocError;
-use std::sync::Arc;
 use std::thread::Threads;
 use std::time::Clock;
-use memory_link::SureSource;
-use survey_link::{Gate, NullSink, Sink};
+use survey_link::{Gate, Means, NullSink, Sink};
 use survey_make::{read_conf, script};
 
 /// Makes the survey of a number by so many edits, writes its summary and LF, and answers the status.
@@ -31,78 +31,71 @@ use survey_make::{read_conf, script};
 /// | 6 | the sink's count of faults rose, and does so at no other status |
 /// | 11 | there was no memory, at any time; nothing is written |
 pub fn run_make<R, K, G>(
-    rt: &R,
+    means: &Means<'_, R, G>,
     number: u64,
     edits: u32,
     sink: &mut K,
-    gate: &G,
     steps: &mut Steps,
-) -> u8
+) -> Status
 where
-    R: AllocGlobal + Threads + Sync + Clock + Log,
+    R: Threads + Sync + Clock + Log,
     K: Sink,
     G: Gate + Sync,
     requires { IsMake number edits }
-    ensures run { RunsMake number edits result (sink_bytes K.Sink sink.old) (sink_bytes K.Sink sink.new) }
-    ensures not_usage { result ≢ 1 }
-    ensures not_door { result ≢ 8 }
-    ensures not_read { result ≢ 5 }
-    ensures write_fault { CountsFault (nat_eq result 6) (K.faults sink.old) (K.faults sink.new) }
-    ensures not_shelf { result ≢ 7 }
+    ensures run { RunsMake number edits (number_of result) (sink_bytes K.Sink sink.old) (sink_bytes K.Sink sink.new) }
+    ensures ends { IsAmong make_statuses (number_of result) }
+    ensures write_fault { CountsFault (nat_eq (number_of result) 6) (K.faults sink.old) (K.faults sink.new) }
     ensures steps_never_fall { steps.old ≤ steps.new }
 {
-    match make_survey(rt, number, edits, gate, steps) {
-        Ok(summary) => say(rt.alloc(), sink, 0, &summary),
-        Err(_) => 11,
+    match make_survey(means, number, edits, steps) {
+        Ok(summary) => say(means.alloc, sink, Status::Done, &summary),
+        Err(_) => Status::OutOfMemory,
     }
 }
 
 // Makes the survey, and sums it up.
 fn make_survey<R, G>(
-    rt: &R,
+    means: &Means<'_, R, G>,
     number: u64,
     edits: u32,
-    gate: &G,
     steps: &mut Steps,
 ) -> Result<Summary, AllocError>
 where
-    R: AllocGlobal + Threads + Sync + Clock + Log,
+    R: Threads + Sync + Clock + Log,
     G: Gate + Sync,
     requires { IsMake number edits }
     ensures made { IfOk result (IsMade number edits) }
     ensures steps_never_fall { steps.old ≤ steps.new }
 {
-    let script = script(rt.alloc(), number, edits)?;
-    let mut board = empty_board(rt, gate, steps)?;
-    serve_script(rt, &mut board, script, gate, steps)?;
+    let script = script(means.alloc, number, edits)?;
+    let mut board = empty_board(means, steps)?;
+    serve_script(means, &mut board, script, steps)?;
     Ok(summary_of(board.last(), edits))
 }
 
 // The board of the made survey, without leaves.
-fn empty_board<R, G>(rt: &R, gate: &G, steps: &mut Steps) -> Result<Solo, AllocError>
+fn empty_board<R, G>(means: &Means<'_, R, G>, steps: &mut Steps) -> Result<Solo, AllocError>
 where
-    R: AllocGlobal + Threads + Sync + Clock + Log,
+    R: Threads + Sync + Clock + Log,
     G: Gate + Sync,
     ensures board { IfOk result (λ board. board ≡ board_of made_survey) }
     ensures steps_never_fall { steps.old ≤ steps.new }
 {
-    let alloc = rt.alloc();
-    let conf = Arc::new(alloc, read_conf(alloc)?)?;
-    let generation = Generation::start(rt, alloc, conf, Store::new(alloc), gate, steps)?;
+    let alloc = means.alloc;
+    let generation = first_generation(means, read_conf(alloc)?, Store::new(alloc), steps)?;
     first_board(alloc, generation)
 }
 
 // Serves the script by a board that nobody else has. `AllocError` where there was no memory for the connection or for what a
 // request of it asked for.
 fn serve_script<R, G>(
-    rt: &R,
+    means: &Means<'_, R, G>,
     board: &mut Solo,
     script: Vec<u8>,
-    gate: &G,
     steps: &mut Steps,
 ) -> Result<(), AllocError>
 where
-    R: AllocGlobal + Threads + Sync + Clock + Log,
+    R: Threads + Sync + Clock + Log,
     G: Gate + Sync,
     ensures conf { board.new.conf ≡ board.old.conf }
     ensures opening { board.new.opening ≡ board.old.opening }
@@ -111,7 +104,8 @@ where
 {
     let mut source = SureSource::new(script);
     let mut sink = NullSink::new();
-    let served = session(rt, rt.alloc(), board, &mut source, &mut sink, gate, steps);
+    let Means { rt, alloc, gate } = *means;
+    let served = session(rt, alloc, board, &mut source, &mut sink, gate, steps);
     // For the prover: what a board has seen is a history.
     let _alone = board.last();
     match served.end {

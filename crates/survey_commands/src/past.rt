@@ -1,7 +1,8 @@
 //! The command `past`: records about past states over the source and the sink.
-ghost use Rattle.std.specs.Prelude.{◌≡◌, ◌≢◌, ◌⊎◌, ℕ, ◌+◌, ◌≤◌, List, Some, [], nat_eq, IfSome, IfOk, IfErr};
+ghost use Rattle.std.specs.Prelude.{◌≡◌, ◌⊎◌, ℕ, ◌+◌, ◌≤◌, List, Some, [], nat_eq, IfSome, IfOk, IfErr};
 ghost use Rattle.std.specs.Arc.{arc_value};
 ghost use Rattle.survey_link.specs.Link.{CountsFault};
+ghost use Rattle.command_output.specs.Status.{IsAmong, number_of};
 ghost use Rattle.edit_journal.specs.Leaves.{charge_of};
 ghost use Rattle.edit_journal.specs.Faults.{most_charge};
 ghost use Rattle.past_session.specs.Run.{is_read_fault, is_write_fault};
@@ -9,11 +10,11 @@ ghost use Rattle.shelf_io.specs.Opening.{opening_steps};
 ghost use Rattle.shelf_io.specs.Refusals.{at_shelf};
 ghost use Rattle.hips_http.specs.Moment.{connection_of};
 ghost use Rattle.survey_commands.specs.Session.{OpensAs, OpensNot};
-ghost use Rattle.survey_commands.specs.Past.{IsPast, RunsPast, RunsPastOver, FlushesPast, opened_cost, past_status};
+ghost use Rattle.survey_commands.specs.Past.{IsPast, ended_statuses, RunsPast, RunsPastOver, FlushesPast, opened_cost, past_status, past_statuses};
 
 use crate::refusing::say_why;
+use command_output::Status;
 use generation::Generation;
-use hips_place::Means;
 use log::{Log, error};
 use parent_rule::Steps;
 use past_session::{PastEnd, past_session};
@@ -22,7 +23,7 @@ use std::alloc::{AllocError, Global};
 use std::sync::Arc;
 use std::thread::Threads;
 use std::time::Clock;
-use survey_link::{Gate, Shelf, Sink, Source};
+use survey_link::{Gate, Means, Shelf, Sink, Source};
 
 /// Opens the shelf, answers the records of the source about past states of its survey, of which up to `cache` are held, and
 /// answers the status. It logs what is wrong with the input.
@@ -37,13 +38,13 @@ use survey_link::{Gate, Shelf, Sink, Source};
 /// | 12 | the input goes on after 65,536 records |
 /// | 17 | a record has no line of its form |
 pub fn run_past<R, S, K, H, G>(
-    means: &Means<'_, '_, R, G>,
+    means: &Means<'_, R, G>,
     cache: usize,
     source: &mut S,
     sink: &mut K,
     shelf: &mut H,
     steps: &mut Steps,
-) -> u8
+) -> Status
 where
     R: Threads + Sync + Clock + Log,
     S: Source,
@@ -53,19 +54,18 @@ where
     requires cache { IsPast cache }
     ensures run { (input : List ℕ) → S.left source.old ≡ Some input → RunsPast (H.files shelf.old) input
         (connection_of S.Source K.Sink source.old sink.old) (connection_of S.Source K.Sink source.new sink.new)
-        steps.old steps.new result }
+        steps.old steps.new (number_of result) }
     ensures over { RunsPastOver (H.files shelf.old)
         (connection_of S.Source K.Sink source.old sink.old) (connection_of S.Source K.Sink source.new sink.new)
-        steps.old steps.new result }
-    ensures flushed { FlushesPast result
+        steps.old steps.new (number_of result) }
+    ensures flushed { FlushesPast (number_of result)
         (connection_of S.Source K.Sink source.old sink.old) (connection_of S.Source K.Sink source.new sink.new) }
     ensures kept { H.files shelf.new ≡ H.files shelf.old }
-    ensures unread { (result ≡ 2) ⊎ (result ≡ 3) → source.new ≡ source.old }
-    ensures not_usage { result ≢ 1 }
-    ensures not_door { result ≢ 8 }
-    ensures read_fault { CountsFault (nat_eq result 5) (S.faults source.old) (S.faults source.new) }
-    ensures write_fault { CountsFault (nat_eq result 6) (K.faults sink.old) (K.faults sink.new) }
-    ensures shelf_fault { CountsFault (nat_eq result 7) (H.faults shelf.old) (H.faults shelf.new) }
+    ensures unread { (number_of result ≡ 2) ⊎ (number_of result ≡ 3) → source.new ≡ source.old }
+    ensures ends { IsAmong past_statuses (number_of result) }
+    ensures read_fault { CountsFault (nat_eq (number_of result) 5) (S.faults source.old) (S.faults source.new) }
+    ensures write_fault { CountsFault (nat_eq (number_of result) 6) (K.faults sink.old) (K.faults sink.new) }
+    ensures shelf_fault { CountsFault (nat_eq (number_of result) 7) (H.faults shelf.old) (H.faults shelf.new) }
     ensures steps_never_fall { steps.old ≤ steps.new }
 {
     let Means { rt, alloc, gate } = *means;
@@ -81,7 +81,7 @@ where
 
 // The first generation of the survey that the shelf describes.
 fn open_survey<R, H, G>(
-    means: &Means<'_, '_, R, G>,
+    means: &Means<'_, R, G>,
     shelf: &mut H,
     steps: &mut Steps,
 ) -> Result<Arc<Generation>, LoadRefusal>
@@ -112,20 +112,20 @@ fn shared(alloc: Global, generation: Generation) -> Result<Arc<Generation>, Allo
 }
 
 // The status of records that ended so.
-fn past_status(end: PastEnd) -> u8
-    ensures status { result ≡ past_status end }
-    ensures no_refusal { (result ≢ 1) × (result ≢ 2) × (result ≢ 3) × (result ≢ 7) × (result ≢ 8) }
-    ensures read_fault { nat_eq result 5 ≡ is_read_fault end }
-    ensures write_fault { nat_eq result 6 ≡ is_write_fault end }
+fn past_status(end: PastEnd) -> Status
+    ensures status { number_of result ≡ past_status end }
+    ensures ends { IsAmong ended_statuses (number_of result) }
+    ensures read_fault { nat_eq (number_of result) 5 ≡ is_read_fault end }
+    ensures write_fault { nat_eq (number_of result) 6 ≡ is_write_fault end }
 {
     match end {
-        PastEnd::Done => 0,
-        PastEnd::Cut => 4,
-        PastEnd::ReadFault => 5,
-        PastEnd::WriteFault => 6,
-        PastEnd::OutOfMemory => 11,
-        PastEnd::Spent => 12,
-        PastEnd::BadLine { .. } => 17,
+        PastEnd::Done => Status::Done,
+        PastEnd::Cut => Status::Cut,
+        PastEnd::ReadFault => Status::ReadFault,
+        PastEnd::WriteFault => Status::WriteFault,
+        PastEnd::OutOfMemory => Status::OutOfMemory,
+        PastEnd::Spent => Status::Spent,
+        PastEnd::BadLine { .. } => Status::BadRecord,
     }
 }
 

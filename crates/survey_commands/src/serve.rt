@@ -1,23 +1,25 @@
 //! The command `serve`: the connections of many doors at once, over one survey.
-ghost use Rattle.std.specs.Prelude.{◌≡◌, ◌≢◌, ◌⊎◌, ◌<◌, ◌≤◌, [], nat_eq, map, length, take, drop};
+ghost use Rattle.std.specs.Prelude.{◌≡◌, ◌⊎◌, ◌<◌, ◌≤◌, [], nat_eq, map, length, take, drop};
 ghost use Rattle.survey_link.specs.Link.{CountsFault};
 ghost use Rattle.command_output.specs.Output.{sink_bytes};
+ghost use Rattle.command_output.specs.Status.{IsAmong, number_of};
 ghost use Rattle.hips_place.specs.Place.{SomeRises, door_of};
 ghost use Rattle.shelf_io.specs.Opening.{OpenedSurvey};
-ghost use Rattle.survey_commands.specs.Serve.{IsServe, state_of, Serves, RunsServe, serve_status};
+ghost use Rattle.survey_commands.specs.Serve.{IsServe, state_of, Serves, RunsServe, serve_status, serve_statuses};
 
 use crate::refusing::say_why;
 use crate::session::open_state;
+use command_output::Status;
 use generation::Generation;
 use hips_http::say_room;
-use hips_place::{Means, PlaceEnd, ServeRefusal, serve_doors};
+use hips_place::{PlaceEnd, ServeRefusal, serve_doors};
 use log::{Log, error, info, warn};
 use parent_rule::Steps;
 use std::sync::Wait;
 use std::thread::Threads;
 use std::time::{Clock, Instant};
 use survey_core::State;
-use survey_link::{Door, Gate, Shelf, Sink};
+use survey_link::{Door, Gate, Means, Shelf, Sink};
 
 /// What `serve` is asked for: so many places, with up to so many connections at each.
 #[derive(Clone, Copy, Debug, PartialEq, Eq)]
@@ -39,15 +41,15 @@ pub struct AskedPlaces {
 /// | 8 | a door's count of faults rose; the other places went on to their ends |
 /// | 11 | there was no memory, and no door's count of faults rose: to open the survey, or at a place; or for the places' boards to meet |
 pub fn run_serve<R, K, H, D, G>(
-    means: &Means<'_, '_, R, G>,
+    means: &Means<'_, R, G>,
     asked: AskedPlaces,
     sink: &mut K,
     shelf: &mut H,
     steps: &mut Steps,
     doors: &mut [D],
-) -> u8
+) -> Status
 where
-    R: AllocGlobal + Threads + Wait + Sync + Clock + Log,
+    R: Threads + Wait + Sync + Clock + Log,
     K: Sink,
     H: Shelf,
     D: Door + Send,
@@ -56,28 +58,27 @@ where
     G: Gate + Sync,
     requires asked { IsServe asked.connections asked.places }
     requires there { asked.places ≤ length doors.old }
-    ensures run { RunsServe (H.files shelf.old) asked.connections (map (door_of D.Door) (take asked.places doors.old)) (map (door_of D.Door) (take asked.places doors.new)) result
+    ensures run { RunsServe (H.files shelf.old) asked.connections (map (door_of D.Door) (take asked.places doors.old)) (map (door_of D.Door) (take asked.places doors.new)) (number_of result)
         (sink_bytes K.Sink sink.old) (sink_bytes K.Sink sink.new) }
     ensures beyond { drop asked.places doors.new ≡ drop asked.places doors.old }
-    ensures closed { (result ≡ 2) ⊎ ((result ≡ 3) ⊎ (result ≡ 7)) → doors.new ≡ doors.old }
+    ensures closed { (number_of result ≡ 2) ⊎ ((number_of result ≡ 3) ⊎ (number_of result ≡ 7)) → doors.new ≡ doors.old }
     ensures kept { H.files shelf.new ≡ H.files shelf.old }
-    ensures not_usage { result ≢ 1 }
-    ensures not_read { result ≢ 5 }
-    ensures write_fault { CountsFault (nat_eq result 6) (K.faults sink.old) (K.faults sink.new) }
-    ensures shelf_fault { CountsFault (nat_eq result 7) (H.faults shelf.old) (H.faults shelf.new) }
-    ensures door_fault { result ≡ 8 → SomeRises (map D.faults doors.old) (map D.faults doors.new) }
+    ensures ends { IsAmong serve_statuses (number_of result) }
+    ensures write_fault { CountsFault (nat_eq (number_of result) 6) (K.faults sink.old) (K.faults sink.new) }
+    ensures shelf_fault { CountsFault (nat_eq (number_of result) 7) (H.faults shelf.old) (H.faults shelf.new) }
+    ensures door_fault { number_of result ≡ 8 → SomeRises (map D.faults doors.old) (map D.faults doors.new) }
     ensures steps_never_fall { steps.old ≤ steps.new }
 {
-    let Means { rt, alloc, gate } = *means;
+    let rt = means.rt;
     let (served, _) = doors.split_at_mut(asked.places);
     let begun = Instant::now(rt).ok();
-    match open_state(rt, shelf, gate, steps) {
+    match open_state(means, shelf, steps) {
         Ok(state) => {
             say_loaded(rt, state.generation(), begun);
             say_room(rt, &state);
             serve_state(means, state, asked.connections, served)
         }
-        Err(refusal) => say_why(alloc, sink, &refusal),
+        Err(refusal) => say_why(means.alloc, sink, &refusal),
     }
 }
 
@@ -95,11 +96,11 @@ fn say_loaded<R: Clock + Log>(rt: &R, generation: &Generation, begun: Option<Ins
 
 // Serves the doors over the survey of which this is the first state, and answers the status.
 fn serve_state<R, D, G>(
-    means: &Means<'_, '_, R, G>,
+    means: &Means<'_, R, G>,
     state: State,
     connections: u32,
     doors: &mut [D],
-) -> u8
+) -> Status
 where
     R: Threads + Wait + Sync + Clock + Log,
     D: Door + Send,
@@ -110,13 +111,13 @@ where
     requires some { 0 < length doors.old }
     requires most { length doors.old ≤ 64 }
     ensures served { (survey : OpenedSurvey) → state ≡ state_of survey
-        → Serves survey connections (map (door_of D.Door) doors.old) (map (door_of D.Door) doors.new) result }
-    ensures status { (result ≡ 0) ⊎ ((result ≡ 8) ⊎ (result ≡ 11)) }
-    ensures door_fault { result ≡ 8 → SomeRises (map D.faults doors.old) (map D.faults doors.new) }
+        → Serves survey connections (map (door_of D.Door) doors.old) (map (door_of D.Door) doors.new) (number_of result) }
+    ensures status { (result ≡ Status.Done) ⊎ ((result ≡ Status.DoorFault) ⊎ (result ≡ Status.OutOfMemory)) }
+    ensures door_fault { number_of result ≡ 8 → SomeRises (map D.faults doors.old) (map D.faults doors.new) }
 {
-    let Means { rt, alloc, gate } = *means;
+    let rt = means.rt;
     info!(rt; "{} places, up to {connections} connections at each", doors.len());
-    let served = serve_doors(rt, alloc, state, connections, gate, doors);
+    let served = serve_doors(means, state, connections, doors);
     match &served {
         Ok(end) => {
             info!(rt; "all places have ended: {end:?}. The edits since the start are lost unless a journal or a copy has them");
@@ -127,13 +128,13 @@ where
 }
 
 // The status of doors that were served so, or why they weren't.
-fn serve_status(served: Result<PlaceEnd, ServeRefusal>) -> u8
-    ensures { result ≡ serve_status served }
+fn serve_status(served: Result<PlaceEnd, ServeRefusal>) -> Status
+    ensures { number_of result ≡ serve_status served }
 {
     match served {
-        Ok(PlaceEnd::Done) => 0,
-        Ok(PlaceEnd::Failed) => 8,
-        Ok(PlaceEnd::OutOfMemory) => 11,
-        Err(_) => 11,
+        Ok(PlaceEnd::Done) => Status::Done,
+        Ok(PlaceEnd::Failed) => Status::DoorFault,
+        Ok(PlaceEnd::OutOfMemory) => Status::OutOfMemory,
+        Err(_) => Status::OutOfMemory,
     }
 }

@@ -1,6 +1,6 @@
 use Rattle.std.proofs.Common.{inl, refl, sym, ap, Err}
 use Rattle.leaf_probe.specs.Status.{status_of}
-use Rattle.hipsd_run.proofs.ProbeLemmas.{ends_by, never_0, is_write}
+use Rattle.hipsd_run.proofs.ProbeLemmas.{among, ends_by, never_0, is_write}
 use Rattle.hipsd_run.proofs.program.run_probe.Goals as goal
 
 pub returns-in-Ok-clause-run : goal.returns-in-Ok-clause-run
@@ -42,3 +42,6 @@ returns-in-Err-clause-read_fault g c = rw c.status.ensures.read c.in-Err.ensures
 
 pub returns-in-Err-clause-write_fault : goal.returns-in-Err-clause-write_fault
 returns-in-Err-clause-write_fault g c = rw c.status.ensures.write c.in-Err.ensures.write
+
+pub returns-in-Err-clause-ends : goal.returns-in-Err-clause-ends
+returns-in-Err-clause-ends g c = rw c.status.ensures.status (among c.in-Err.fault)

@@ -64,4 +64,4 @@ returns-in-Err-clause-over g c = record {
 }
 
 pub returns-in-Err-clause-flushed : goal.returns-in-Err-clause-flushed
-returns-in-Err-clause-flushed g c = λ other. says_flushed c.say_why.result _ _ other c.in-Err.refusal c.say_why.ensures.said
+returns-in-Err-clause-flushed g c = λ other. says_flushed _ _ _ other c.in-Err.refusal c.say_why.ensures.said

@@ -1,6 +1,7 @@
 use Rattle.std.proofs.Common.{◌≡◌, ◌++◌, length, map, take, Ok, Err, refl, sym, ap, subst, arith}
 use Rattle.survey_core.specs.State.{StateContent}
 use Rattle.hips_place.specs.Place.{SomeRises, door_of}
+use Rattle.command_output.specs.Status.{number_of}
 use Rattle.survey_commands.specs.Serve.{Serves}
 use Rattle.survey_commands.proofs.ServeLemmas.{first_of, rises_among}
 use Rattle.survey_commands.proofs.serve.run_serve.Goals as goal
@@ -18,9 +19,9 @@ returns-in-Ok-clause-run g c =
       Ok opened.0,
       (
         opened.1,
-        subst (λ xs. Serves opened.0 c.args.asked.connections (map (door_of g.D.Door) xs) (map (door_of g.D.Door) (take c.args.asked.places (c.serve_state.new.doors ++ split.result.1.now))) c.serve_state.result)
+        subst (λ xs. Serves opened.0 c.args.asked.connections (map (door_of g.D.Door) xs) (map (door_of g.D.Door) (take c.args.asked.places (c.serve_state.new.doors ++ split.result.1.now))) (number_of c.serve_state.result))
             split.ensures.front
-            (subst (λ xs. Serves opened.0 c.args.asked.connections (map (door_of g.D.Door) split.result.0.now) (map (door_of g.D.Door) xs) c.serve_state.result) (sym new) served),
+            (subst (λ xs. Serves opened.0 c.args.asked.connections (map (door_of g.D.Door) split.result.0.now) (map (door_of g.D.Door) xs) (number_of c.serve_state.result)) (sym new) served),
         refl,
       ),
     )
