@@ -4,6 +4,7 @@ use crate::rows::{replies, requests};
 use crate::surveys::{opened, serve};
 use hips_http::SessionEnd;
 use log::Log;
+use memory_link::{MemSink, MemSource};
 use parent_rule::Steps;
 use small_files::SURVEY;
 use std::alloc::Global;
@@ -11,7 +12,6 @@ use std::process::Abort;
 use std::test::Fail;
 use std::thread::Threads;
 use std::time::Clock;
-use memory_link::{MemSink, MemSource};
 
 // Serves a connection over the survey without leaves, and answers how it ends.
 fn breaks<R: Threads + Sync + Clock + Log>(

@@ -2,6 +2,7 @@
 use crate::surveys::opened;
 use hips_place::{InConnection, PlaceEnd, serve_place};
 use log::Log;
+use memory_link::{MemDoor, MemSink, MemSource};
 use parent_rule::Steps;
 use reader_pin::Solo;
 use small_files::SURVEY;
@@ -9,7 +10,6 @@ use std::alloc::{AllocError, Global};
 use std::test::Fail;
 use std::thread::Threads;
 use std::time::Clock;
-use memory_link::{MemDoor, MemSink, MemSource};
 use survey_link::OpenGate;
 
 static PIN: &[u8] = b"POST /pin HTTP/1.1\r\nHost: a\r\n\r\n";

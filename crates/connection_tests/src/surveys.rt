@@ -2,6 +2,7 @@
 use crate::rows::{replies, requests};
 use hips_http::{SessionEnd, session};
 use log::Log;
+use memory_link::{MemSink, MemSource};
 use parent_rule::Steps;
 use reader_pin::{ChangedWith, Solo};
 use small_survey::first_state;
@@ -9,7 +10,6 @@ use std::alloc::Global;
 use std::test::Fail;
 use std::thread::Threads;
 use std::time::Clock;
-use memory_link::{MemSink, MemSource};
 use survey_link::OpenGate;
 
 // The board of the survey with that description, without leaves.

@@ -4,10 +4,10 @@ ghost use Rattle.http_frame.specs.Frame.{AwaitsHead, AwaitsBody};
 ghost use Rattle.http_frame.specs.Reply.{is_reply_code};
 
 use http_frame::*;
+use memory_link::{MemSink, MemSource};
 use std::alloc::{AllocError, Global};
 use std::str;
 use std::test::Fail;
-use memory_link::{MemSink, MemSource};
 use survey_link::Failed;
 
 // The bytes of a row as text, which an assertion shows.

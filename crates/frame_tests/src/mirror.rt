@@ -3,11 +3,11 @@ ghost use Rattle.std.specs.Prelude.{◌≡◌, ◌<◌, ◌≤◌, length};
 ghost use Rattle.mirror_frame.specs.Requests.{HasOrder};
 
 use healpix_nested::Cell;
+use memory_link::{MemSink, MemSource};
 use mirror_frame::*;
 use std::alloc::{AllocError, Global};
 use std::str;
 use std::test::Fail;
-use memory_link::{MemSink, MemSource};
 use survey_link::NullSink;
 use tile_path::Path;
 

@@ -1,10 +1,10 @@
 //! Records of sessions about past states, in whatever pieces their bytes come.
 ghost use Rattle.std.specs.Prelude.{◌<◌};
 
+use memory_link::MemSource;
 use past_frame::{MAX_LINE, Record, RecordStop, has_more, read_record};
 use std::alloc::{AllocError, Global};
 use std::test::Fail;
-use memory_link::MemSource;
 use survey_link::Inbox;
 
 // The most bytes that the body of a batch has here.

@@ -2,13 +2,13 @@
 use crate::peers::{opened, replies};
 use hips_mirror::{MirrorRefusal, mirror};
 use log::Log;
+use memory_link::{MemShelf, MemSink, MemSource};
 use parent_rule::Steps;
 use shelf_io::verify;
 use std::alloc::Global;
 use std::test::Fail;
 use std::thread::Threads;
 use std::time::Clock;
-use memory_link::{MemShelf, MemSink, MemSource};
 use survey_link::{OpenGate, Shelf};
 
 // The requests of a copy of a survey without leaves.

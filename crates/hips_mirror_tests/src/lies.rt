@@ -4,11 +4,11 @@ use crate::peers::replies;
 use hips_mirror::MirrorRefusal;
 use log::sink::{Discard, Locked};
 use log::{Level, LevelFilter, Log, Logged};
+use memory_link::{MemShelf, MemSink};
 use std::alloc::Global;
 use std::test::Fail;
 use std::thread::Threads;
 use std::time::Clock;
-use memory_link::{MemShelf, MemSink};
 use survey_link::Shelf;
 use tile_path::Path;
 

@@ -3,6 +3,7 @@ use generation::{Body, Generation};
 use healpix_nested::Cell;
 use http_frame::{Allow, Kind, Number, Reply, write_reply};
 use log::Log;
+use memory_link::{MemShelf, MemSink};
 use parent_rule::Steps;
 use shelf_io::load;
 use small_files::{SURVEY, tile_file};
@@ -10,7 +11,6 @@ use std::alloc::Global;
 use std::test::Fail;
 use std::thread::Threads;
 use std::time::Clock;
-use memory_link::{MemShelf, MemSink};
 use survey_link::{OpenGate, Shelf};
 use tile_path::Path;
 

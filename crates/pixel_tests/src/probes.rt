@@ -3,10 +3,10 @@ ghost use Rattle.std.specs.Prelude.{IfSome};
 ghost use Rattle.leaf_probe.specs.Probe.{IsProbe};
 
 use leaf_probe::{Probe, probe};
+use memory_link::{MemSink, MemSource};
 use parent_rule::Steps;
 use std::alloc::{AllocError, Global};
 use std::test::Fail;
-use memory_link::{MemSink, MemSource};
 
 const LEAF_0: &str = "0000000000000000 0001 0002 0003 0005";
 

@@ -1,6 +1,7 @@
 //! A copy from a session in memory.
 use hips_http::{SessionEnd, session};
 use log::Log;
+use memory_link::{MemShelf, MemSink, MemSource};
 use parent_rule::Steps;
 use reader_pin::Solo;
 use served_copy::mirror_session;
@@ -10,7 +11,6 @@ use std::alloc::Global;
 use std::test::Fail;
 use std::thread::Threads;
 use std::time::Clock;
-use memory_link::{MemShelf, MemSink, MemSource};
 use survey_link::{OpenGate, Shelf};
 
 // Puts a leaf of two blocks, whose file follows, and publishes it.

@@ -1,6 +1,7 @@
 //! Shelves in memory: what is refused, and what is written, compared and read again.
 use generation::Generation;
 use log::Log;
+use memory_link::MemShelf;
 use parent_rule::Steps;
 use shelf_io::{LoadRefusal, Verdict, export, load, verify};
 use small_files::{SURVEY, description_with, tile_file};
@@ -9,7 +10,6 @@ use std::process::Abort;
 use std::test::Fail;
 use std::thread::Threads;
 use std::time::Clock;
-use memory_link::MemShelf;
 use survey_link::{LinkFault, OpenGate, Shelf};
 
 // The small survey with an order out of range.
