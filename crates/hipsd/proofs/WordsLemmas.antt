@@ -1,4 +1,5 @@
 -- What `run` says of words by their status, where no command needs more doors than there are.
+use Rattle.std.proofs.lemmas.Bool.{false≢true}
 use Rattle.std.proofs.Common.{◌≡◌, ℕ, ◌≤◌, ◌∙◌, List, length, ap, sym, subst, arith}
 use Rattle.command_output.specs.Status.{IsAmong}
 use Rattle.leaf_probe.specs.declared.asked.Probe.{Probe}
@@ -31,15 +32,15 @@ none_of_many words doors many none (command, asks) =
 
 -- no command ends by the status of the usage
 never_1 : (command : Command) → ¬ IsAmong (statuses_of command) 1
-never_1 (ProbeCommand asked) ends = ends
-never_1 Session ends = ends
-never_1 Export ends = ends
-never_1 Verify ends = ends
-never_1 (Make n m) ends = ends
-never_1 (Past n) ends = ends
-never_1 (Catalog k n) ends = ends
-never_1 Mirror ends = ends
-never_1 (Serve asked) ends = ends
+never_1 (ProbeCommand asked) ends = false≢true ends
+never_1 Session ends = false≢true ends
+never_1 Export ends = false≢true ends
+never_1 Verify ends = false≢true ends
+never_1 (Make n m) ends = false≢true ends
+never_1 (Past n) ends = false≢true ends
+never_1 (Catalog k n) ends = false≢true ends
+never_1 Mirror ends = false≢true ends
+never_1 (Serve asked) ends = false≢true ends
 
 -- so it is that of words that ask for nothing
 pub usage_only : {S H D : Type 0} (words : List (List ℕ)) (old new : Ends S H D) (status : ℕ)
