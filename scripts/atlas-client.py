@@ -10,7 +10,7 @@ direction a pixel of the picture shows, which cell that is, and which number thi
 - While 16 leaves in view are published together over and over, through a proxy that delays each reply at random, each picture shows
   one generation, that which the page names.
 - A server that goes away is told of in words, and the picture stays; when it is back over its folder, that is shown.
-- What whoever looks at the page does with it, at three sizes (atlas_page.py).
+- What each module of the page answers (atlas_modules.py), and what whoever looks at the page does with it, at three sizes (atlas_page.py).
 - An address without hipsd is told of in words; through the location of examples/nginx.conf the page is the same.
 
 Ends with status 1 and says what is wrong.
@@ -42,6 +42,7 @@ from selenium.webdriver.chrome.service import Service
 from selenium.webdriver.common.action_chains import ActionChains
 from selenium.webdriver.common.by import By
 
+import atlas_modules
 import atlas_page
 from gradient_survey import PAGE, SURVEYS
 from survey_files import tile_path
@@ -54,7 +55,7 @@ CHANGED = (0xFF, 0x7A, 0x1A)
 PAPER = (0xF6, 0xF4, 0xEE)
 MARGIN = 36
 PATIENCE = 30
-PLAIN = "grid=0&coverage=0&cells=0&changes=0&catalogue=0&colours=grey&bend=0"
+PLAIN = "grid=0&compass=0&coverage=0&cells=0&changes=0&catalogue=0&colours=grey"
 
 
 class Delayed(Handler):
@@ -67,6 +68,18 @@ class Delayed(Handler):
     def pass_on(self, path):
         time.sleep(random.uniform(0, self.most))
         super().pass_on(path)
+
+    def do_GET(self):
+        """Also a resolver of names, of the form of Sesame's, which knows one."""
+        if not self.path.startswith("/resolver"):
+            return super().do_GET()
+        known = atlas_modules.SESAME.format(name="M31", ra="84", dec="21.5")
+        body = (known if self.path == "/resolver?M%2031" else atlas_modules.NOTHING).encode()
+        self.send_response(200)
+        self.send_header("Content-Type", "text/xml")
+        self.send_header("Content-Length", str(len(body)))
+        self.end_headers()
+        return self.wfile.write(body)
 
     def ask(self, path):
         answer = super().ask(path)
@@ -190,14 +203,19 @@ class Trial:
         found.wcs.cdelt = [-degrees, -degrees]
         return found
 
+    def sky_of(self, view):
+        """The positions of each second pixel of each second line of the picture, but for its border."""
+        rect = self.browser.find_element(By.ID, "lines").rect
+        height, width = round(rect["height"]), round(rect["width"])
+        lines, columns = (axis.ravel() for axis in numpy.mgrid[1:height - 1:2, 1:width - 1:2])
+        return self.wcs((height, width), *view).all_pix2world(columns, lines, 0)
+
     def compare(self, what, view, order, least=0.9999):
         """Compares a screenshot with the numbers of that order's pixels, whose grey is that of the page."""
-        picture = self.shot()
-        survey, step = self.survey, 2
-        lines, columns = (axis.ravel() for axis in numpy.mgrid[1:picture.shape[0] - 1:step, 1:picture.shape[1] - 1:step])
-        ra, dec = self.wcs(picture.shape[:2], *view).all_pix2world(columns, lines, 0)
+        survey, picture = self.survey, self.shot()
+        ra, dec = self.sky_of(view)
         inside = numpy.isfinite(ra) & numpy.isfinite(dec)
-        shown = picture[lines, columns].astype(int)
+        shown = picture[1:-1:2, 1:-1:2].reshape(-1, 3).astype(int)
         if view[2] > 180:
             self.judge(f"{what}, outside of the sky", (shown[~inside] == PAPER).all(axis=1), least)
         pixels = healpy.ang2pix(2**order, ra[inside], dec[inside], nest=True, lonlat=True)
@@ -211,6 +229,20 @@ class Trial:
         present = ~numpy.isnan(values)
         if len(set(grey[present])) < 4 and not survey.edited:
             self.blame(what, "has too few shades to tell")
+
+    def marks_are_at(self, view, leaf):
+        """The border of the changed cell is orange, and nothing else is."""
+        survey, picture = self.survey, self.shot()
+        ra, dec = healpy.vec2ang(healpy.boundaries(2**survey.top, leaf, step=400, nest=True).T, lonlat=True)
+        columns, lines = numpy.round(self.wcs(picture.shape[:2], *view).all_world2pix(ra, dec, 0)).astype(int)
+        inside = (columns >= 0) & (columns < picture.shape[1]) & (lines >= 0) & (lines < picture.shape[0])
+        orange = is_orange(picture)
+        self.judge("the mark of the changed cell", orange[lines[inside], columns[inside]], 0.99)
+        near = numpy.zeros_like(orange)
+        for column, line in zip(columns[inside], lines[inside]):
+            near[max(0, line - 3):line + 4, max(0, column - 3):column + 4] = True
+        if inside.sum() < 100 or (orange & ~near).any():
+            self.blame("cells are marked that didn't change")
 
     def judge(self, what, agree, least):
         self.compared += len(agree)
@@ -246,9 +278,8 @@ def looks_at_each(trial):
         trial.open(trial.hash(whole))
         trial.compare(f"{depth} bits, the whole sky", whole, 3 + survey.bits)
         trial.open(trial.hash(near))
-        expected = f"tiles of order {survey.top}" if survey.top > 3 else "all-sky mosaic"
-        if trial.text("shown") != expected:
-            trial.blame(f"{depth} bits near: {trial.text('shown')} in place of {expected}")
+        if trial.text("shown") != f"tiles of order {survey.top}":
+            trial.blame(f"{depth} bits near: {trial.text('shown')} in place of order {survey.top}")
         trial.compare(f"{depth} bits, near", near, survey.deep)
         points_at(trial, depth, near)
         for view, order in [BETWEEN[depth]] if depth in BETWEEN else []:
@@ -296,7 +327,7 @@ def publishes(trial):
     trial.compare("an edit that is published", view, survey.deep)
     trial.browser.execute_script("document.getElementById('changes').click()")
     trial.wait("whole", "1")
-    marks_are_at(trial, view, leaf)
+    trial.marks_are_at(view, leaf)
     # The same on the sky as a whole, for which the page is opened anew, and a second publication.
     whole = (40, 0, 360)
     trial.open(trial.hash(whole))
@@ -308,21 +339,6 @@ def publishes(trial):
     del survey.edited[leaf]
     trial.compare("a leaf that was taken away", whole, 3 + survey.bits)
     survey.leaves = kept
-
-
-def marks_are_at(trial, view, leaf):
-    """The border of the changed cell is orange, and nothing else is."""
-    survey, picture = trial.survey, trial.shot()
-    ra, dec = healpy.vec2ang(healpy.boundaries(2**survey.top, leaf, step=400, nest=True).T, lonlat=True)
-    columns, lines = numpy.round(trial.wcs(picture.shape[:2], *view).all_world2pix(ra, dec, 0)).astype(int)
-    inside = (columns >= 0) & (columns < picture.shape[1]) & (lines >= 0) & (lines < picture.shape[0])
-    orange = is_orange(picture)
-    trial.judge("the mark of the changed cell", orange[lines[inside], columns[inside]], 0.99)
-    near = numpy.zeros_like(orange)
-    for column, line in zip(columns[inside], lines[inside]):
-        near[max(0, line - 3):line + 4, max(0, column - 3):column + 4] = True
-    if inside.sum() < 100 or (orange & ~near).any():
-        trial.blame("cells are marked that didn't change")
 
 
 def storms(trial, seconds=10):
@@ -456,8 +472,9 @@ def main():
             goes_through_nginx(trial)
             trial.end()
             trial.serve("page")
+            atlas_modules.tables(trial)
             atlas_page.at_each_size(trial, Delayed.sent)
-            atlas_page.once(trial, Delayed.sent, atlas_page.catalogue_of(Path(folder)))
+            atlas_page.once(trial, Delayed.sent, Path(folder))
             for line in window.get_log("browser"):
                 if "TypeError" in line["message"] or "Uncaught" in line["message"]:
                     trial.blame("the browser says:", line["message"])

@@ -4,9 +4,9 @@
 - Positions that are written, and those that the page doesn't take; what stands under a pointer, after arrow keys, under a finger.
 - Frames a second while the view moves, and how many milliseconds of the browser's main thread each takes; the first picture, also on
   a slow line; how many bytes come for a view, and for a publication; a change that coarser tiles don't show.
-- A tile that examples/edit-tile.py edits.
-- The scale bar, the colour bar, cuts that are typed, galactic coordinates, Back and Forward, files that are saved, dark and light.
-- A server that begins anew; a catalogue over the sky; the picture that WebGL draws.
+- A tile that examples/edit-tile.py edits; a second HiPS beside the survey.
+- The scale bar, the colour bar, cuts that are typed or fitted, galactic coordinates, Back and Forward, files that are saved, dark and light.
+- A server that begins anew; names of objects; a catalogue over the sky; the picture that WebGL draws.
 """
 
 import io
@@ -20,11 +20,12 @@ from urllib.parse import parse_qs
 
 import healpy
 import numpy
-from astropy import units
+from astropy import units, visualization
 from astropy.coordinates import SkyCoord
 from PIL import Image
 from selenium.webdriver.common.action_chains import ActionChains
 from selenium.webdriver.common.by import By
+from selenium.webdriver.common.actions.wheel_input import ScrollOrigin
 from selenium.webdriver.common.keys import Keys
 
 from survey_files import tile_path
@@ -137,20 +138,21 @@ def searches(trial, name):
     place = trial.browser.find_element(By.ID, "place")
     if not place.is_displayed():
         script(trial, "document.getElementById('fold').click()")
-    few = slice(None if name == "1280 by 800" else 1)
-    for text, said in (("M 31", "Names of objects aren't known"), ("83 99", "−90 to +90"), ("83", "two angles"), ("5h60m 22", "below 60"))[few]:
-        place.clear()
-        place.send_keys(text, Keys.ENTER)
+    for text, said in (("M 31", "Names of objects aren't known"), ("83", "two angles")):
+        search(place, text)
         is_said(trial, f"{name}: '{text}'", said, script(trial, "return document.getElementById('refused').textContent"))
-    for text, expected in (("84.0 +21.5", (84, 21.5)), ("80, 20", (80, 20)), ("5h36m00s +21d30m00s", (84, 21.5)), ("05:20:00 +20:00:00", (80, 20)),
-                           ("5 36 0 +21 30 0", (84, 21.5)), ("5h 20m 20°", (80, 20)))[few]:
-        place.clear()
-        place.send_keys(text, Keys.ENTER)
+    for text, expected, understood in (("05:36:00 +21:30:00", (84, 21.5), "RA 84 Dec 21.5, ICRS"), ("Dec 20 RA 80", (80, 20), "RA 80 Dec 20, ICRS")):
+        search(place, text)
         wait_for(trial, f"{name}: '{text}' leads to {view_of(trial)}", lambda expected=expected: view_of(trial)[:2] == expected, 10)
-        if script(trial, "return document.getElementById('refused').textContent"):
-            trial.blame(f"{name}: '{text}' is taken, and still refused")
+        if script(trial, "return document.getElementById('refused').textContent") or place.get_attribute("value") != understood:
+            trial.blame(f"{name}: '{text}' is taken as '{place.get_attribute('value')}'")
     if script(trial, "return document.body.dataset.controls") == "open":
         script(trial, "document.getElementById('fold').click()")
+
+
+def search(place, text):
+    place.clear()
+    place.send_keys(text, Keys.ENTER)
 
 
 def reading_is(trial, what, at):
@@ -269,7 +271,7 @@ def frames(trial, name):
     """Milliseconds of the main thread for a frame of a view that moves, and how many come a second."""
     told = []
     for what, view in (("30 degrees", VIEW), ("whole sky", (40, 0, 360))):
-        turn(trial, view, "grid=1&coverage=1&cells=0&changes=1&colours=dusk&bend=0")
+        turn(trial, view, "grid=1&coverage=1&cells=0&changes=1&colours=dusk")
         trial.browser.execute_cdp_cmd("Performance.enable", {"timeDomain": "threadTicks"})
         # Something else may hold the machine up for a second, hardly for three.
         rate, spent = max((a_second_of_frames(trial) for _ in range(3)), key=lambda found: found[0])
@@ -317,7 +319,7 @@ def small_change(trial, sent):
     resize(trial, *SIZES["1280 by 800"])
 
 
-def once(trial, sent, catalogue):
+def once(trial, sent, folder):
     small_change(trial, sent)
     edits_by_astropy(trial)
     on_a_slow_line(trial, sent)
@@ -328,7 +330,10 @@ def once(trial, sent, catalogue):
     saves(trial)
     turns_dark(trial)
     draws_by_webgl(trial)
-    shows_sources(trial, catalogue)
+    wheels(trial)
+    names_are_known(trial)
+    compares(trial, folder)
+    shows_sources(trial, catalogue_of(folder))
     begins_anew(trial)
 
 
@@ -379,22 +384,91 @@ def begins_as_told(trial):
 
 
 def cuts_are_typed(trial):
+    """Cuts that are numbers, and words on others; cuts that fit what is shown, as numpy finds them; a stretch and inverted colours."""
     turn(trial, VIEW)
-    for name, text, expected in (("low", "-1234.5", "-1234.5"), ("high", "1e4", "10000")):
+    for name, texts in (("low", (("much", "no number"), ("1e9", "below the highest"), ("-20000.5", "-20000.5"))), ("high", (("1e4", "10000"),))):
         box = trial.browser.find_element(By.ID, f"{name}-value")
-        box.clear()
-        box.send_keys("much", Keys.TAB)
-        if box.get_attribute("aria-invalid") != "true":
-            trial.blame("a cut that is no number isn't marked")
-        box.clear()
-        box.send_keys(text, Keys.TAB)
-        found = parse_qs(script(trial, "return location.hash.slice(1)"))[name][0]
-        if found != expected or box.get_attribute("aria-invalid"):
-            trial.blame("a cut of", text, "becomes", found)
+        for text, expected in texts:
+            search(box, text)
+            found = parse_qs(script(trial, "return location.hash.slice(1)"))[name][0]
+            if (box.get_attribute("aria-invalid") == "true") == (found == expected) or expected not in (found + trial.text("cut-refused")):
+                trial.blame("a cut of", text, "becomes", found, trial.text("cut-refused"))
+    script(trial, """for (const [name, value] of [["fit", "90 %"], ["stretch", "log"]]) { const list = document.getElementById(name); list.value = value; list.dispatchEvent(new Event("input")); }
+        document.getElementById("inverted").click()""")
+    trial.wait("whole")
+    picture, pixels = trial.shot(), trial.sky_of(VIEW)
+    values = trial.survey.numbers(trial.survey.deep, healpy.ang2pix(2**trial.survey.deep, *pixels, nest=True, lonlat=True))
+    low, high = (float(parse_qs(script(trial, "return location.hash.slice(1)"))[name][0]) for name in ("low", "high"))
+    if not numpy.allclose((low, high), numpy.nanpercentile(values, (5, 95)), rtol=0.02):
+        trial.blame("90 % of what is shown lie between", (low, high), "in place of", numpy.nanpercentile(values, (5, 95)))
+    part = visualization.LogStretch(1000)(numpy.clip((values - low) / (high - low), 0, 1))
+    grey = numpy.where(numpy.isnan(values), 0x17, 255 - numpy.round(255 * part))
+    trial.judge("the log stretch, inverted", abs(picture[1:-1:2, 1:-1:2, 0].ravel() - grey) <= 1, 0.999)
+    script(trial, "document.getElementById('inverted').click()")
+
+
+def names_are_known(trial):
+    """By a resolver, where one is told."""
+    trial.base, words = trial.base + "/atlas/?resolver=/resolver", trial.base
+    trial.browser.get("about:blank")
+    trial.browser.get(trial.base + trial.hash(VIEW))
+    trial.wait("whole")
+    place = trial.browser.find_element(By.ID, "place")
+    for text, said in (("M 31", ""), ("Nothing 1", "No object is known as “Nothing 1”")):
+        search(place, text)
+        wait_for(trial, f"the name {text}", lambda said=said: view_of(trial)[:2] == (84, 21.5) and trial.text("refused") == said + ("." if said else ""), 10)
+    trial.base = words
+
+
+def wheels(trial):
+    """From the whole sky to a part and back; `=` is the key of `+` without Shift."""
+    turn(trial, (40, 0, 360))
+    canvas = trial.browser.find_element(By.ID, "lines")
+    for steps, is_whole in ((-2, False), (9, True)):
+        ActionChains(trial.browser).scroll_from_origin(ScrollOrigin.from_element(canvas), 0, 100 * steps).perform()
+        for _ in range(abs(steps) - 1):
+            ActionChains(trial.browser).scroll_from_origin(ScrollOrigin.from_element(canvas), 0, 100 * steps).perform()
+        wait_for(trial, f"{steps} steps of the wheel lead to {view_of(trial)}", lambda is_whole=is_whole: (view_of(trial)[2] == 360) == is_whole, 5)
+    canvas.send_keys("=")
+    wait_for(trial, f"the key = leads to {view_of(trial)}", lambda: view_of(trial)[2] < 180, 5)
+
+
+def compares(trial, folder):
+    """A second HiPS, without Moc.fits and with leaves alone, one of which is another: behind the line, in turn, and outlined."""
+    survey, view = trial.survey, (80, 20, 12)
+    ra, dec = trial.sky_of(view)
+    leaf = int(healpy.ang2pix(2**survey.top, *view[:2], nest=True, lonlat=True))
+    for one in numpy.unique(healpy.ang2pix(2**survey.top, ra, dec, nest=True, lonlat=True)).tolist():
+        path = folder / "past" / tile_path(survey.top, one)
+        path.parent.mkdir(parents=True, exist_ok=True)
+        path.write_bytes(survey.file(one, 12000 if one == leaf else None))
+    (folder / "past/properties").write_text(f"obs_title = Before\nhips_order = {survey.top}\nhips_tile_width = {2**survey.bits}\nhips_tile_format = fits\n")
+    trial.page.folders["past"] = folder / "past"
+    trial.open(trial.hash(view) + "&second=/past&changes=1")
+    is_said(trial, "two states", f"1 tile of order {survey.top} in view differ", trial.text("differs"))
+    survey.edited[leaf] = 12000
+    for part in (0, 100):
+        script(trial, "const line = document.getElementById('curtain'); line.value = arguments[0]; line.dispatchEvent(new Event('input'))", part)
+        script(trial, f"if (document.getElementById('changes').checked !== {str(part == 0).lower()}) document.getElementById('changes').click()")
+        trial.wait("whole")
+        if part == 0:
+            trial.marks_are_at(view, leaf)
+            script(trial, "document.getElementById('changes').click()")
+            trial.wait("whole")
+        else:
+            del survey.edited[leaf]
+        trial.compare(f"two states, the line at {part} %", view, survey.deep, 0.98)
+    before = trial.shot()
+    script(trial, "document.getElementById('blink').click()")
+    wait_for(trial, "the two states aren't shown in turn", lambda: (trial.shot() != before).any(), 4)
+    search(trial.browser.find_element(By.ID, "second"), "https://elsewhere.example/hips")
+    is_said(trial, "a HiPS from elsewhere", "from this server only", trial.text("second-refused"))
+    search(trial.browser.find_element(By.ID, "second"), "/nowhere")
+    wait_for(trial, "a HiPS that isn't there", lambda: "There is no properties file" in trial.text("second-refused"), 5)
 
 
 def is_galactic(trial):
-    turn(trial, VIEW, "grid=1&galactic=1&coverage=0&cells=0&changes=0&colours=grey&bend=0")
+    turn(trial, VIEW, "grid=1&galactic=1&coverage=0&cells=0&changes=0&colours=grey")
     canvas = trial.browser.find_element(By.ID, "lines")
     script(trial, "arguments[0].addEventListener('pointermove', (event) => { window.at = [event.offsetX, event.offsetY]; })", canvas)
     ActionChains(trial.browser).move_to_element_with_offset(canvas, 60, 40).perform()
@@ -481,9 +555,9 @@ def draws_by_webgl(trial):
 
 def shows_sources(trial, catalogue):
     """Rings where the sources are, and the row of one that is clicked."""
-    trial.page.catalogue = catalogue
+    trial.page.folders["catalogue"] = catalogue
     view = (80, 20, 20)
-    trial.open(trial.hash(view, "grid=0&coverage=0&cells=0&changes=0&colours=grey&bend=0&catalogue=1"))
+    trial.open(trial.hash(view, "grid=0&coverage=0&cells=0&changes=0&colours=grey&catalogue=1"))
     wait_for(trial, "no catalogue is shown", lambda: script(trial, "return !document.getElementById('has-catalogue').hidden"), 10)
     is_said(trial, "the catalogue's name", "Made sources (3 sources)", script(trial, "return document.getElementById('catalogue-title').textContent"))
     time.sleep(0.6)
@@ -496,8 +570,11 @@ def shows_sources(trial, catalogue):
     canvas = trial.browser.find_element(By.ID, "lines")
     ActionChains(trial.browser).move_to_element_with_offset(canvas, round(columns[1] - canvas.rect["width"] / 2), round(lines[1] - canvas.rect["height"] / 2)).click().perform()
     is_said(trial, "a source that is clicked", "second", trial.text("source"))
-    is_said(trial, "a source that is clicked", "7.25", trial.text("source"))
-    trial.page.catalogue = None
+    is_said(trial, "a source that is clicked", "7.25 mag", trial.text("source"))
+    trial.browser.find_element(By.ID, "close").click()
+    if trial.browser.find_element(By.ID, "source").is_displayed():
+        trial.blame("the row of a source isn't closed")
+    del trial.page.folders["catalogue"]
 
 
 def begins_anew(trial):
@@ -519,4 +596,5 @@ def catalogue_of(folder):
     (folder / "catalogue/Norder1").mkdir(parents=True)
     (folder / "catalogue/Norder1/Allsky.tsv").write_text(text)
     (folder / "catalogue/properties").write_text("obs_title = Made sources\ndataproduct_type = catalog\nhips_order = 1\nhips_cat_nrows = 3\n")
+    (folder / "catalogue/metadata.xml").write_text('<VOTABLE><RESOURCE><TABLE><FIELD name="mag" datatype="double" unit="mag"/></TABLE></RESOURCE></VOTABLE>')
     return folder / "catalogue"

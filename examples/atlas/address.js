@@ -2,29 +2,39 @@
 
 import { COLOURS } from "./colours.js";
 import { WHOLE_SKY } from "./projection.js";
+import { STRETCHES } from "./stretch.js";
 
-/** What an address says, and for what it doesn't say what was known: {isTold, view, scale, switches}. */
-export function readAddress(hash, { scale, switches }) {
+/** What an address says, and for what it doesn't say what was known: {isTold, view, scale, switches, second}. */
+export function readAddress(hash, { scale, switches, second }) {
     const words = new URLSearchParams(hash.slice(1));
     const number = (name, absent) => (Number.isFinite(parseFloat(words.get(name))) ? parseFloat(words.get(name)) : absent);
-    const colours = COLOURS.includes(words.get("colours")) ? words.get("colours") : scale.colours;
-    const isOn = ([name, known]) => [name, words.has(name) ? words.get(name) === "1" : known];
+    const oneOf = (name, known, absent) => (known.includes(words.get(name)) ? words.get(name) : absent);
+    const isOn = (name, known) => (words.has(name) ? words.get(name) === "1" : known);
     return {
         isTold: words.has("ra") || words.has("dec") || words.has("width"),
-        view: { ra: number("ra", 0), dec: number("dec", 0), width: number("width", WHOLE_SKY) },
-        scale: { low: number("low", scale.low), high: number("high", scale.high), bend: number("bend", 0), colours },
-        switches: Object.fromEntries(Object.entries(switches).map(isOn)),
+        view: { ra: number("ra", 0), dec: number("dec", 0), width: number("width", WHOLE_SKY), turn: number("turn", 0) },
+        scale: {
+            low: number("low", scale.low),
+            high: number("high", scale.high),
+            stretch: oneOf("stretch", Object.keys(STRETCHES), scale.stretch),
+            colours: oneOf("colours", COLOURS, scale.colours),
+            isInverted: isOn("inverted", scale.isInverted),
+        },
+        switches: Object.fromEntries(Object.entries(switches).map(([name, known]) => [name, isOn(name, known)])),
+        second: words.get("second") ?? second,
     };
 }
 
 /** The view as it stands in an address: two views with the same texts are one. */
-export function viewWords({ ra, dec, width }) {
-    return { ra: ra.toFixed(6), dec: dec.toFixed(6), width: width.toPrecision(6) };
+export function viewWords({ ra, dec, width, turn }) {
+    const words = { ra: ra.toFixed(6), dec: dec.toFixed(6), width: width.toPrecision(6) };
+    return turn === 0 ? words : { ...words, turn: turn.toFixed(3) };
 }
 
-export function writeAddress(view, scale, switches) {
-    const words = { ...viewWords(view), bend: scale.bend, colours: scale.colours };
-    for (const name of ["low", "high"]) if (scale[name] !== null) words[name] = scale[name];
+export function writeAddress(view, { low, high, stretch, colours, isInverted }, switches, second) {
+    const words = { ...viewWords(view), stretch, colours, inverted: isInverted ? "1" : "0" };
+    for (const [name, value] of Object.entries({ low, high })) if (value !== null) words[name] = value;
     for (const [name, isOn] of Object.entries(switches)) words[name] = isOn ? "1" : "0";
+    if (second) words.second = second;
     return `#${new URLSearchParams(words)}`;
 }

@@ -1,29 +1,34 @@
-// The page: what is drawn when, its controls, and what is said beside the picture.
+// The page: what is drawn when, and how its parts go together.
 
 import { readAddress, viewWords, writeAddress } from "./address.js";
+import { positionText } from "./angles.js";
 import { Catalogue } from "./catalogue.js";
-import { COLOURS, shader, tableOf, usualRange } from "./colours.js";
+import { coarsened } from "./changes.js";
+import { COLOURS } from "./colours.js";
+import { Compare } from "./compare.js";
 import { gpuOf } from "./gpu.js";
-import { fromDegrees, locate, toDegrees } from "./healpix.js";
+import { locate } from "./healpix.js";
 import { Lines } from "./lines.js";
 import { Live } from "./live.js";
+import { leafPixel, orderFor } from "./orders.js";
+import { element, mark, remembered } from "./panel.js";
 import { Picture } from "./picture.js";
 import { connectPointer } from "./pointer.js";
-import { angleText, fromGalactic, galacticText, positionText, readPosition, toGalactic } from "./position.js";
 import { WHOLE_SKY } from "./projection.js";
+import { sayCatalogue, sayPoint, sayScale, saySource, sayState, sayTile } from "./said.js";
 import { savePicture } from "./save.js";
-import { tilePath } from "./survey.js";
+import { ScaleControls } from "./scale.js";
+import { connectSearch } from "./search.js";
 import { View } from "./view.js";
-import { counted, facts, faultText, newsText, readingOf, short } from "./words.js";
+import { readingOf } from "./words.js";
 
-const MOST_TILES_IN_VIEW = 200;
+const SKY_ORDER = 3;
 const SETTLED_AFTER = 160;
 const ZOOM = 1.5;
 const LEAST_PIXELS_ACROSS = 6;
-const DEGREES_OF_A_FACE = 58.63;
-const GO_TO_WIDTH = 30;
-const RULER = 120;
-const SWITCHES = { grid: true, galactic: false, coverage: true, cells: false, changes: true, catalogue: true };
+const WIDEST_FIELD = 20;
+const SAMPLES = 30_000;
+const SWITCHES = { grid: true, compass: true, galactic: false, coverage: true, cells: false, changes: true, catalogue: true };
 // While the view moves without WebGL, squares of so many pixels are drawn; larger ones where frames take so many milliseconds, and
 // smaller ones where their drawing takes so few.
 const SQUARES = { least: 2, first: 4, most: 8 };
@@ -32,28 +37,21 @@ const QUICK_DRAWING = 6;
 // With WebGL, places are known this coarsely while it moves: enough to tell which tiles are in view.
 const COARSE = 8;
 
-const element = (id) => document.getElementById(id);
-
-/** Sets a text, where it is another. */
-function say(id, text) {
-    if (element(id).textContent !== text) element(id).textContent = text;
-}
-
 class Atlas {
     constructor(address, catalogue, drawBy) {
         this.address = address;
         this.view = new View();
-        this.scale = { low: null, high: null, bend: 0, colours: COLOURS[0] };
+        this.scale = { low: null, high: null, stretch: "linear", colours: COLOURS[0], isInverted: false };
         this.switches = { ...SWITCHES };
+        this.second = "";
         this.picture = new Picture(element("pixels"));
         this.gpu = drawBy === "cpu" ? null : gpuOf(element("moving"), drawBy === "gpu");
         this.lines = new Lines(element("lines"));
-        this.live = new Live(address, {
-            inView: (generation) => this.inView(generation),
-            opened: (generation) => this.opened(generation),
-            changed: () => this.changed(),
-        });
+        const inView = (generation) => this.inView(generation);
+        this.live = new Live(address, { inView, opened: (generation) => this.opened(generation), changed: () => this.changed() });
         this.catalogue = new Catalogue(catalogue, () => this.draw());
+        this.compare = new Compare({ inView, compared: () => this.changed(), opened: (second) => this.compared(second) });
+        this.scaleControls = new ScaleControls(this);
         this.seen = new Map();
         this.squares = SQUARES.first;
         this.pointed = null;
@@ -81,8 +79,9 @@ class Atlas {
     place() {
         if (this.isPlaced) return;
         this.isPlaced = true;
-        this.byGpu = this.isMoving && this.gpu !== null && this.gpu.draws(this.view.projection);
-        this.picture.place(this.view.projection, ...this.view.size, !this.isMoving ? 1 : this.byGpu ? COARSE : this.squares);
+        this.byGpu = this.isMoving && !this.compare.shown && this.gpu !== null && this.gpu.draws(this.view.projection);
+        this.step = !this.isMoving ? 1 : this.byGpu ? COARSE : this.squares;
+        this.picture.place(this.view.projection, ...this.view.size, this.step);
     }
 
     cellsOf(order) {
@@ -91,21 +90,21 @@ class Atlas {
         return this.seen.get(order);
     }
 
-    /** The order whose pixels are at least as fine as the screen's, within those that there are and the most tiles at once. */
-    orderFor({ order, width, skyBits }) {
-        const { projection } = this.view;
-        const wanted = Math.log2(DEGREES_OF_A_FACE / projection.pixel);
-        const pixelBits = Math.log2(width);
-        if (wanted <= 3 + skyBits || (skyBits === pixelBits && order === 3)) return null;
-        const most = Math.floor(Math.log2(MOST_TILES_IN_VIEW / (12 * projection.share)) / 2);
-        const found = Math.min(order, most, Math.ceil(wanted - pixelBits - 0.01));
-        return found < 3 || found + pixelBits <= 3 + skyBits ? null : found;
+    orderOf(generation) {
+        return orderFor(generation, this.view.projection);
     }
 
     /** The tiles that the picture needs of a generation. */
     inView(generation) {
-        const order = this.orderFor(generation);
+        const order = this.orderOf(generation);
         return { order, cells: order === null ? [] : this.cellsOf(order) };
+    }
+
+    /** Some of the values that are shown. */
+    samples() {
+        this.place();
+        this.read();
+        return this.picture.samples(SAMPLES);
     }
 
     // ---- how it moves
@@ -142,7 +141,19 @@ class Atlas {
         }
         this.writeHash(true);
         this.live.viewed();
+        this.compare.second?.view();
         if (this.switches.catalogue) this.catalogue.view((order) => this.cellsOf(order));
+    }
+
+    /** Goes to a position that was written, near enough to see what is there. */
+    found(ra, dec) {
+        this.moveTo({ ra, dec, width: Math.min(this.view.width, this.field) });
+    }
+
+    /** How wide the survey is to be seen first. */
+    get field() {
+        const { shown } = this.live;
+        return shown ? shown.number("hips_initial_fov") ?? Math.min(WIDEST_FIELD, shown.coverage.side) : WIDEST_FIELD;
     }
 
     // ---- drawing
@@ -155,38 +166,29 @@ class Atlas {
         const cuts = (generation.properties.get("hips_pixel_cut") ?? "").split(/\s+/).map(Number);
         if (this.scale.low === null && cuts.length === 2 && cuts[0] < cuts[1]) Object.assign(this.scale, { low: cuts[0], high: cuts[1] });
         this.isCut = this.scale.low !== null;
-        this.showScale();
+        this.scaleControls.show();
     }
 
     /** The survey is another, or more of it is here. */
     changed() {
         const generation = this.live.shown;
-        if (generation && !this.isCut) this.cut(generation);
-        if (generation) this.view.least = (DEGREES_OF_A_FACE / 2 ** generation.order / generation.width) * LEAST_PIXELS_ACROSS;
         this.isRead = false;
+        if (generation && !this.isCut) this.cut(generation);
+        if (generation) this.view.least = leafPixel(generation) * LEAST_PIXELS_ACROSS;
         this.draw();
     }
 
     /** The layers that show the view, the finest first. */
     layers(generation) {
-        return generation.shownBy(this.orderFor(generation));
+        return generation.shownBy(this.orderOf(generation));
     }
 
     /** The first cuts, where none were told: they fit the coarse tiles in view, and then all that is. */
     cut(generation) {
         const [next] = this.live.lacking(generation);
         if (next && (next.isCoarse || this.scale.low !== null)) return;
-        this.fit();
+        this.scaleControls.fit();
         this.isCut = next === undefined;
-    }
-
-    /** Cuts that fit what is shown. */
-    fit() {
-        const inView = (layer) => this.cellsOf(layer.order).map((cell) => layer.tiles.get(cell)).filter(Boolean);
-        const tiles = this.layers(this.live.shown).map(inView).find(({ length }) => length > 0);
-        if (!tiles) return;
-        Object.assign(this.scale, usualRange(tiles));
-        this.showScale();
     }
 
     /** Draws at the next frame, once for all that asked until then. */
@@ -204,6 +206,7 @@ class Atlas {
         this.lines.begin(this.view.projection, ...this.view.size, this.density);
         if (generation) this.drawSurvey(generation);
         if (this.switches.grid) this.lines.grid(this.view, this.switches.galactic);
+        if (this.switches.compass && !this.view.projection.isWhole) this.lines.compass();
         if (this.switches.catalogue) this.catalogue.draw(this.lines.brush, this.view.projection, ...this.view.size, this.density);
         this.tell(generation);
         if (this.isMoving && !this.byGpu) this.pace(performance.now() - begun, begun - (this.drawn ?? begun));
@@ -219,142 +222,83 @@ class Atlas {
     drawSurvey(generation) {
         const { order, cells } = this.inView(generation);
         const layers = this.layers(generation);
-        const { low, high, ...others } = this.scale;
-        const scale = { low: low ?? 0, high: high ?? 1, ...others };
+        const scale = { ...this.scale, low: this.scale.low ?? 0, high: this.scale.high ?? 1 };
         const coverage = this.switches.coverage && generation.coverage;
         element("moving").hidden = !this.byGpu;
         if (this.byGpu) {
             this.gpu.draw(this.view.projection, ...this.view.size, { scale, layers, cells: (at) => this.cellsOf(at), coverage });
         } else {
-            if (!this.isRead) this.picture.read(layers, order === null ? null : generation.coverage);
-            this.isRead = true;
+            this.read();
             this.picture.paint(scale, coverage);
         }
-        if (this.switches.cells) this.lines.cells(order ?? 3, order === null ? this.cellsOf(3) : cells);
-        if (this.switches.changes && this.live.changes) this.lines.changed(this.live.changes);
+        if (this.switches.cells) this.lines.cells(order ?? SKY_ORDER, order === null ? this.cellsOf(SKY_ORDER) : cells);
+        if (this.switches.changes && this.changes) this.lines.changed(coarsened(this.changes));
+        if (this.compare.shown) this.lines.curtain(this.compare.columnOf(this.view.size[0]), this.compare.second.address);
         if (layers.some(({ tiles }) => tiles.size > 0)) document.body.dataset.first ??= Math.round(performance.now());
+    }
+
+    /** Reads the values of the picture's pixels, once until it is another. */
+    read() {
+        if (this.isRead || !this.live.shown) return;
+        this.isRead = true;
+        const sources = [[this.live.shown, 0], [this.compare.shown, this.compare.columnOf(this.view.size[0]) / this.step]];
+        for (const [generation, from] of sources) {
+            if (generation && from < this.picture.width) this.picture.read(this.layers(generation), this.coverageFor(generation), Math.ceil(from));
+        }
+        if (this.isMoving) return;
+        this.compare.differ(this.live.shown, this.inView(this.live.shown));
+        this.scaleControls.showSamples(this.picture.samples(SAMPLES));
+    }
+
+    /** Where tiles are shown, cells without leaves are known to be blank. */
+    coverageFor(generation) {
+        return this.orderOf(generation) === null ? null : generation.coverage;
+    }
+
+    /** What the marks show: how the second HiPS differs, or what the last publication changed. */
+    get changes() {
+        return this.compare.shown ? this.compare.differences : this.live.changes;
     }
 
     // ---- what is said
 
+    get isWhole() {
+        return this.live.isWhole && this.compare.isWhole;
+    }
+
     tell(generation) {
-        const { fault, coming, isWhole } = this.live;
-        say("message", fault ? faultText(fault, generation) : "");
-        element("message").hidden = !fault;
-        const state = fault ? "away" : isWhole && !this.isMoving ? "whole" : "loading";
-        const sure = state === "whole" && this.live.isSure ? "1" : "0";
-        const data = { state, generation: generation ? String(generation.prefix) : "", sure };
-        for (const [name, value] of Object.entries(data)) if (document.body.dataset[name] !== value) document.body.dataset[name] = value;
-        const loading = coming && generation ? "next generation is coming" : "loading";
-        say("state", { away: generation ? "no server" : "no survey", whole: "complete", loading }[state]);
-        this.tellScale();
-        this.tellPoint(generation);
-        element("has-catalogue").hidden = !this.catalogue.isThere;
-        if (!generation) return;
-        const order = this.orderFor(generation);
-        say("title", generation.properties.get("obs_title"));
-        say("facts", facts(generation.properties));
-        say("generation", `after ${counted(generation.prefix, "published edit")}`);
-        say("shown", order === null ? "all-sky mosaic" : `tiles of order ${order}`);
-        say("news", newsText(this.live.changes));
-        if (this.catalogue.isThere) say("catalogue-title", `${this.catalogue.title} (${counted(this.catalogue.count, "source")})`);
+        sayState(this, generation && this.orderOf(generation));
+        sayScale(this.view, this.density);
+        sayCatalogue(this.catalogue);
+        this.tellPoint();
     }
 
-    /** The scale bar, and how much of the sky the picture is wide and high. */
-    tellScale() {
-        const { projection, size } = this.view;
-        const { angle, pixels } = this.view.ruler(RULER * this.density);
-        const width = `${Math.round(pixels / this.density)}px`;
-        if (element("scale-bar").style.width !== width) element("scale-bar").style.width = width;
-        const field = projection.isWhole ? "whole sky" : size.map((side) => angleText(side * projection.pixel)).join(" × ");
-        say("scale-text", `${angleText(angle)}, ${field}`);
-    }
-
-    /** What stands where the pointer is, or was when it tapped. */
-    tellPoint(generation) {
+    /** What stands where the pointer is, or was when it tapped, in the HiPS that is shown there. */
+    tellPoint() {
         const { projection } = this.view;
         const sky = this.pointed && projection.toSky(...this.pointed);
-        const reading = sky && generation ? this.readingAt(generation, sky) : null;
-        const text = () => (this.switches.galactic ? galacticText(toDegrees(toGalactic(sky)), projection.pixel) : positionText(toDegrees(sky), projection.pixel));
-        say("position", sky ? text() : "");
-        say("value", reading?.text ?? "");
-        this.tellMark(reading?.value ?? NaN);
-        if (reading?.cell !== undefined) this.tellTile(reading);
-    }
-
-    readingAt(generation, sky) {
-        const coverage = this.orderFor(generation) === null ? null : generation.coverage;
-        return readingOf(this.layers(generation), coverage, locate(sky, {}));
-    }
-
-    tellMark(value) {
-        const mark = element("mark");
-        mark.hidden = Number.isNaN(value) || this.scale.low === null;
-        if (!mark.hidden) mark.style.left = `${(100 * shader(this.scale)(value)) / 255}%`;
-    }
-
-    /** The tile under the pointer can be saved, also once the pointer has gone to the button. */
-    tellTile({ order, cell }) {
-        const path = tilePath(order, cell);
-        const link = element("tile");
-        if (link.dataset.path === path) return;
-        const download = path.replaceAll("/", "_");
-        Object.assign(link, { hidden: false, href: `${this.address}/${path}`, download, textContent: `Save tile ${order}/${cell}` });
-        link.dataset.path = path;
-    }
-
-    tellSource() {
-        const { picked } = this.catalogue;
-        element("source").hidden = !picked;
-        const cellOfTable = (kind, textContent) => Object.assign(document.createElement(kind), { textContent });
-        element("source").replaceChildren(...(picked?.names ?? []).map((name, at) => {
-            const row = document.createElement("tr");
-            row.append(cellOfTable("th", name), cellOfTable("td", picked.values[at]));
-            return row;
-        }));
+        const isSecond = this.pointed && this.pointed[0] >= this.compare.columnOf(this.view.size[0]);
+        const generation = isSecond ? this.compare.shown : this.live.shown;
+        const reading = sky && generation ? readingOf(this.layers(generation), this.coverageFor(generation), locate(sky, {})) : null;
+        sayPoint(sky, reading, this.switches.galactic, projection.pixel);
+        this.scaleControls.mark(reading?.value ?? NaN);
+        if (reading?.cell !== undefined) sayTile(isSecond ? this.compare.second.address : this.address, reading);
     }
 
     // ---- controls
 
-    /** The sliders and switches show what is set. */
-    showScale() {
-        const { low, high } = this.scale;
-        const [from, to] = [Math.min(low ?? 0, high ?? 1), Math.max(low ?? 0, high ?? 1)];
-        const reach = (to - from) / 2 || 1;
-        for (const name of ["low", "high"]) {
-            Object.assign(element(name), { min: from - reach, max: to + reach, value: this.scale[name] ?? 0 });
-        }
-        element("bend").value = this.scale.bend;
-        element("colours").value = this.scale.colours;
-        for (const name of Object.keys(SWITCHES)) element(name).checked = this.switches[name];
-        this.showLevels();
-    }
-
-    showLevels() {
-        for (const name of ["low", "high"]) {
-            element(`${name}-value`).value = this.scale[name] === null ? "" : short(this.scale[name]);
-            element(`${name}-value`).removeAttribute("aria-invalid");
-        }
-        element("bend-value").textContent = this.scale.bend === 0 ? "linear" : this.scale.bend.toFixed(1);
-        const bar = element("colour-bar").getContext("2d");
-        const image = bar.createImageData(256, 1);
-        new Uint32Array(image.data.buffer).set(tableOf(this.scale.colours));
-        bar.putImageData(image, 0, 0);
-    }
-
-    connect() {
-        element("colours").append(...COLOURS.map((name) => new Option(name)));
-        this.showScale();
-        for (const name of ["low", "high", "bend"]) {
-            element(name).addEventListener("input", () => this.setScale(name, Number(element(name).value)));
-        }
-        for (const name of ["low", "high"]) element(`${name}-value`).addEventListener("change", () => this.typed(name));
-        element("colours").addEventListener("input", () => this.setScale("colours", element("colours").value));
-        element("usual").addEventListener("click", () => this.setUsual());
+    connect(resolver) {
         for (const name of Object.keys(SWITCHES)) element(name).addEventListener("input", () => this.setSwitch(name, element(name).checked));
         element("fold").addEventListener("click", () => this.fold());
         element("dark").addEventListener("click", () => this.turnTheme());
+        element("close").addEventListener("click", () => this.pickNone());
+        window.addEventListener("keydown", (event) => event.key === "Escape" && this.pickNone());
+        connectSearch(resolver, { isGalactic: () => this.switches.galactic, found: (ra, dec) => this.found(ra, dec) });
+        this.scaleControls.connect();
+        this.compare.connect();
+        this.showSwitches();
         this.connectView();
+        if (this.second) this.compare.open(this.second);
     }
 
     connectView() {
@@ -362,8 +306,7 @@ class Atlas {
         element("nearer").addEventListener("click", () => this.zoom(1 / ZOOM, middle()));
         element("farther").addEventListener("click", () => this.zoom(ZOOM, middle()));
         element("whole").addEventListener("click", () => this.moveTo({ ...this.view, width: WHOLE_SKY }));
-        element("go").addEventListener("submit", (event) => this.go(event));
-        element("place").addEventListener("input", () => this.refuse(""));
+        element("north").addEventListener("click", () => this.moveTo({ ...this.view, turn: 0 }));
         element("save").addEventListener("click", () => this.save());
         window.addEventListener("resize", () => {
             this.measure();
@@ -384,41 +327,37 @@ class Atlas {
 
     point(pointed) {
         this.pointed = pointed;
-        if (this.frame === null || this.frame === undefined) this.tellPoint(this.live.shown);
+        if (this.frame === null || this.frame === undefined) this.tellPoint();
     }
 
     pick(point) {
         if (!this.switches.catalogue || !this.catalogue.isThere) return;
         this.catalogue.pick(point, this.view.projection, ...this.view.size, this.density);
-        this.tellSource();
+        saySource(this.catalogue);
         this.draw();
     }
 
-    setScale(name, value) {
+    pickNone() {
+        this.catalogue.picked = null;
+        saySource(this.catalogue);
+        this.draw();
+    }
+
+    showSwitches() {
+        for (const name of Object.keys(SWITCHES)) element(name).checked = this.switches[name];
+    }
+
+    /** A person has set cuts, stretch or colours. */
+    scaled() {
         this.isCut = true;
-        this.scale[name] = value;
-        this.showLevels();
         this.draw();
         this.writeHash();
     }
 
-    /** A cut that is typed: any number. */
-    typed(name) {
-        const text = element(`${name}-value`).value.trim().replace("−", "-");
-        const value = Number(text);
-        if (text === "" || !Number.isFinite(value)) return element(`${name}-value`).setAttribute("aria-invalid", "true");
-        this.isCut = true;
-        this.scale[name] = value;
-        this.showScale();
-        this.draw();
-        return this.writeHash();
-    }
-
-    setUsual() {
-        if (!this.live.shown) return;
-        this.scale.bend = 0;
-        this.fit();
-        this.draw();
+    /** A second HiPS is shown, at an address, or none is. */
+    compared(second) {
+        this.second = second;
+        this.isPlaced = false;
         this.writeHash();
     }
 
@@ -431,7 +370,7 @@ class Atlas {
 
     fold() {
         const isOpen = document.body.dataset.controls !== "open";
-        document.body.dataset.controls = isOpen ? "open" : "";
+        mark({ controls: isOpen ? "open" : "" });
         element("fold").setAttribute("aria-expanded", String(isOpen));
     }
 
@@ -439,24 +378,7 @@ class Atlas {
         const theme = document.documentElement.dataset.theme === "dark" ? "light" : "dark";
         document.documentElement.dataset.theme = theme;
         remembered((storage) => storage.setItem("atlas-theme", theme));
-    }
-
-    /** Goes to a position that is written, or says what is wrong with it. */
-    go(event) {
-        event.preventDefault();
-        const { galactic } = this.switches;
-        const found = readPosition(element("place").value, galactic);
-        this.refuse(found.fault ?? "");
-        if (found.fault) return;
-        const direction = fromDegrees(found.along, found.above);
-        const [ra, dec] = galactic ? toDegrees(fromGalactic(direction)) : [found.along, found.above];
-        this.moveTo({ ra, dec, width: Math.min(this.view.width, GO_TO_WIDTH) });
-    }
-
-    refuse(text) {
-        say("refused", text);
-        if (text) element("place").setAttribute("aria-invalid", "true");
-        else element("place").removeAttribute("aria-invalid");
+        this.scaleControls.showHistogram();
     }
 
     save() {
@@ -482,35 +404,29 @@ class Atlas {
     writeHash(isOther = false) {
         const key = this.viewKey();
         const isPushed = isOther && this.written !== undefined && this.written !== key;
-        window.history[isPushed ? "pushState" : "replaceState"](null, "", writeAddress(this.view, this.scale, this.switches));
+        window.history[isPushed ? "pushState" : "replaceState"](null, "", writeAddress(this.view, this.scale, this.switches, this.second));
         this.written = key;
         this.hash = window.location.hash;
     }
 
     returned() {
         if (window.location.hash === this.hash) return;
+        const { second } = this;
         this.hash = window.location.hash;
         this.readHash();
-        this.showScale();
+        if (this.second !== second) this.compare.open(this.second);
+        this.scaleControls.show();
+        this.showSwitches();
         this.written = undefined;
         this.moveTo(this.view);
-    }
-}
-
-/** What the browser remembers of this page, where it may. */
-function remembered(use) {
-    try {
-        return use(window.localStorage);
-    } catch {
-        return null;
     }
 }
 
 const words = new URLSearchParams(window.location.search);
 const isDark = window.matchMedia("(prefers-color-scheme: dark)").matches;
 document.documentElement.dataset.theme = remembered((storage) => storage.getItem("atlas-theme")) ?? (isDark ? "dark" : "light");
-const address = (words.get("survey") ?? document.body.dataset.survey).replace(/\/$/, "");
-const atlas = new Atlas(address, (words.get("catalogue") ?? document.body.dataset.catalogue).replace(/\/$/, ""), words.get("draw"));
-atlas.connect();
+const configured = (name) => (words.get(name) ?? document.body.dataset[name]).replace(/\/$/, "");
+const atlas = new Atlas(configured("survey"), configured("catalogue"), words.get("draw"));
+atlas.connect(configured("resolver"));
 atlas.live.start();
 atlas.catalogue.open().then(() => atlas.catalogue.view((order) => atlas.cellsOf(order)));

@@ -17,6 +17,7 @@ export class Catalogue {
     constructor(address, onChange) {
         Object.assign(this, { address, onChange });
         this.orders = new Map();
+        this.units = new Map();
         this.picked = null;
         this.isThere = false;
     }
@@ -33,6 +34,15 @@ export class Catalogue {
         this.count = Number(properties.get("hips_cat_nrows"));
         this.isThere = true;
         this.onChange();
+        await this.readUnits();
+    }
+
+    /** The units of its columns are in a VOTable beside its tiles, where there is one. */
+    async readUnits() {
+        const reply = await fetch(`${this.address}/metadata.xml`).catch(() => null);
+        if (!reply?.ok) return;
+        const table = new DOMParser().parseFromString(await reply.text(), "text/xml");
+        this.units = new Map([...table.querySelectorAll("FIELD[unit]")].map((field) => [field.getAttribute("name"), field.getAttribute("unit")]));
     }
 
     /** Fetches what a view lacks: two files of whole orders, then tiles, as deep as so few of them cover it. */

@@ -1,51 +1,57 @@
-// From values to colours: which value is darkest and which lightest, how the scale is bent, and a table of 256 colours.
+// From values to colours: the part between the cuts, its stretch, and tables of 256 colours.
+
+import { STRETCHES } from "./stretch.js";
 
 const STOPS = {
     dusk: ["#0b1026", "#253b6e", "#6b5b95", "#c77d8a", "#f2b880", "#fdf6e3"],
     grey: ["#000000", "#ffffff"],
-    ink: ["#ffffff", "#000000"],
-    leaf: ["#440154", "#3b528b", "#21918c", "#5ec962", "#fde725"],
+    viridis: ["#440154", "#48186a", "#472d7b", "#424086", "#3b528b", "#33638d", "#2c728e", "#26828e", "#21918c", "#1fa088", "#28ae80", "#3fbc73",
+        "#5ec962", "#84d44b", "#addc30", "#d8e219", "#fde725"],
     ember: ["#000000", "#5c0a0a", "#c4370c", "#f6a02d", "#ffffff"],
 };
 const SHADES = 256;
+const MAPS = {
+    ...Object.fromEntries(Object.entries(STOPS).map(([name, stops]) => [name, between(stops.map(channels))])),
+    cubehelix,
+    heat,
+};
 
-export const COLOURS = Object.keys(STOPS);
+export const COLOURS = ["dusk", "grey", "viridis", "cubehelix", "heat", "ember"];
 
-/** A table of colours as the 32-bit numbers of an ImageData's pixels. */
-export function tableOf(name) {
-    const stops = (STOPS[name] ?? STOPS.grey).map(channels);
-    return Uint32Array.from({ length: SHADES }, (_, shade) => {
-        const along = (shade / (SHADES - 1)) * (stops.length - 1);
-        const stop = Math.min(Math.floor(along), stops.length - 2);
-        return packed(stops[stop].map((from, channel) => from + (stops[stop + 1][channel] - from) * (along - stop)));
-    });
+/** A table of colours as the 32-bit numbers of an ImageData's pixels, from dark to light or inverted. */
+export function tableOf({ colours, isInverted }) {
+    const colour = MAPS[colours] ?? MAPS.grey;
+    const shades = Uint32Array.from({ length: SHADES }, (_, shade) => packed(colour(shade / (SHADES - 1)).map(Math.round)));
+    return isInverted ? shades.reverse() : shades;
 }
 
-/** The place in a table of a value that is a number; `bend` 0 is linear, larger ones show more of what is dark. */
-export function shader({ low, high, bend }) {
-    const span = high - low || 1;
-    const strength = 10 ** bend - 1;
-    const whole = Math.asinh(strength);
-    return (value) => {
-        const part = Math.max(0, Math.min(1, (value - low) / span));
-        return Math.round((SHADES - 1) * (strength > 0 ? Math.asinh(part * strength) / whole : part));
+function between(stops) {
+    return (part) => {
+        const along = part * (stops.length - 1);
+        const stop = Math.min(Math.floor(along), stops.length - 2);
+        return stops[stop].map((from, channel) => from + (stops[stop + 1][channel] - from) * (along - stop));
     };
 }
 
-/** The values between which nearly all lie of some tiles. */
-export function usualRange(tiles) {
-    const values = [];
-    for (const tile of tiles) {
-        const step = Math.max(1, Math.floor(tile.numbers.length / 64));
-        for (let place = 0; place < tile.numbers.length; place += step) {
-            const value = tile.value(place);
-            if (!Number.isNaN(value)) values.push(value);
-        }
-    }
-    if (values.length === 0) return { low: 0, high: 1 };
-    values.sort((one, other) => one - other);
-    const at = (part) => values[Math.round(part * (values.length - 1))];
-    return at(0.998) > at(0.002) ? { low: at(0.002), high: at(0.998) } : { low: at(0) - 1, high: at(0) + 1 };
+/** Green 2011, Bull. Astr. Soc. India 39, 289, with its usual numbers: start 0.5, -1.5 rotations, hue and gamma 1. */
+function cubehelix(part) {
+    const angle = 2 * Math.PI * (0.5 / 3 + 1 - 1.5 * part);
+    const size = (part * (1 - part)) / 2;
+    const [cosine, sine] = [Math.cos(angle), Math.sin(angle)];
+    return [-0.14861 * cosine + 1.78277 * sine, -0.29227 * cosine - 0.90649 * sine, 1.97294 * cosine].map((shift) => 255 * (part + size * shift));
+}
+
+/** That of DS9. */
+function heat(part) {
+    const blue = part < 0.65 ? 0 : Math.min(1, (part - 0.65) / 0.33);
+    return [Math.min(1, part / 0.34), part, blue].map((level) => 255 * level);
+}
+
+/** The place in a table of a value that is a number. */
+export function shader({ low, high, stretch }) {
+    const span = high - low || 1;
+    const stretched = STRETCHES[stretch] ?? STRETCHES.linear;
+    return (value) => Math.round((SHADES - 1) * stretched(Math.max(0, Math.min(1, (value - low) / span))));
 }
 
 /** A colour as a 32-bit number, from its three channels. */

@@ -1,4 +1,4 @@
-// FITS files as hipsd writes them (FITS 4.0; MOC 1.1): images of 8, 16, 32 and 64 bits, and the table of a coverage file.
+// FITS files of a HiPS (FITS 4.0; MOC 1.1): images of whole and of real numbers, and the table of a coverage file.
 
 const CARD = 80;
 const BLOCK = 2880;
@@ -14,6 +14,8 @@ const DEPTHS = new Map([
     [16, { size: 2, Numbers: Int16Array, read: (view, at) => view.getInt16(at), number: Number }],
     [32, { size: 4, Numbers: Int32Array, read: (view, at) => view.getInt32(at), number: Number }],
     [64, { size: 8, Numbers: BigInt64Array, read: (view, at) => view.getBigInt64(at), number: BigInt }],
+    [-32, { size: 4, Numbers: Float32Array, read: (view, at) => view.getFloat32(at) }],
+    [-64, { size: 8, Numbers: Float64Array, read: (view, at) => view.getFloat64(at) }],
 ]);
 
 /** A square or a mosaic of stored numbers, the bottom line first, with what turns them into values. */
@@ -31,10 +33,15 @@ export class Image {
     /** Whether two images show the same numbers. */
     equals(other) {
         const { numbers } = this;
-        return numbers.length === other.numbers.length && numbers.every((number, place) => number === other.numbers[place]);
+        return numbers.length === other.numbers.length && numbers.every((number, place) => isSame(number, other.numbers[place]));
     }
 
-    /** Whether two tiles show the same within a cell below theirs: that of a number, so many orders deeper. */
+    isBlankAt(place) {
+        const number = this.numbers[place];
+        return number === this.blank || number !== number;
+    }
+
+    /** Whether two tiles show the same within a cell below theirs: that of a number, so many orders deeper. No other tile is a blank one. */
     equalsWithin(other, cell, deeper) {
         const bits = Math.log2(this.width);
         if (deeper > bits) return false;
@@ -48,22 +55,23 @@ export class Image {
         const bottom = this.width - (x + 1) * side;
         for (let line = bottom; line < bottom + side; line++) {
             for (let place = line * this.width + y * side; place < line * this.width + (y + 1) * side; place++) {
-                if (this.numbers[place] !== other.numbers[place]) return false;
+                if (other ? !isSame(this.numbers[place], other.numbers[place]) : !this.isBlankAt(place)) return false;
             }
         }
         return true;
     }
+}
 
-    isBlank() {
-        return this.numbers.every((number) => number === this.blank);
-    }
+/** Whether two stored numbers are the same; two that are none are. */
+function isSame(number, other) {
+    return number === other || (number !== number && other !== other);
 }
 
 /** The image of a file of one header and its data. */
 export function readImage(buffer) {
     const { cards, end } = readHeader(buffer, 0);
     const depth = DEPTHS.get(wholeCard(cards, "BITPIX"));
-    if (!depth) throw new FitsFault(`its BITPIX is ${cards.get("BITPIX")}, and this page reads 8, 16, 32 and 64`);
+    if (!depth) throw new FitsFault(`its BITPIX is ${cards.get("BITPIX")}, and this page reads 8, 16, 32, 64, -32 and -64`);
     if (wholeCard(cards, "NAXIS") !== 2) throw new FitsFault(`its NAXIS is ${cards.get("NAXIS")}, and an image has 2`);
     const width = wholeCard(cards, "NAXIS1");
     const height = wholeCard(cards, "NAXIS2");
@@ -74,7 +82,7 @@ export function readImage(buffer) {
     return new Image(width, height, numbers, {
         scale: realCard(cards, "BSCALE", 1),
         zero: realCard(cards, "BZERO", 0),
-        blank: cards.has("BLANK") ? depth.number(cards.get("BLANK")) : undefined,
+        blank: cards.has("BLANK") && depth.number ? depth.number(cards.get("BLANK")) : undefined,
     });
 }
 

@@ -3,6 +3,7 @@
 
 import { GROUND, OUTLINE } from "./picture.js";
 import { channels, tableOf } from "./colours.js";
+import { STRETCHED, STRETCHES } from "./stretch.js";
 
 const LEAST_PIXEL = 1 / 3600;
 const MOST_TEXTURES = 400;
@@ -21,7 +22,8 @@ precision highp int;
 precision highp sampler2D;
 const float PI = 3.14159265358979;
 uniform vec2 size, middle;
-uniform float half_side, ra, scale, low, span, strength;
+uniform float half_side, ra, scale, low, span;
+uniform int stretch;
 uniform bool is_whole, has_numbers, has_coverage;
 uniform mat3 axes;
 uniform ivec4 tile; // its order, face, column and line; a face of -1 is the mosaic
@@ -54,6 +56,8 @@ vec3 find(vec3 d) {
     return d.z > 0.0 ? vec3(column, 1.0 - (1.0 - along) * width, 1.0 - along * width) : vec3(column + 8.0, along * width, (1.0 - along) * width);
 }
 
+${STRETCHED}
+
 int spread(int n) { n = (n | n << 2) & 0x33; return (n | n << 1) & 0x55; }
 
 void main() {
@@ -72,8 +76,7 @@ void main() {
         }
         float value = texelFetch(numbers, texel, 0).r;
         if (value < 1e38) {
-            float level = clamp((value - low) / span, 0.0, 1.0);
-            if (strength > 0.0) level = asinh(level * strength) / asinh(strength);
+            float level = stretched(clamp((value - low) / span, 0.0, 1.0), stretch);
             shown = texelFetch(colours, ivec2(int(level * 255.0 + 0.5), 0), 0).rgb;
         }
     }
@@ -152,31 +155,31 @@ class Gpu {
 
     use(projection, width, height, scale) {
         const { gl } = this;
-        const { low, high, bend, colours } = scale;
+        const { low, high, stretch, colours, isInverted } = scale;
         gl.uniform2f(this.at("size"), width, height);
         gl.uniform2f(this.at("middle"), ...projection.middle);
         gl.uniform1i(this.at("is_whole"), projection.isWhole ? 1 : 0);
         gl.uniform1f(this.at("half_side"), projection.half ?? 1);
         gl.uniform1f(this.at("ra"), ((projection.ra ?? 0) * Math.PI) / 180);
         gl.uniform1f(this.at("scale"), projection.scale ?? 1);
-        if (!projection.isWhole) gl.uniformMatrix3fv(this.at("axes"), false, [...projection.centre, ...projection.east, ...projection.north]);
+        if (!projection.isWhole) gl.uniformMatrix3fv(this.at("axes"), false, [...projection.centre, ...projection.left, ...projection.up]);
         // Numbers are kept less a value near those that are shown, so that 32 bits hold their differences.
         if (this.zero === undefined || Math.abs(this.zero - low) > 1000 * (high - low)) this.forgetAll(low);
         gl.uniform1f(this.at("low"), low - this.zero);
         gl.uniform1f(this.at("span"), high - low || 1);
-        gl.uniform1f(this.at("strength"), 10 ** bend - 1);
+        gl.uniform1i(this.at("stretch"), Object.keys(STRETCHES).indexOf(stretch));
         gl.uniform3f(this.at("ground"), ...channels(GROUND).map((channel) => channel / 255));
         gl.uniform3f(this.at("outline"), ...channels(OUTLINE).map((channel) => channel / 255));
-        if (this.colours !== colours) this.useColours(colours);
+        if (this.colours !== colours || this.isInverted !== isInverted) this.useColours(scale);
     }
 
-    useColours(colours) {
+    useColours({ colours, isInverted }) {
         const { gl } = this;
-        this.colours = colours;
+        Object.assign(this, { colours, isInverted });
         gl.activeTexture(gl.TEXTURE1);
         this.table ??= this.texture();
         gl.bindTexture(gl.TEXTURE_2D, this.table);
-        gl.texImage2D(gl.TEXTURE_2D, 0, gl.RGBA8, 256, 1, 0, gl.RGBA, gl.UNSIGNED_BYTE, new Uint8Array(tableOf(colours).buffer));
+        gl.texImage2D(gl.TEXTURE_2D, 0, gl.RGBA8, 256, 1, 0, gl.RGBA, gl.UNSIGNED_BYTE, new Uint8Array(tableOf({ colours, isInverted }).buffer));
     }
 
     useCoverage(coverage) {

@@ -70,11 +70,12 @@ export function cellOf(order, { face, x, y }) {
     return face * 4 ** order + interleave(column >> 10, line >> 10) * 4 ** 10 + interleave(column & 1023, line & 1023);
 }
 
-/** The face of a cell of an order, and its column and line there. */
+/** The face of a cell of an order up to 24, and its column and line there. */
 export function partOf(order, cell) {
     const face = Math.floor(cell / 4 ** order);
     const within = cell - face * 4 ** order;
-    return [face, gather(within), gather(within >> 1)];
+    const [high, low] = [Math.floor(within / 4 ** 15), within % 4 ** 15];
+    return [face, gather(high) * 2 ** 15 + gather(low), gather(high >> 1) * 2 ** 15 + gather(low >> 1)];
 }
 
 /** Points along the border of a cell, so many for each of its four sides. */

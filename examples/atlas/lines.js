@@ -1,7 +1,7 @@
 // What is drawn over the pixels: the equatorial grid and its numbers, the borders of cells, and those that changed.
 
-import { border, centre, fromDegrees, toDegrees } from "./healpix.js";
-import { fromGalactic, toGalactic } from "./position.js";
+import { border, centre, fromDegrees } from "./healpix.js";
+import { fromGalactic, galacticDegrees } from "./frames.js";
 
 const INK = "rgba(255, 255, 255, 0.45)";
 const SHADE = "rgba(16, 19, 28, 0.22)";
@@ -14,6 +14,7 @@ const LINES_WANTED = 6;
 const POINTS_OF_A_SIDE = 12;
 const MOST_NUMBERED = 80;
 const CORNER = 40;
+const COMPASS = 22;
 
 export class Lines {
     constructor(canvas) {
@@ -26,6 +27,7 @@ export class Lines {
         if (this.canvas.width !== width || this.canvas.height !== height) Object.assign(this.canvas, { width, height });
         else this.brush.clearRect(0, 0, width, height);
         Object.assign(this, { projection, width, height, density });
+        this.taken = [];
         this.brush.font = `${11 * density}px system-ui, "DejaVu Sans", sans-serif`;
         this.brush.lineJoin = "round";
     }
@@ -36,16 +38,19 @@ export class Lines {
         this.isGalactic = isGalactic;
         if (this.projection.isWhole && isGalactic) this.wholeGalacticGrid(step);
         else if (this.projection.isWhole) this.wholeGrid(step);
-        else this.partGrid(isGalactic ? galacticView(view) : view, step);
+        else this.partGrid(isGalactic ? galacticView(view) : view, step, isGalactic);
     }
 
     wholeGalacticGrid(step) {
         for (let l = 0; l < 360; l += step) {
             this.gridLine(range(-90, 90, 2).map((b) => this.point(l, b)));
             const at = this.point(l, 0);
-            this.number(`${l}°`, ...shifted(at, 3, -7, this.density), "left", NUMBERS);
+            this.number(`l ${l}°`, ...shifted(at, 3, -7, this.density), "left", NUMBERS);
         }
-        for (let b = -90 + step; b < 90; b += step) this.gridLine(range(0, 360, 2).map((l) => this.point(l, b)));
+        for (let b = -90 + step; b < 90; b += step) {
+            this.gridLine(range(0, 360, 2).map((l) => this.point(l, b)));
+            this.number(`b ${signed(b, 0)}°`, ...shifted(this.point(0, b), 3, -7, this.density), "left", NUMBERS);
+        }
         this.edge();
     }
 
@@ -76,7 +81,7 @@ export class Lines {
         this.path(around, "#33384a", 1.5);
     }
 
-    partGrid(view, step) {
+    partGrid(view, step, isGalactic) {
         const places = Math.max(0, Math.ceil(-Math.log10(step)));
         const reach = Math.min(120, view.width * 0.75 * Math.max(1, this.height / this.width));
         const [lowest, highest] = [Math.max(-90, view.dec - reach), Math.min(90, view.dec + reach)];
@@ -87,13 +92,14 @@ export class Lines {
             if (Math.abs(dec) > 90 - 1e-9) continue;
             const line = range(view.ra - wide, view.ra + wide, wide / 60).map((ra) => this.point(ra, dec));
             this.gridLine(line);
-            this.numberAtEdges(line, `${signed(dec, places)}°`, ["left", "bottom"]);
+            this.numberAtEdges(line, `${isGalactic ? "b " : ""}${signed(dec, places)}°`, ["left", "bottom"]);
         }
         const first = Math.ceil((view.ra - wide) / across) * across;
         for (let ra = first; ra < view.ra + wide; ra += across) {
             const line = range(lowest, highest, (highest - lowest) / 60).map((dec) => this.point(ra, dec));
             this.gridLine(line);
-            this.numberAtEdges(line, `${(((ra % 360) + 360) % 360).toFixed(Math.max(0, Math.ceil(-Math.log10(across))))}°`, ["bottom", "left"]);
+            const degrees = (((ra % 360) + 360) % 360).toFixed(Math.max(0, Math.ceil(-Math.log10(across))));
+            this.numberAtEdges(line, `${isGalactic ? "l " : ""}${degrees}°`, ["bottom", "left"]);
         }
     }
 
@@ -110,7 +116,7 @@ export class Lines {
 
     /** A number at the edge of the picture where a line crosses it: the first of the edges, or the other in a grid that is turned. */
     numberAtEdges(points, text, [edge, other]) {
-        if (!this.numberAtEdge(points, text, edge) && this.isGalactic) this.numberAtEdge(points, text, other);
+        if (!this.numberAtEdge(points, text, edge) && (this.isGalactic || this.projection.turn !== 0)) this.numberAtEdge(points, text, other);
     }
 
     /** A number where a line crosses the left or the bottom edge of the picture, if it does. */
@@ -141,7 +147,32 @@ export class Lines {
         }
     }
 
-    /** The cells that the last publication changed. */
+    /** Arrows to the north and to the east, in the corner. */
+    compass() {
+        const { density, projection } = this;
+        const foot = [this.width - 3 * COMPASS * density, this.height - 3 * COMPASS * density];
+        const [cosine, sine] = [Math.cos(projection.turn), Math.sin(projection.turn)];
+        for (const [letter, right, down] of [["N", sine, -cosine], ["E", -cosine, -sine]]) {
+            const along = (length, aside) => [foot[0] + (length * right - aside * down) * density, foot[1] + (length * down + aside * right) * density];
+            const tip = along(COMPASS, 0);
+            for (const [colour, width] of [[SHADE, 4], [NUMBERS, 1.5]]) {
+                this.path([foot, tip], colour, width);
+                this.path([along(COMPASS - 6, 4), tip, along(COMPASS - 6, -4)], colour, width);
+            }
+            this.number(letter, ...along(COMPASS + 9, 0), "center", NUMBERS);
+        }
+    }
+
+    /** The line behind which a second HiPS is shown, with its name. */
+    curtain(column, name) {
+        this.path([[column, 0], [column, this.height]], "rgba(16, 19, 28, 0.6)", 4);
+        this.path([[column, 0], [column, this.height]], "#ffffff", 1.5);
+        const line = 14 * this.density;
+        if (column > 0) this.number("now ▸", column - 8 * this.density, line, "right", NUMBERS);
+        if (column < this.width) this.number(`◂ ${name}`, column + 8 * this.density, line, "left", NUMBERS);
+    }
+
+    /** The cells that changed. */
     changed({ order, cells }) {
         for (const cell of cells) this.cell(order, cell, CHANGED, 2.5);
     }
@@ -165,7 +196,15 @@ export class Lines {
         this.brush.stroke();
     }
 
+    /** Writes a number, where it would not lie over another. */
     number(text, column, line, align, colour) {
+        const width = this.brush.measureText(text).width;
+        const left = column - { left: 0, center: 0.5, right: 1 }[align] * width;
+        const [above, beside] = [6 * this.density, 4 * this.density];
+        const box = { left: left - beside, right: left + width + beside, top: line - above, bottom: line + above };
+        const isOver = (one) => box.left < one.right && one.left < box.right && box.top < one.bottom && one.top < box.bottom;
+        if (this.taken.some(isOver)) return;
+        this.taken.push(box);
         this.brush.textAlign = align;
         this.brush.textBaseline = "middle";
         if (colour !== MARGIN_INK) {
@@ -180,7 +219,7 @@ export class Lines {
 
 /** A view whose middle is told in galactic coordinates. */
 function galacticView(view) {
-    const [ra, dec] = toDegrees(toGalactic(fromDegrees(view.ra, view.dec)));
+    const [ra, dec] = galacticDegrees([view.ra, view.dec]);
     return { ...view, ra, dec };
 }
 

@@ -158,7 +158,7 @@ export class Live {
             for (const cell of cells) {
                 if (!generation.keeps(order, cell)) continue;
                 if (this.bytesLeft <= 0 || !this.isCurrent(generation) || generation !== this.shown) return;
-                if (await generation.check(get, order, cell)) this.changes?.cells.push(cell);
+                this.changes?.cells.push(...(await generation.check(get, order, cell)));
                 this.page.changed();
             }
         } catch (fault) {

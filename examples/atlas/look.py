@@ -1,13 +1,17 @@
 #!/usr/bin/python3
 """Shows a survey in a browser on one's own machine: the atlas page beside it, and the survey as hipsd serves it.
 
-    examples/atlas/look.py SERVER [PORT [CATALOGUE]]     a running hipsd, http://127.0.0.1:8080
-    examples/atlas/look.py FOLDER [PORT [CATALOGUE]]     a survey folder, which hipsd is started over until this ends
+    examples/atlas/look.py [OPTION ..] SERVER [PORT]     a running hipsd, http://127.0.0.1:8080
+    examples/atlas/look.py [OPTION ..] FOLDER [PORT]     a survey folder, which hipsd is started over until this ends
 
-PORT is where the page is then, 8000 if it isn't said. CATALOGUE is a folder that catalog.sh made, which the page shows over the sky. Whoever looks can read, and edits nothing: GET and HEAD alone are passed on.
+    --catalogue FOLDER     a catalogue that catalog.sh made, which the page shows over the sky
+    --past FOLDER          a second HiPS, at /past: hipsd export makes one of a folder of look-back.sh. The page compares both
+
+PORT is where the page is then, 8000 if it isn't said. Whoever looks can read, and edits nothing: GET and HEAD alone are passed on.
 The program is crates/hipsd/out/hipsd, or the one that HIPSD_PROGRAM names.
 """
 
+import argparse
 import contextlib
 import http.client
 import os
@@ -46,7 +50,7 @@ class Handler(SimpleHTTPRequestHandler):
             self.end_headers()
         elif self.path.startswith("/survey/"):
             self.pass_on(self.path.removeprefix("/survey"))
-        elif self.path.startswith("/atlas/") or (self.path.startswith("/catalogue/") and self.server.catalogue):
+        elif self.path.startswith(tuple(f"/{name}/" for name in self.server.folders)):
             super().do_GET() if self.command == "GET" else super().do_HEAD()
         else:
             self.send_error(404)
@@ -54,8 +58,9 @@ class Handler(SimpleHTTPRequestHandler):
     do_HEAD = do_GET
 
     def translate_path(self, path):
-        self.directory = os.fspath(self.server.catalogue if path.startswith("/catalogue/") else PAGE)
-        return super().translate_path(path.removeprefix("/catalogue").removeprefix("/atlas"))
+        _, name, rest = path.split("/", 2)
+        self.directory = os.fspath(self.server.folders[name])
+        return super().translate_path(f"/{rest}")
 
     def pass_on(self, path):
         """What the survey's server answers; 502 where it doesn't."""
@@ -104,12 +109,12 @@ class Handler(SimpleHTTPRequestHandler):
         pass
 
 
-def page_server(survey, port=0, handler=Handler, catalogue=None):
-    """A server on the loopback of the page, of the survey at an address with a port, and of a catalogue's folder."""
+def page_server(survey, port=0, handler=Handler, **folders):
+    """A server on the loopback of the page, of the survey at an address with a port, and of folders by the names of their paths."""
     server = ThreadingHTTPServer(("127.0.0.1", port), handler)
     server.daemon_threads = True
     server.survey = survey
-    server.catalogue = catalogue
+    server.folders = {"atlas": PAGE, **folders}
     return server
 
 
@@ -123,15 +128,18 @@ def started(folder):
 
 
 def main():
-    if len(sys.argv) not in (2, 3, 4) or sys.argv[1].startswith("-"):
-        sys.exit(__doc__)
+    words = argparse.ArgumentParser(usage=__doc__)
+    words.add_argument("--catalogue", type=Path)
+    words.add_argument("--past", type=Path)
+    words.add_argument("survey")
+    words.add_argument("port", type=int, nargs="?", default=8000)
+    told = words.parse_args()
     signal.signal(signal.SIGTERM, signal.default_int_handler)
-    named, port = sys.argv[1], int(sys.argv[2]) if len(sys.argv) > 2 else 8000
-    catalogue = Path(sys.argv[3]) if len(sys.argv) > 3 else None
-    hipsd, survey = (None, urlsplit(named).netloc) if "://" in named else started(named)
+    folders = {name: folder for name, folder in (("catalogue", told.catalogue), ("past", told.past)) if folder}
+    hipsd, survey = (None, urlsplit(told.survey).netloc) if "://" in told.survey else started(told.survey)
     try:
-        with page_server(survey, port, catalogue=catalogue) as server:
-            print(f"The atlas is at http://127.0.0.1:{port}/atlas/ (Ctrl-C ends it); the survey is served at http://{survey}")
+        with page_server(survey, told.port, **folders) as server:
+            print(f"The atlas is at http://127.0.0.1:{told.port}/atlas/ (Ctrl-C ends it); the survey is served at http://{survey}")
             server.serve_forever()
     except KeyboardInterrupt:
         pass

@@ -182,10 +182,11 @@ export class Picture {
         return [...found.keys()].sort((one, other) => found.get(one) - found.get(other));
     }
 
-    /** The values of the pixels, of the first of the layers that has a tile there. NaN is blank. */
-    read(layers, coverage) {
+    /** The values of the pixels from a column on, of the first of the layers that has a tile there. NaN is blank. */
+    read(layers, coverage, from = 0) {
         const readers = layers.map((layer) => new Reader(layer, coverage));
         for (let at = 0; at < this.faces.length; at++) {
+            if (from > 0 && at % this.width < from) continue;
             this.values[at] = NaN;
             if (this.faces[at] === OUTSIDE) continue;
             for (let which = 0; which < readers.length; which++) {
@@ -196,10 +197,18 @@ export class Picture {
         }
     }
 
+    /** Some of the values that are shown, in order of their pixels: about so many, those that aren't blank. */
+    samples(most) {
+        const step = Math.max(1, Math.floor(this.values.length / most));
+        const found = [];
+        for (let at = 0; at < this.values.length; at += step) if (this.faces[at] !== OUTSIDE && this.values[at] === this.values[at]) found.push(this.values[at]);
+        return Float64Array.from(found);
+    }
+
     /** Colours the pixels, and draws the outline of the coverage where there is one. */
     paint(scale, coverage) {
         const pixels = new Uint32Array(this.image.data.buffer);
-        const table = tableOf(scale.colours);
+        const table = tableOf(scale);
         const shade = shader(scale);
         for (let at = 0; at < pixels.length; at++) {
             const value = this.values[at];

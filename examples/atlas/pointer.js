@@ -58,7 +58,7 @@ export function connectPointer(canvas, page, density) {
 function pressed(event, page) {
     const moves = { ArrowLeft: [STEP, 0], ArrowRight: [-STEP, 0], ArrowUp: [0, STEP], ArrowDown: [0, -STEP] };
     if (moves[event.key]) page.drag(...moves[event.key]);
-    else if (event.key === "+") page.zoom(1 / ZOOM, page.middle());
+    else if (event.key === "+" || event.key === "=") page.zoom(1 / ZOOM, page.middle());
     else if (event.key === "-") page.zoom(ZOOM, page.middle());
     else return;
     event.preventDefault();

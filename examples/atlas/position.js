@@ -1,119 +1,205 @@
-// Positions as texts: what a person writes, and what the page says. Angles are degrees, equatorial (ICRS) or galactic.
+// Positions that a person writes: which two angles a text has, and of which frame. Labels (`RA`, `b`), names of frames (`ICRS`, `gal`)
+// and hours decide; where there are none, the frame that the page shows does. What contradicts itself is refused.
 
-const TO_GALACTIC = [
-    [-0.0548755604162154, -0.873437090234885, -0.4838350155487132],
-    [0.4941094278755837, -0.4448296299600112, 0.7469822444972189],
-    [-0.8676661490190047, -0.1980763734312015, 0.4559837761750669],
-];
-const DEGREES = /^(d|deg|°|º)$/;
-const NUMBER = /([+-]?)\s*(\d+(?:\.\d*)?|\.\d+)\s*(°|º|deg|d|h|m|s|['′"″:])?/gi;
+import { centre, toDegrees } from "./healpix.js";
+import { equatorialDegrees } from "./frames.js";
 
-/** The galactic direction of an equatorial one. */
-export function toGalactic(direction) {
-    return TO_GALACTIC.map((row) => row[0] * direction[0] + row[1] * direction[1] + row[2] * direction[2]);
-}
+const ICRS = "ICRS";
+const GALACTIC = "galactic";
+const LABELS = {
+    ra: { frame: ICRS, axis: 0 }, raj2000: { frame: ICRS, axis: 0 }, α: { frame: ICRS, axis: 0 },
+    dec: { frame: ICRS, axis: 1 }, de: { frame: ICRS, axis: 1 }, dej2000: { frame: ICRS, axis: 1 }, δ: { frame: ICRS, axis: 1 },
+    l: { frame: GALACTIC, axis: 0 }, glon: { frame: GALACTIC, axis: 0 },
+    b: { frame: GALACTIC, axis: 1 }, glat: { frame: GALACTIC, axis: 1 },
+};
+const FRAMES = { icrs: ICRS, j2000: ICRS, gal: GALACTIC, galactic: GALACTIC };
+const OTHER_FRAMES = new Set(["b1950", "fk4", "fk5", "ecl", "ecliptic", "supergalactic"]);
+const AXES = { [ICRS]: ["right ascension", "declination"], [GALACTIC]: ["longitude", "latitude"] };
 
-/** The equatorial direction of a galactic one. */
-export function fromGalactic(direction) {
-    return [0, 1, 2].map((axis) => TO_GALACTIC.reduce((sum, row, which) => sum + row[axis] * direction[which], 0));
+const NUMBER = /([+-]?)\s*(\d+(?:\.\d*)?|\.\d+)\s*(?:([°'":])|(degrees?|deg|d|hours?|hrs?|h|min|m|sec|s)(?![a-zαδ]))?/iy;
+const WORD = /(?:raj2000|dej2000|j2000(?:\.0)?|b1950(?:\.0)?|fk[45]|[a-zαδ]+)\s*[=:]?/iy;
+const GAP = /[\s()[\]]+/y;
+const COMMA = /[,;|]/y;
+// What may follow each number of an angle.
+const UNITS = [["", ":", "h", "°"], ["", ":", "m", "'"], ["", "s", '"']];
+const CELL = /^(?:hpx|healpix|cell|pixel)\s*(\d{1,2})\s*\/\s*(\d{1,16})$/i;
+const DEEPEST_CELL = 24;
+// A name made of a position: hours, minutes and seconds, then degrees, minutes and seconds.
+const J_NAME = /^j(\d\d)(\d\d)(\d\d)\.?(\d*)([+-]\d\d)(\d\d)(\d\d)\.?(\d*)$/i;
+const SHORT_J_NAME = /^j(\d\d)(\d\d(?:\.\d+)?)([+-]\d\d)(\d\d)$/i;
+
+/** Why a text is no position. */
+class PositionFault extends Error {}
+
+function refuse(text) {
+    throw new PositionFault(text);
 }
 
 /**
- * The two angles of a text: `83.6 +22.0`, `83.6, 22`, `5h34m31.9s +22°0′52″`, `05:34:31.9 +22:00:52`, `5 34 31.9 +22 0 52`. A right
- * ascension of several parts is in hours, and of one part in degrees. Or {fault}, in words.
+ * The position of a text: {ra, dec, text}, in degrees of the ICRS, where `text` says what was understood. Or {fault}, in words; with
+ * `isName` where the text may be the name of an object.
  */
 export function readPosition(text, isGalactic = false) {
     const plain = plainText(text);
-    if (plain === "") return { fault: "A position is wanted, as 83.6 +22.0 or 5h34m32s +22°0′52″." };
-    const left = plain.replace(NUMBER, "");
-    if (/[a-z]/i.test(left)) {
-        return { fault: `“${text.trim()}” is no position. Names of objects aren't known here, since that would need a service; write a position, as 83.6 +22.0.` };
+    try {
+        return readCell(plain) ?? readAngles(withoutJ(plain), isGalactic);
+    } catch (fault) {
+        if (!(fault instanceof PositionFault)) throw fault;
+        return { fault: fault.message, isName: fault.isName === true };
     }
-    if (/[^\s,;|/()]/.test(left)) return { fault: `“${text.trim()}” is no position: it has other characters than numbers and their units.` };
-    const numbers = [...plain.matchAll(NUMBER)].map(readNumber);
-    const split = splitOf(numbers, plain);
-    const parts = [numbers.slice(0, split), numbers.slice(split)];
-    if (!Number.isInteger(split) || parts.some(({ length }) => length < 1 || length > 3)) {
-        return { fault: "A position has two angles, each of one to three numbers: degrees, or hours and degrees with minutes and seconds." };
-    }
-    return judged(parts, isGalactic);
 }
 
-/** The text with one kind of minus and of seconds, and without the names of coordinates. */
+/** The text with one kind of minus, of units and of decimals: `31ˢ.9` is `31.9s`. */
 function plainText(text) {
-    const names = /\b(ra|dec|de|l|b|j2000|icrs|gal(actic)?)\b\s*[=:]?/gi;
-    return text.replace(/[−–]/g, "-").replace(/′′|''/g, "″").replace(names, " ").trim();
+    return text.replace(/[−–]/g, "-").replace(/[ʰ]/g, "h").replace(/[ᵐ]/g, "m").replace(/[ˢ]/g, "s").replace(/[º˚]/g, "°")
+        .replace(/''|′′|[″”]/g, '"').replace(/[′’]/g, "'").replace(/([hms°'"])\.(\d+)/g, ".$2$1").trim();
 }
 
-function readNumber({ index, 1: sign, 2: digits, 3: unit }) {
-    return { index, sign, value: Number(digits), unit: (unit ?? "").toLowerCase() };
+function readCell(plain) {
+    const found = CELL.exec(plain);
+    if (!found) return null;
+    const [order, cell] = found.slice(1).map(Number);
+    if (order > DEEPEST_CELL) refuse(`A cell's order is from 0 to ${DEEPEST_CELL}.`);
+    if (cell >= 12 * 4 ** order) refuse(`Order ${order} has the cells 0 to ${12 * 4 ** order - 1}.`);
+    return positionOf(ICRS, toDegrees(centre(order, cell)));
 }
 
-/** The angles of the numbers of each, or what is wrong with them. */
-function judged(parts, isGalactic) {
-    const [{ unit }] = parts[0];
-    const isHours = !isGalactic && (unit === "h" || (parts[0].length > 1 && !DEGREES.test(unit)));
-    const [first, above] = parts.map(angle);
-    if (first === null || above === null) return { fault: "Minutes and seconds are below 60." };
-    const along = isHours ? first * 15 : first;
-    if (along < -360 || along > 360) {
-        return { fault: `${isGalactic ? "A longitude" : "A right ascension"} is from 0 to ${isHours ? "24 hours" : "360 degrees"}.` };
+function withoutJ(plain) {
+    const long = J_NAME.exec(plain);
+    if (long) return `${long[1]}h${long[2]}m${long[3]}.${long[4]}s ${long[5]}d${long[6]}m${long[7]}.${long[8]}s`;
+    const short = SHORT_J_NAME.exec(plain);
+    return short ? `${short[1]}h${short[2]}m ${short[3]}d${short[4]}m` : plain;
+}
+
+function readAngles(plain, isGalactic) {
+    const { numbers, labels, frames } = tokens(plain);
+    if (numbers.length === 0) refuse("A position is wanted, as 83.6 +22.0 or 5h34m32s +22°0′52″.");
+    const second = secondAngle(numbers, labels);
+    const parts = [numbers.slice(0, second), numbers.slice(second)];
+    if (!Number.isInteger(second) || parts.some(({ length }) => length < 1 || length > 3)) {
+        refuse("A position has two angles, each of one to three numbers: degrees, or hours and degrees with minutes and seconds.");
     }
-    if (Math.abs(above) > 90) return { fault: `${isGalactic ? "A latitude" : "A declination"} is from −90 to +90 degrees.` };
-    return { along: along < 0 ? along + 360 : along === 360 ? 0 : along, above };
+    parts.forEach(judgeNumbers);
+    const hasHours = parts.map(([{ unit }]) => unit === "h");
+    const told = agreedFrame([...labels, ...frames], hasHours.includes(true));
+    const [along, above] = isTurned(labels, hasHours) ? [parts[1], parts[0]] : parts;
+    if (!told && isGalactic && along.length > 1 && along[0].unit !== "°") {
+        refuse("Galactic coordinates are shown: write RA and Dec before such angles, or l and b.");
+    }
+    const frame = told ?? (isGalactic ? GALACTIC : ICRS);
+    return positionOf(frame, [longitude(along, frame), latitude(above, frame)]);
 }
 
-/** Where the second angle begins: behind a comma, where colons end, at a sign, at hours or degrees, where units end; else halfway. */
-function splitOf(numbers, plain) {
-    const comma = plain.search(/[,;|/]/);
+/** The numbers of a text, and its labels and frames, each with how many numbers stand before it. */
+function tokens(plain) {
+    const found = { numbers: [], labels: [], frames: [] };
+    let at = 0;
+    let isApart = false;
+    const next = (pattern) => {
+        pattern.lastIndex = at;
+        const match = pattern.exec(plain);
+        if (match) at = pattern.lastIndex;
+        return match;
+    };
+    while (at < plain.length) {
+        if (next(GAP)) continue;
+        const word = next(WORD);
+        if (word) takeWord(word[0].replace(/[\s=:]+$/, ""), found, plain);
+        else if (next(COMMA)) isApart = true;
+        else {
+            const number = next(NUMBER) ?? refuse(`“${plain}” is no position: it has other characters than numbers and their units.`);
+            found.numbers.push({ ...readNumber(number), isApart: isApart && found.numbers.length > 0 });
+            isApart = false;
+        }
+    }
+    return found;
+}
+
+function readNumber([, sign, digits, mark, word]) {
+    const unit = mark ?? (word ? word[0].toLowerCase().replace("d", "°") : "");
+    return { sign, value: Number(digits), hasDecimals: digits.includes("."), unit };
+}
+
+function takeWord(written, { numbers, labels, frames }, plain) {
+    const word = written.toLowerCase().replace(/\.0$/, "");
+    if (word in LABELS) labels.push({ ...LABELS[word], written, at: numbers.length });
+    else if (word in FRAMES) frames.push({ frame: FRAMES[word], written });
+    else if (OTHER_FRAMES.has(word)) refuse(`Positions of ${written} aren't taken: write them in ICRS (J2000) or galactic coordinates.`);
+    else {
+        const fault = new PositionFault(`“${plain}” is no position. Names of objects aren't known here, since that would need a service; write a position, as 83.6 +22.0.`);
+        throw Object.assign(fault, { isName: true });
+    }
+}
+
+/** Where the second angle begins: at its label, behind a comma, where colons end, at a sign, at hours or degrees, where units end; else halfway. */
+function secondAngle(numbers, labels) {
+    const places = labels.map(({ at }) => at);
+    const isHead = places.every((at) => at === 0);
+    const isBefore = places.length === 2 && places[0] === 0;
+    const isBehind = places.length === 2 && places[0] > 0 && places[1] === numbers.length;
+    if (!(isHead && places.length <= 2) && !isBefore && !isBehind) refuse("Each angle has one label, before it: RA 10.684 Dec 41.269.");
+    if (!isHead) return isBefore ? places[1] : places[0];
+    if (numbers.filter(({ isApart }) => isApart).length > 1) refuse("A position has one comma, between its angles; decimals have a point.");
+    const hasComma = numbers.some(({ isApart }) => isApart);
     const hasColons = numbers.some(({ unit }) => unit === ":");
-    const begins = ({ index, sign, unit }, before) => {
-        if (comma >= 0) return index > comma;
+    const begins = ({ isApart, sign, unit }, before) => {
+        if (hasComma) return isApart;
         if (hasColons) return before.unit !== ":";
-        return sign !== "" || unit === "h" || DEGREES.test(unit) || (unit === "" && /^[ms'′]$/.test(before.unit));
+        return sign !== "" || unit === "h" || unit === "°" || (unit === "" && /^[ms'"]$/.test(before.unit));
     };
     const second = numbers.findIndex((number, at) => at > 0 && begins(number, numbers[at - 1]));
     return second > 0 ? second : numbers.length / 2;
 }
 
-/** The angle of numbers with one sign before the first, null where minutes or seconds are too many. */
+function judgeNumbers(numbers) {
+    numbers.forEach(({ sign, value, hasDecimals, unit }, at) => {
+        if (at > 0 && sign !== "") refuse("A sign stands before an angle, not within it.");
+        if (at > 0 && value >= 60) refuse("Minutes and seconds are below 60.");
+        if (at < numbers.length - 1 && hasDecimals) refuse("Only the last number of an angle has decimals.");
+        if (!UNITS[at].includes(unit)) refuse("An angle is degrees or hours, then minutes, then seconds.");
+    });
+}
+
+/** The frame that labels, names of frames and hours agree on; undefined where there are none. */
+function agreedFrame(evidence, hasHours) {
+    const all = hasHours ? [...evidence, { frame: ICRS, written: "h" }] : evidence;
+    const other = all.find(({ frame }) => frame !== all[0].frame);
+    if (other) refuse(`“${all[0].written}” says ${all[0].frame}, and “${other.written}” says ${other.frame}.`);
+    return all[0]?.frame;
+}
+
+/** Whether the angle above the equator comes first. */
+function isTurned(labels, hasHours) {
+    if (hasHours[0] && hasHours[1]) refuse("Both angles are in hours.");
+    if (labels.length === 0) return hasHours[1];
+    const [{ frame, axis }, other] = labels;
+    if (other?.axis === axis) refuse(`Both angles are labelled as a ${AXES[frame][axis]}.`);
+    if (hasHours[1 - axis]) refuse("Hours are of the right ascension.");
+    return axis === 1;
+}
+
+function longitude(numbers, frame) {
+    const [{ unit }] = numbers;
+    const isHours = frame === ICRS && (unit === "h" || (numbers.length > 1 && unit !== "°"));
+    const degrees = angle(numbers) * (isHours ? 15 : 1);
+    if (Math.abs(degrees) > 360) refuse(`A ${AXES[frame][0]} is from 0 to ${isHours ? "24 hours" : "360 degrees"}.`);
+    return ((degrees % 360) + 360) % 360;
+}
+
+function latitude(numbers, frame) {
+    const degrees = angle(numbers);
+    if (Math.abs(degrees) > 90) refuse(`A ${AXES[frame][1]} is from −90 to +90 degrees.`);
+    return degrees;
+}
+
+/** The angle of numbers with one sign before the first. */
 function angle(numbers) {
-    if (numbers.slice(1).some(({ value }) => value >= 60)) return null;
     const size = numbers.reduce((sum, { value }, at) => sum + value / 60 ** at, 0);
     return numbers[0].sign === "-" ? -size : size;
 }
 
-/** A position in degrees, and in hours, minutes and seconds; as many digits as a pixel of so many degrees wants. */
-export function positionText([ra, dec], pixel = 0.001) {
-    const places = placesFor(pixel);
-    const digits = Math.max(0, Math.min(3, places - 4));
-    const degrees = `RA ${(Number(ra.toFixed(places)) % 360).toFixed(places)}°  Dec ${signed(dec, places)}°`;
-    const clock = sexagesimal(ra / 15, 24, "h", "m", "s", digits + 1);
-    return `${degrees}   (${clock}, ${dec < 0 ? "−" : "+"}${sexagesimal(Math.abs(dec), 360, "°", "′", "″", digits)})`;
-}
-
-function placesFor(pixel) {
-    return Math.max(2, Math.min(7, Math.ceil(-Math.log10(pixel)) + 1));
-}
-
-export function galacticText([l, b], pixel = 0.001) {
-    const places = placesFor(pixel);
-    return `l ${l.toFixed(places)}°  b ${signed(b, places)}°`;
-}
-
-function sexagesimal(number, round, one, two, three, digits) {
-    const unit = 10 ** digits;
-    const all = Math.round(number * 3600 * unit);
-    const seconds = (all % (60 * unit)) / unit;
-    return `${Math.floor(all / (3600 * unit)) % round}${one} ${Math.floor(all / (60 * unit)) % 60}${two} ${seconds.toFixed(digits)}${three}`;
-}
-
-function signed(number, places) {
-    return `${number < 0 ? "−" : "+"}${Math.abs(number).toFixed(places)}`;
-}
-
-/** An angle in the unit in which it is read best. */
-export function angleText(degrees) {
-    const [value, unit] = degrees >= 1 ? [degrees, "°"] : degrees >= 1 / 60 ? [degrees * 60, "′"] : [degrees * 3600, "″"];
-    return `${Number(value.toPrecision(3))}${unit}`;
+function positionOf(frame, degrees) {
+    const [along, above] = degrees.map((angle) => String(Number(angle.toFixed(7))));
+    const [ra, dec] = frame === ICRS ? degrees : equatorialDegrees(degrees);
+    return { ra, dec, text: frame === ICRS ? `RA ${along} Dec ${above}, ICRS` : `l ${along} b ${above}, galactic` };
 }

@@ -1,10 +1,10 @@
-// Where a direction stands in the picture, and back. Both projections keep areas; north is up and east to the left. Points of the
-// picture are counted in its pixels from the top left corner.
+// Where a direction stands in the picture, and back. Both projections keep areas; north is up where the view isn't turned, and east to
+// the left. Points of the picture are counted in its pixels from the top left corner.
 
 import { border, fromDegrees, partOf, toDegrees } from "./healpix.js";
 
 export const WHOLE_SKY = 360;
-const WIDEST_PART = 180;
+export const WIDEST_PART = 180;
 const MARGIN = 36;
 
 /** The projection of a view ({ra, dec, width}, in degrees) into a picture of so many pixels. */
@@ -43,6 +43,7 @@ class Mollweide extends Projection {
         this.middle = [width / 2, height / 2];
         this.half = Math.max(1, Math.min(width / 2 - MARGIN, height - 2 * MARGIN));
         this.ra = view.ra;
+        this.turn = 0;
         this.isWhole = true;
     }
 
@@ -97,8 +98,10 @@ class EqualArea extends Projection {
         this.middle = [width / 2, height / 2];
         this.scale = width / 4 / Math.sin((view.width * Math.PI) / 720);
         this.centre = fromDegrees(view.ra, view.dec);
-        this.east = fromDegrees(view.ra + 90, 0);
-        this.north = fromDegrees(view.ra, view.dec + 90);
+        const { east, north } = axesAt(view.ra, view.dec);
+        this.turn = ((view.turn ?? 0) * Math.PI) / 180;
+        this.up = combined(north, Math.cos(this.turn), east, Math.sin(this.turn));
+        this.left = combined(east, Math.cos(this.turn), north, -Math.sin(this.turn));
         this.isWhole = false;
         this.share = Math.min(1, (width * height) / (4 * Math.PI * this.scale * this.scale));
     }
@@ -114,7 +117,7 @@ class EqualArea extends Projection {
         if (square > 4) return null;
         const cosine = 1 - square / 2;
         const length = Math.sqrt(1 - square / 4);
-        const along = (axis) => cosine * this.centre[axis] + length * (x * this.east[axis] + y * this.north[axis]);
+        const along = (axis) => cosine * this.centre[axis] + length * (x * this.left[axis] + y * this.up[axis]);
         return [along(0), along(1), along(2)];
     }
 
@@ -123,8 +126,26 @@ class EqualArea extends Projection {
         const cosine = dot(direction, this.centre);
         if (cosine < -0.9) return null;
         const length = this.scale * Math.sqrt(2 / (1 + cosine));
-        return [this.middle[0] - length * dot(direction, this.east), this.middle[1] - length * dot(direction, this.north)];
+        return [this.middle[0] - length * dot(direction, this.left), this.middle[1] - length * dot(direction, this.up)];
     }
+}
+
+/** The directions to the east and to the north of a place. */
+function axesAt(ra, dec) {
+    return { east: fromDegrees(ra + 90, 0), north: fromDegrees(ra, dec + 90) };
+}
+
+/** How a view is turned after its middle has moved along a great circle to another direction, and the picture with it. */
+export function turnOf({ centre, up }, middle) {
+    const part = dot(up, middle) / (1 + dot(centre, middle));
+    const moved = up.map((side, axis) => side - part * (centre[axis] + middle[axis]));
+    const { east, north } = axesAt(...toDegrees(middle));
+    return (Math.atan2(dot(moved, east), dot(moved, north)) * 180) / Math.PI;
+}
+
+/** Two vectors, each so many times. */
+function combined(one, times, other, otherTimes) {
+    return one.map((side, axis) => side * times + other[axis] * otherTimes);
 }
 
 function dot([a, b, c], [x, y, z]) {

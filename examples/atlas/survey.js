@@ -1,25 +1,41 @@
 // A survey as a server gives it: its files, each with the generation that its reply names, and one generation of it as it is known.
 
+import { changesOf } from "./changes.js";
 import { FitsFault, cutMosaic, readCoverage, readImage } from "./fits.js";
 import { partOf } from "./healpix.js";
 
 const PATIENCE = 20_000;
+const SQUARE_DEGREES = 41_252.96;
 
 /** What is said to whoever looks at the page. */
 export class SurveyFault extends Error {}
 
-/** Asks for a file: its generation, and its bytes, or none where the survey has no such file. */
+/** Asks for a file of hipsd: its generation, and its bytes, or none where the survey has no such file. */
 export async function ask(address, path) {
+    const reply = await replyFor(address, path);
+    const prefix = reply.headers.get("Survey-Prefix");
+    if (prefix === null) throw new SurveyFault(`The reply for ${path} has no Survey-Prefix: there is no hipsd at ${address}.`);
+    return { prefix: Number(prefix), bytes: await bytesOf(reply, path) };
+}
+
+/** Asks for a file of any HiPS: its bytes, or none. */
+export async function askFile(address, path) {
+    return bytesOf(await replyFor(address, path), path);
+}
+
+async function replyFor(address, path) {
     const reply = await fetch(`${address}/${path}`, { cache: "no-store", signal: AbortSignal.timeout(PATIENCE) }).catch(() => {
         throw new SurveyFault("The server can't be reached.");
     });
     if (!reply.ok && reply.status !== 404) throw new SurveyFault(`The server answers ${path} by ${reply.status} ${reply.statusText}.`);
-    const prefix = reply.headers.get("Survey-Prefix");
-    if (prefix === null) throw new SurveyFault(`The reply for ${path} has no Survey-Prefix: there is no hipsd at ${address}.`);
+    return reply;
+}
+
+async function bytesOf(reply, path) {
     const bytes = await reply.arrayBuffer().catch(() => {
         throw new SurveyFault(`The server broke off within ${path}.`);
     });
-    return { prefix: Number(prefix), bytes: reply.ok ? bytes : null };
+    return reply.ok ? bytes : null;
 }
 
 export function tilePath(order, cell) {
@@ -58,6 +74,12 @@ export class Coverage {
         const leaves = 4 ** (this.order - order);
         const range = this.rangeAfter(cell * leaves);
         return range !== undefined && range[0] < (cell + 1) * leaves;
+    }
+
+    /** Degrees along the side of a square as large as all leaves. */
+    get side() {
+        const leaves = this.ranges.reduce((sum, [first, end]) => sum + end - first, 0);
+        return Math.sqrt((leaves / (12 * 4 ** this.order)) * SQUARE_DEGREES);
     }
 
     /** The faces as pictures above each other, of cells of an order: 255 where there is a leaf at or under the cell. */
@@ -130,15 +152,20 @@ export class Generation {
     /** Fetches what says which tiles there are. `get` asks for a path, and its answer is of this generation. */
     async open(get) {
         const [properties, coverage] = await Promise.all(["properties", "Moc.fits"].map(get));
-        if (!properties || !coverage) throw new SurveyFault("The server has no properties or no Moc.fits.");
+        if (!properties) throw new SurveyFault("There is no properties file.");
         this.properties = readProperties(properties);
         this.order = this.number("hips_order");
         this.width = this.number("hips_tile_width");
         this.least = Math.min(this.number("hips_order_min") ?? SKY_ORDER, SKY_ORDER);
         this.skyBits = Math.log2(Math.min(this.width, SKY_WIDTH));
-        this.coverage = new Coverage(read("Moc.fits", coverage, readCoverage));
+        this.coverage = this.coverageOf(coverage);
         const is = (name) => this.properties.get(name) === this.earlier.properties.get(name);
         if (this.earlier && !["hips_order", "hips_order_min", "hips_tile_width", "survey_bitpix"].every(is)) this.earlier = null;
+    }
+
+    coverageOf(bytes) {
+        if (!bytes) throw new SurveyFault("There is no Moc.fits.");
+        return new Coverage(read("Moc.fits", bytes, readCoverage));
     }
 
     /** The number that a key of the properties has, null where it has none. */
@@ -216,16 +243,20 @@ export class Generation {
         try {
             const bytes = await get(path);
             if (order === null) this.sky = this.cut(path, bytes);
-            else if (!bytes) throw new SurveyFault(`The coverage has leaves at ${path}, and the server has no such file.`);
+            else if (!bytes) this.isMissing(path, order, cell);
             else this.layer(order).tiles.set(cell, read(path, bytes, readImage));
         } finally {
             this.fetching.delete(path);
         }
     }
 
+    isMissing(path) {
+        throw new SurveyFault(`The coverage has leaves at ${path}, and the server has no such file.`);
+    }
+
     cut(path, bytes) {
         const mosaic = bytes && read(path, bytes, readImage);
-        const layer = new Layer(SKY_ORDER, Math.min(this.width, SKY_WIDTH), mosaic ? cutMosaic(mosaic) : new Map());
+        const layer = new Layer(SKY_ORDER, 2 ** this.skyBits, mosaic ? cutMosaic(mosaic) : new Map());
         layer.mosaic = mosaic;
         return layer;
     }
@@ -235,16 +266,15 @@ export class Generation {
         return order !== null && this.unsure.has(tilePath(order, cell));
     }
 
-    /** Looks at a tile that was kept: whether it is another after all. */
+    /** Looks at a tile that was kept: the cells in it that are others after all. */
     async check(get, order, cell) {
         const path = tilePath(order, cell);
         const bytes = await get(path);
         this.unsure.delete(path);
-        const { tiles } = this.layer(order);
-        const found = bytes && read(path, bytes, readImage);
-        if (!found || found.equals(tiles.get(cell))) return false;
-        tiles.set(cell, found);
-        return true;
+        const layer = this.layer(order);
+        const before = new Layer(order, this.width, new Map([[cell, layer.tiles.get(cell)]]));
+        if (bytes) layer.tiles.set(cell, read(path, bytes, readImage));
+        return changesOf(layer, before, [cell], this.order).cells;
     }
 
     /** Forgets the tiles that aren't in view, once there are many. */
@@ -256,23 +286,14 @@ export class Generation {
         }
     }
 
-    /** The cells in view whose tiles differ from those of an earlier generation; those of order 3 where the mosaic is shown. */
+    /** Where what is shown in view differs from another state of the survey: {order, cells, isWhole}; null where that isn't known. */
     changesSince(earlier, { order, cells }) {
         if (order !== null) {
-            const known = cells.filter((cell) => !earlier.lacks(order, cell));
-            return { order, cells: changed(this.layer(order), earlier.layer(order), known) };
+            const known = cells.filter((cell) => !this.lacks(order, cell) && !earlier.lacks(order, cell));
+            return { ...changesOf(this.layer(order), earlier.layer(order), known, this.order), isWhole: false };
         }
         if (!this.sky || !earlier.sky) return null;
-        return { order: SKY_ORDER, cells: changed(this.sky, earlier.sky, [...new Set([...this.sky.tiles.keys(), ...earlier.sky.tiles.keys()])]) };
+        const all = [...new Set([...this.sky.tiles.keys(), ...earlier.sky.tiles.keys()])];
+        return { ...changesOf(this.sky, earlier.sky, all, this.order), isWhole: true };
     }
-}
-
-/** The cells, of these, that two layers show otherwise. */
-function changed(layer, earlier, cells) {
-    return cells.filter((cell) => {
-        const [now, before] = [layer.tiles.get(cell), earlier.tiles.get(cell)];
-        if (now === before) return false;
-        if (!now || !before) return !(now ?? before)?.isBlank();
-        return !now.equals(before);
-    });
 }

@@ -1,13 +1,17 @@
-// Which part of the sky is shown, and how it moves: {ra, dec, width} in degrees, and the projection of it into the picture.
+// Which part of the sky is shown, and how it moves: {ra, dec, width, turn} in degrees, and the projection of it into the picture.
+// `turn` is how far up is from north, to the east.
 
 import { toDegrees } from "./healpix.js";
-import { WHOLE_SKY, boundedWidth, projectionOf } from "./projection.js";
+import { WHOLE_SKY, WIDEST_PART, boundedWidth, projectionOf, turnOf } from "./projection.js";
 
-const WIDEST_TO_ZOOM = 240;
+// A step from the whole sky is at least so far, and several lead back: steps to and fro don't change the projection each time.
+const WIDEST_FROM_WHOLE = 150;
+// Nearer to a pole than this part of the picture's width, the picture follows the hand, and north doesn't stay up.
+const POLAR = 0.25;
 
 export class View {
     constructor() {
-        Object.assign(this, { ra: 0, dec: 0, width: WHOLE_SKY, size: [1, 1], least: 1e-4 });
+        Object.assign(this, { ra: 0, dec: 0, width: WHOLE_SKY, turn: 0, size: [1, 1], least: 1e-4 });
     }
 
     /** The picture has so many pixels. */
@@ -20,10 +24,11 @@ export class View {
         this.projection = projectionOf(this, ...this.size);
     }
 
-    moveTo({ ra, dec, width }) {
+    moveTo({ ra, dec, width, turn = 0 }) {
         this.ra = ((ra % 360) + 360) % 360;
         this.dec = Math.max(-90, Math.min(90, dec));
         this.width = boundedWidth(width, this.least);
+        this.turn = this.width === WHOLE_SKY ? 0 : ((turn % 360) + 360) % 360;
         this.project();
     }
 
@@ -33,23 +38,26 @@ export class View {
 
     /** Makes the view narrower or wider; what stands at a point of the picture stays there. */
     zoom(factor, point) {
+        const { isWhole } = this.projection;
         const fixed = this.projection.toSky(...point);
-        if (fixed === null) return this.moveTo({ ...this, width: this.width * factor });
-        const width = boundedWidth(Math.min(this.width, WIDEST_TO_ZOOM) * factor, this.least);
-        const [ra, dec] = this.projection.isWhole && width < WHOLE_SKY ? toDegrees(fixed) : [this.ra, this.dec];
-        const next = projectionOf({ ra, dec, width }, ...this.size);
-        const now = next.toScreen(fixed);
-        const middle = now && !next.isWhole && next.toSky(...this.size.map((side, axis) => side / 2 + now[axis] - point[axis]));
-        const [nextRa, nextDec] = middle ? toDegrees(middle) : [ra, dec];
-        return this.moveTo({ ra: nextRa, dec: nextDec, width });
+        const width = isWhole && factor < 1 ? Math.min(WIDEST_FROM_WHOLE, WIDEST_PART * factor) : this.width * factor;
+        const [ra, dec] = isWhole && fixed ? toDegrees(fixed) : [this.ra, this.dec];
+        this.moveTo({ ra, dec, width, turn: this.turn });
+        const now = fixed && !this.projection.isWhole && this.projection.toScreen(fixed);
+        if (now) this.drag(point[0] - now[0], point[1] - now[1]);
     }
 
     /** Moves the picture by so many pixels. */
     drag(right, down) {
-        if (this.projection.isWhole) return this.moveTo({ ...this, ra: this.ra + right * this.projection.pixel });
+        if (this.projection.isWhole) {
+            this.moveTo({ ...this, ra: this.ra + right * this.projection.pixel });
+            return;
+        }
         const middle = this.projection.toSky(this.size[0] / 2 - right, this.size[1] / 2 - down);
+        if (middle === null) return;
         const [ra, dec] = toDegrees(middle);
-        return this.moveTo({ ra, dec, width: this.width });
+        const isPolar = 90 - Math.max(Math.abs(dec), Math.abs(this.dec)) < this.width * POLAR;
+        this.moveTo({ ra, dec, width: this.width, turn: isPolar ? turnOf(this.projection, middle) : this.turn });
     }
 
     /** A round angle, and how many pixels of the picture's middle show it: at most so many. */

@@ -1,14 +1,11 @@
 // What the page says in words and numbers.
 
 import { cellOf } from "./healpix.js";
+import { scaledText } from "./numbers.js";
 import { Reader } from "./picture.js";
 
 export function counted(count, one, many = `${one}s`) {
     return `${count.toLocaleString("en")} ${count === 1 ? one : many}`;
-}
-
-export function short(value) {
-    return Number.isInteger(value) && Math.abs(value) < 1e9 ? String(value) : value.toPrecision(5);
 }
 
 export function facts(properties) {
@@ -23,8 +20,8 @@ export function faultText(fault, generation) {
 
 export function newsText(changes) {
     if (!changes) return "";
-    const { order, cells } = changes;
-    return `The last publication changed ${counted(cells.length, "tile")} of order ${order}${order === 3 ? "" : " in view"}.`;
+    const { order, cells, isWhole } = changes;
+    return `The last publication changed ${counted(cells.length, "tile")} of order ${order}${isWhole ? "" : " in view"}.`;
 }
 
 /** What stands at a place, of the finest of the layers that has it: {text, value, order, cell}, the tile that was looked at. */
@@ -39,12 +36,14 @@ export function readingOf(layers, coverage, place) {
     const where = `cell ${layer.order}/${cell}, pixel ${pixelOrder}/${cellOf(pixelOrder, place)}`;
     if (!tile) return { text: `${where}: no data`, value: NaN, order: layer.order, cell };
     const value = tile.value(reader.index);
-    const text = `${where}: ${Number.isNaN(value) ? "blank" : numberText(tile, reader.index, value)}`;
+    const text = `${where}: ${Number.isNaN(value) ? "blank" : numberText(tile, reader.index)}`;
     return { text, value, order: layer.order, cell };
 }
 
-/** The stored number, and its value where that is another. */
-function numberText(tile, index, value) {
-    const stored = String(tile.numbers[index]);
-    return tile.scale === 1 && tile.zero === 0 ? stored : `${short(value)} (stored ${stored})`;
+/** The value, and the raw number in the file where that is another. */
+function numberText(tile, index) {
+    const raw = tile.numbers[index];
+    if (tile.scale === 1 && tile.zero === 0 && Number.isInteger(Number(raw))) return String(raw);
+    const text = scaledText(raw, tile.scale, tile.zero);
+    return tile.scale === 1 && tile.zero === 0 ? text : `${text} (raw ${raw})`;
 }
