@@ -38,7 +38,7 @@ def judge(trial, module, rows):
 
 def tables(trial):
     trial.open("")
-    for table in (positions, cells, frames, angles, numbers, stretches, colours, cuts, histograms, orders, views, poles, addresses, names, reals, changes):
+    for table in (positions, cells, frames, angles, numbers, stretches, colours, cuts, histograms, orders, views, poles, addresses, names, reals, headers, tiles, changes):
         table(trial)
 
 
@@ -322,9 +322,9 @@ ADDRESSES = ["#ra=10.684000&dec=41.269000&width=2.50000&stretch=log&colours=viri
 
 def addresses(trial):
     function = """(hash) => {
-        const known = { scale: { low: null, high: null, stretch: "linear", colours: "dusk", isInverted: false }, switches: { grid: true }, second: "" };
-        const { view, scale, switches, second } = it.readAddress(hash, known);
-        return it.writeAddress(view, scale, switches, second);
+        const known = { scale: { low: null, high: null, stretch: "linear", colours: "dusk", isInverted: false }, switches: { grid: true }, others: { second: "" } };
+        const { view, scale, switches, others } = it.readAddress(hash, known);
+        return it.writeAddress(view, scale, switches, others);
     }"""
     parts = lambda hash: sorted(hash[1:].split("&"))  # noqa: E731
     for hash, found in zip(ADDRESSES, answers(trial, "address", function, ADDRESSES)):
@@ -358,6 +358,43 @@ def reals(trial):
         found = answers(trial, "fits", "(bytes) => { const image = it.readImage(Uint8Array.from(bytes).buffer); return [...image.numbers].map((_, at) => image.value(at)); }", [[*file.getvalue()]])[0]
         read = numpy.array([numpy.nan if one is None else one for one in found]).reshape(8, 8)
         judge(trial, "fits", [(kind, found, numpy.array_equal(read, values.astype(kind), equal_nan=True))])
+
+
+def headers(trial):
+    """What the page writes, as astropy reads it: cards of each kind, numbers of 32 and 64 bits, and cards that are added to a file."""
+    cards = [["OBJECT", "The ‘sky’ of O'Brien"], ["CRVAL1", 266.41681662499997], ["CD1_1", -1.25e-9], ["PV2_1", 4]]
+    values = [[1.5, -2.25, None], [0, 3e30, 7]]
+    function = """([kind, cards, values]) => it.imageFile(new { Float32Array, Float64Array }[kind](values.flat().map((value) => value ?? NaN)), [3, 2], cards)
+        .arrayBuffer().then((bytes) => [...new Uint8Array(bytes)])"""
+    for kind, found in zip(("Float32Array", "Float64Array"), answers_later(trial, "fitsfile", function, [[kind, cards, values] for kind in ("Float32Array", "Float64Array")])):
+        with fits.open(io.BytesIO(bytes(found))) as file:
+            file.verify("exception")
+            header, data = file[0].header, file[0].data
+            right = [header["OBJECT"] == "The ?sky? of O'Brien", header["CRVAL1"] == cards[1][1], header["CD1_1"] == cards[2][1], header["PV2_1"] == 4]
+            right += [len(found) % 2880 == 0, numpy.array_equal(data, numpy.array(values, data.dtype), equal_nan=True)]
+            judge(trial, "fitsfile", [(kind, right, all(right))])
+    before = io.BytesIO()
+    fits.PrimaryHDU(numpy.arange(6, dtype=">i2").reshape(2, 3), fits.Header({"CRVAL1": 5.0, "BLANK": -1})).writeto(before)
+    function = """([bytes, cards]) => it.withCards(Uint8Array.from(bytes).buffer, cards).arrayBuffer().then((bytes) => [...new Uint8Array(bytes)])"""
+    after = bytes(answers_later(trial, "fitsfile", function, [[[*before.getvalue()], cards]])[0])
+    with fits.open(io.BytesIO(after)) as file:
+        file.verify("exception")
+        header = file[0].header
+        judge(trial, "fitsfile", [("added cards", repr(header), header["CRVAL1"] == cards[1][1] and header["BLANK"] == -1 and header.count("CRVAL1") == 1)])
+    judge(trial, "fitsfile", [("the data behind them", "", after[-2880:] == before.getvalue()[-2880:])])
+
+
+def tiles(trial):
+    """Each pixel of a tile lies, by wcslib, in the cell that it shows: on each face, and at the greatest order."""
+    for order, cell in [(0, face) for face in range(12)] + [(3, 5), (3, 400), (9, 1234567), (9, 3000000), (11, 12 * 4**11 - 1)]:
+        bits = 4
+        cards = answers(trial, "wcs", "([order, cell]) => it.tileCards(order, cell, 16)", [(order, cell)])[0]
+        lines, columns = (axis.ravel() for axis in numpy.mgrid[0:16, 0:16])
+        ra, dec = WCS(fits.Header(map(tuple, cards))).all_pix2world(columns, lines, 0)
+        found = healpy.ang2pix(2 ** (order + bits), ra, dec, nest=True, lonlat=True)
+        # Lines go from the bottom up; from the top they go with the even bits of a pixel's number, and columns with the odd ones.
+        within = sum(((15 - lines) >> bit & 1) << 2 * bit | (columns >> bit & 1) << 2 * bit + 1 for bit in range(bits))
+        judge(trial, "wcs", [(f"the tile {order}/{cell}", (found - cell * 256)[:4], numpy.array_equal(found, cell * 256 + within))])
 
 
 def changes(trial):

@@ -22,6 +22,8 @@ import healpy
 import numpy
 from astropy import units, visualization
 from astropy.coordinates import SkyCoord
+from astropy.io import fits
+from astropy.wcs import WCS
 from PIL import Image
 from selenium.webdriver.common.action_chains import ActionChains
 from selenium.webdriver.common.by import By
@@ -445,7 +447,7 @@ def compares(trial, folder):
     (folder / "past/properties").write_text(f"obs_title = Before\nhips_order = {survey.top}\nhips_tile_width = {2**survey.bits}\nhips_tile_format = fits\n")
     trial.page.folders["past"] = folder / "past"
     trial.open(trial.hash(view) + "&second=/past&changes=1")
-    is_said(trial, "two states", f"1 tile of order {survey.top} in view differ", trial.text("differs"))
+    is_said(trial, "two states", f"1 tile of order {survey.top} differs in view", trial.text("differs"))
     survey.edited[leaf] = 12000
     for part in (0, 100):
         script(trial, "const line = document.getElementById('curtain'); line.value = arguments[0]; line.dispatchEvent(new Event('input'))", part)
@@ -465,6 +467,22 @@ def compares(trial, folder):
     is_said(trial, "a HiPS from elsewhere", "from this server only", trial.text("second-refused"))
     search(trial.browser.find_element(By.ID, "second"), "/nowhere")
     wait_for(trial, "a HiPS that isn't there", lambda: "There is no properties file" in trial.text("second-refused"), 5)
+    lies_behind(trial, view, leaf)
+
+
+def lies_behind(trial, view, leaf):
+    """The same HiPS as a background, through the survey and where this is blank."""
+    survey = trial.survey
+    trial.open(trial.hash(view) + "&background=/past")
+    values = {}
+    for behind in (False, True):
+        survey.edited = {leaf: 12000} if behind else {}
+        values[behind] = survey.numbers(survey.deep, healpy.ang2pix(2**survey.deep, *trial.sky_of(view), nest=True, lonlat=True))
+    survey.edited = {}
+    grey = lambda numbers, low, high: 255 * numpy.clip((numbers - low) / (high - low), 0, 1)  # noqa: E731
+    behind = grey(values[True], *numpy.nanpercentile(values[True], (0.5, 99.5)))
+    expected = behind + 0.6 * (grey(values[False], *trial.levels(view)) - behind)
+    trial.judge("a background", abs(trial.shot()[1:-1:2, 1:-1:2, 0].ravel() - expected) <= 3, 0.99)
 
 
 def is_galactic(trial):
@@ -499,26 +517,46 @@ def goes_back(trial):
 
 
 def saves(trial):
-    """The picture and the tile under the pointer, as files."""
-    with tempfile.TemporaryDirectory() as folder:
-        trial.browser.execute_cdp_cmd("Browser.setDownloadBehavior", {"behavior": "allow", "downloadPath": folder})
+    """The picture, a cut-out of the view and the leaf under the pointer, as files; astropy places their pixels."""
+    survey = trial.survey
+    with tempfile.TemporaryDirectory() as name:
+        folder = Path(name)
+        trial.browser.execute_cdp_cmd("Browser.setDownloadBehavior", {"behavior": "allow", "downloadPath": name})
         canvas = trial.browser.find_element(By.ID, "lines")
         ActionChains(trial.browser).move_to_element_with_offset(canvas, 20, 20).perform()
-        for name in ("save", "tile"):
-            trial.browser.find_element(By.ID, name).click()
-        found = lambda kind: [path for path in Path(folder).iterdir() if path.suffix == kind]  # noqa: E731
-        wait_for(trial, f"saved: {os.listdir(folder)}", lambda: found(".png") and found(".fits"))
-        for path in found(".png"):
-            image = Image.open(io.BytesIO(path.read_bytes()))
-            if image.size != (round(canvas.rect["width"]), round(canvas.rect["height"])):
-                trial.blame("the picture that is saved has", image.size)
-            shown = numpy.asarray(image.convert("RGB"))[200:, :].astype(int)
-            apart = (abs(shown - trial.shot()[200:, :].astype(int)).max(axis=2) > 1).mean()
-            if apart > 0.001:
-                trial.blame("the picture that is saved is another:", apart)
-        for path in found(".fits"):
-            if path.read_bytes() != trial.ask("GET", "/" + path.name.replace("_", "/")):
-                trial.blame("the tile that is saved isn't the server's")
+        for button in ("save", "cut-out", "tile"):
+            script(trial, "document.getElementById(arguments[0]).click()", button)
+        wait_for(trial, f"saved: {os.listdir(folder)}", lambda: len([path for path in folder.iterdir() if path.suffix in (".png", ".fits")]) == 3)
+        image = Image.open(folder / "atlas.png")
+        if image.size != (round(canvas.rect["width"]), round(canvas.rect["height"])):
+            trial.blame("the picture that is saved has", image.size)
+        shown = numpy.asarray(image.convert("RGB"))[200:, :].astype(int)
+        if (abs(shown - trial.shot()[200:, :].astype(int)).max(axis=2) > 1).mean() > 0.001:
+            trial.blame("the picture that is saved is another")
+        numbers_are_at(trial, "a cut-out", folder / "cut-out.fits", shown_order(trial) + survey.bits)
+        leaf = int(script(trial, "return document.getElementById('tile').dataset.cell"))
+        numbers_are_at(trial, "a tile", folder / tile_path(survey.top, leaf).replace("/", "_"), survey.deep)
+        script(trial, "location.hash = arguments[0]", trial.hash((80, 20, 30)) + "&turn=40")
+        trial.wait("whole")
+        (folder / "cut-out.fits").unlink()
+        script(trial, "document.getElementById('cut-out').click()")
+        wait_for(trial, "a second cut-out", (folder / "cut-out.fits").exists)
+        numbers_are_at(trial, "a turned cut-out", folder / "cut-out.fits", shown_order(trial) + survey.bits)
+
+
+def numbers_are_at(trial, what, path, order):
+    """Each pixel of a file has the number that stands where wcslib has it."""
+    with fits.open(path) as file:
+        file.verify("exception")
+        data = file[0].data
+        lines, columns = (axis.ravel() for axis in numpy.mgrid[0:data.shape[0], 0:data.shape[1]])
+        ra, dec = WCS(file[0].header).all_pix2world(columns, lines, 0)
+    pixels, which = numpy.unique(healpy.ang2pix(2**order, ra, dec, nest=True, lonlat=True), return_inverse=True)
+    numbers = trial.survey.numbers(order, pixels)[which]
+    found = data.ravel().astype(float)
+    if what == "a tile":
+        numbers = numpy.where(numpy.isnan(numbers), trial.survey.blank, numbers)
+    trial.judge(what, (found == numbers) | (numpy.isnan(found) & numpy.isnan(numbers)), 0.9999)
 
 
 def turns_dark(trial):

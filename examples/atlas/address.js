@@ -1,11 +1,12 @@
-// The page's own address: behind its # it has the view, the colours and the switches, so that a link shows the same.
+// The page's own address: behind its # it has the view, the colours, the switches and the paths of other HiPS, so that a link shows the
+// same.
 
 import { COLOURS } from "./colours.js";
 import { WHOLE_SKY } from "./projection.js";
 import { STRETCHES } from "./stretch.js";
 
-/** What an address says, and for what it doesn't say what was known: {isTold, view, scale, switches, second}. */
-export function readAddress(hash, { scale, switches, second }) {
+/** What an address says, and for what it doesn't say what was known: {isTold, view, scale, switches, others}. */
+export function readAddress(hash, { scale, switches, others }) {
     const words = new URLSearchParams(hash.slice(1));
     const number = (name, absent) => (Number.isFinite(parseFloat(words.get(name))) ? parseFloat(words.get(name)) : absent);
     const oneOf = (name, known, absent) => (known.includes(words.get(name)) ? words.get(name) : absent);
@@ -21,7 +22,7 @@ export function readAddress(hash, { scale, switches, second }) {
             isInverted: isOn("inverted", scale.isInverted),
         },
         switches: Object.fromEntries(Object.entries(switches).map(([name, known]) => [name, isOn(name, known)])),
-        second: words.get("second") ?? second,
+        others: Object.fromEntries(Object.entries(others).map(([name, known]) => [name, words.get(name) ?? known])),
     };
 }
 
@@ -31,10 +32,10 @@ export function viewWords({ ra, dec, width, turn }) {
     return turn === 0 ? words : { ...words, turn: turn.toFixed(3) };
 }
 
-export function writeAddress(view, { low, high, stretch, colours, isInverted }, switches, second) {
+export function writeAddress(view, { low, high, stretch, colours, isInverted }, switches, others) {
     const words = { ...viewWords(view), stretch, colours, inverted: isInverted ? "1" : "0" };
     for (const [name, value] of Object.entries({ low, high })) if (value !== null) words[name] = value;
     for (const [name, isOn] of Object.entries(switches)) words[name] = isOn ? "1" : "0";
-    if (second) words.second = second;
+    for (const [name, address] of Object.entries(others)) if (address) words[name] = address;
     return `#${new URLSearchParams(words)}`;
 }

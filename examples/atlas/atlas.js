@@ -2,24 +2,29 @@
 
 import { readAddress, viewWords, writeAddress } from "./address.js";
 import { positionText } from "./angles.js";
+import { Background } from "./background.js";
 import { Catalogue } from "./catalogue.js";
 import { coarsened } from "./changes.js";
 import { COLOURS } from "./colours.js";
 import { Compare } from "./compare.js";
+import { cutOut } from "./cutout.js";
+import { withCards } from "./fitsfile.js";
 import { gpuOf } from "./gpu.js";
-import { locate } from "./healpix.js";
+import { cellOf, locate } from "./healpix.js";
 import { Lines } from "./lines.js";
 import { Live } from "./live.js";
 import { leafPixel, orderFor } from "./orders.js";
-import { element, mark, remembered } from "./panel.js";
+import { element, mark, remembered, say } from "./panel.js";
 import { Picture } from "./picture.js";
 import { connectPointer } from "./pointer.js";
 import { WHOLE_SKY } from "./projection.js";
 import { sayCatalogue, sayPoint, sayScale, saySource, sayState, sayTile } from "./said.js";
-import { savePicture } from "./save.js";
+import { saveFile, savePicture } from "./save.js";
 import { ScaleControls } from "./scale.js";
 import { connectSearch } from "./search.js";
+import { askFile, tilePath } from "./survey.js";
 import { View } from "./view.js";
+import { tileCards } from "./wcs.js";
 import { readingOf } from "./words.js";
 
 const SKY_ORDER = 3;
@@ -43,14 +48,16 @@ class Atlas {
         this.view = new View();
         this.scale = { low: null, high: null, stretch: "linear", colours: COLOURS[0], isInverted: false };
         this.switches = { ...SWITCHES };
-        this.second = "";
+        this.others = { second: "", background: "" };
         this.picture = new Picture(element("pixels"));
         this.gpu = drawBy === "cpu" ? null : gpuOf(element("moving"), drawBy === "gpu");
         this.lines = new Lines(element("lines"));
         const inView = (generation) => this.inView(generation);
         this.live = new Live(address, { inView, opened: (generation) => this.opened(generation), changed: () => this.changed() });
         this.catalogue = new Catalogue(catalogue, () => this.draw());
-        this.compare = new Compare({ inView, compared: () => this.changed(), opened: (second) => this.compared(second) });
+        const second = { inView, changed: () => this.changed(), opened: (name, path) => this.openedOther(name, path) };
+        this.compare = new Compare(second);
+        this.background = new Background(second);
         this.scaleControls = new ScaleControls(this);
         this.seen = new Map();
         this.squares = SQUARES.first;
@@ -79,7 +86,7 @@ class Atlas {
     place() {
         if (this.isPlaced) return;
         this.isPlaced = true;
-        this.byGpu = this.isMoving && !this.compare.shown && this.gpu !== null && this.gpu.draws(this.view.projection);
+        this.byGpu = this.isMoving && !this.compare.shown && !this.background.shown && this.gpu !== null && this.gpu.draws(this.view.projection);
         this.step = !this.isMoving ? 1 : this.byGpu ? COARSE : this.squares;
         this.picture.place(this.view.projection, ...this.view.size, this.step);
     }
@@ -141,7 +148,7 @@ class Atlas {
         }
         this.writeHash(true);
         this.live.viewed();
-        this.compare.second?.view();
+        for (const { second } of [this.compare, this.background]) second?.view();
         if (this.switches.catalogue) this.catalogue.view((order) => this.cellsOf(order));
     }
 
@@ -229,7 +236,7 @@ class Atlas {
             this.gpu.draw(this.view.projection, ...this.view.size, { scale, layers, cells: (at) => this.cellsOf(at), coverage });
         } else {
             this.read();
-            this.picture.paint(scale, coverage);
+            this.picture.paint(scale, coverage, this.background.shown && this.background);
         }
         if (this.switches.cells) this.lines.cells(order ?? SKY_ORDER, order === null ? this.cellsOf(SKY_ORDER) : cells);
         if (this.switches.changes && this.changes) this.lines.changed(coarsened(this.changes));
@@ -245,9 +252,17 @@ class Atlas {
         for (const [generation, from] of sources) {
             if (generation && from < this.picture.width) this.picture.read(this.layers(generation), this.coverageFor(generation), Math.ceil(from));
         }
+        this.readBackground();
         if (this.isMoving) return;
         this.compare.differ(this.live.shown, this.inView(this.live.shown));
         this.scaleControls.showSamples(this.picture.samples(SAMPLES));
+    }
+
+    readBackground() {
+        const { shown } = this.background;
+        if (!shown) return;
+        this.picture.read(this.layers(shown), this.coverageFor(shown), 0, this.picture.under);
+        if (!this.isMoving) this.background.fit(this.picture.samples(SAMPLES, this.picture.under));
     }
 
     /** Where tiles are shown, cells without leaves are known to be blank. */
@@ -263,7 +278,7 @@ class Atlas {
     // ---- what is said
 
     get isWhole() {
-        return this.live.isWhole && this.compare.isWhole;
+        return this.live.isWhole && this.compare.isWhole && this.background.isWhole;
     }
 
     tell(generation) {
@@ -279,10 +294,13 @@ class Atlas {
         const sky = this.pointed && projection.toSky(...this.pointed);
         const isSecond = this.pointed && this.pointed[0] >= this.compare.columnOf(this.view.size[0]);
         const generation = isSecond ? this.compare.shown : this.live.shown;
-        const reading = sky && generation ? readingOf(this.layers(generation), this.coverageFor(generation), locate(sky, {})) : null;
+        const place = sky && generation ? locate(sky, {}) : null;
+        const reading = place && readingOf(this.layers(generation), this.coverageFor(generation), place);
         sayPoint(sky, reading, this.switches.galactic, projection.pixel);
         this.scaleControls.mark(reading?.value ?? NaN);
-        if (reading?.cell !== undefined) sayTile(isSecond ? this.compare.second.address : this.address, reading);
+        const { shown } = this.live;
+        const leaf = place && shown && cellOf(shown.order, place);
+        if (leaf !== null && shown.coverage.touches(shown.order, leaf)) sayTile(shown.order, leaf);
     }
 
     // ---- controls
@@ -294,11 +312,18 @@ class Atlas {
         element("close").addEventListener("click", () => this.pickNone());
         window.addEventListener("keydown", (event) => event.key === "Escape" && this.pickNone());
         connectSearch(resolver, { isGalactic: () => this.switches.galactic, found: (ra, dec) => this.found(ra, dec) });
-        this.scaleControls.connect();
-        this.compare.connect();
+        for (const part of [this.scaleControls, this.compare, this.background]) part.connect();
         this.showSwitches();
         this.connectView();
-        if (this.second) this.compare.open(this.second);
+        this.openOthers();
+    }
+
+    /** Opens the other HiPS of the page's address. */
+    openOthers() {
+        for (const form of [this.compare, this.background]) {
+            const path = this.others[form.name];
+            if (path !== (form.second?.address ?? "")) form.open(path);
+        }
     }
 
     connectView() {
@@ -308,6 +333,8 @@ class Atlas {
         element("whole").addEventListener("click", () => this.moveTo({ ...this.view, width: WHOLE_SKY }));
         element("north").addEventListener("click", () => this.moveTo({ ...this.view, turn: 0 }));
         element("save").addEventListener("click", () => this.save());
+        element("cut-out").addEventListener("click", () => this.saveCutOut());
+        element("tile").addEventListener("click", () => this.saveTile());
         window.addEventListener("resize", () => {
             this.measure();
             this.moveTo(this.view);
@@ -354,9 +381,9 @@ class Atlas {
         this.writeHash();
     }
 
-    /** A second HiPS is shown, at an address, or none is. */
-    compared(second) {
-        this.second = second;
+    /** Another HiPS is shown, at a path, or none is. */
+    openedOther(name, path) {
+        this.others[name] = path;
         this.isPlaced = false;
         this.writeHash();
     }
@@ -388,6 +415,21 @@ class Atlas {
         savePicture([element("pixels"), element("lines")], size, this.density, ground, [...said, positionText([ra, dec], projection.pixel)].join(", "));
     }
 
+    /** What is shown of the survey, as a FITS file. */
+    saveCutOut() {
+        const { shown } = this.live;
+        if (shown) saveFile(cutOut(this.view, this.layers(shown), this.coverageFor(shown), element("title").textContent), "cut-out.fits");
+    }
+
+    /** The leaf that was pointed at, as the server has it, with cards that tell where it lies. */
+    async saveTile() {
+        const [order, cell] = ["order", "cell"].map((name) => Number(element("tile").dataset[name]));
+        const path = tilePath(order, cell);
+        const bytes = await askFile(this.address, path).catch(() => null);
+        if (bytes) saveFile(withCards(bytes, tileCards(order, cell, this.live.shown.width)), path.replaceAll("/", "_"));
+        say("understood", bytes ? "" : `The server has no tile ${order}/${cell}.`);
+    }
+
     // ---- the address of the page, which has the view in it
 
     readHash() {
@@ -404,17 +446,16 @@ class Atlas {
     writeHash(isOther = false) {
         const key = this.viewKey();
         const isPushed = isOther && this.written !== undefined && this.written !== key;
-        window.history[isPushed ? "pushState" : "replaceState"](null, "", writeAddress(this.view, this.scale, this.switches, this.second));
+        window.history[isPushed ? "pushState" : "replaceState"](null, "", writeAddress(this.view, this.scale, this.switches, this.others));
         this.written = key;
         this.hash = window.location.hash;
     }
 
     returned() {
         if (window.location.hash === this.hash) return;
-        const { second } = this;
         this.hash = window.location.hash;
         this.readHash();
-        if (this.second !== second) this.compare.open(this.second);
+        this.openOthers();
         this.scaleControls.show();
         this.showSwitches();
         this.written = undefined;

@@ -36,6 +36,11 @@ export class Image {
         return numbers.length === other.numbers.length && numbers.every((number, place) => isSame(number, other.numbers[place]));
     }
 
+    /** Whether 32 bits of a real number hold its values. */
+    get isShort() {
+        return this.numbers instanceof Float32Array || this.numbers.BYTES_PER_ELEMENT <= 2;
+    }
+
     isBlankAt(place) {
         const number = this.numbers[place];
         return number === this.blank || number !== number;

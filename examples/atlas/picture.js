@@ -84,8 +84,8 @@ export class Picture {
         if (!this.sizes.has(key)) {
             if (this.sizes.size >= MOST_SIZES) this.sizes.clear();
             const count = width * height;
-            const [faces, xs, ys, values] = [new Uint8Array(count), new Int32Array(count), new Int32Array(count), new Float64Array(count)];
-            this.sizes.set(key, { faces, xs, ys, values, image: this.brush.createImageData(width, height) });
+            const [faces, xs, ys, values, under] = [Uint8Array, Int32Array, Int32Array, Float64Array, Float64Array].map((Numbers) => new Numbers(count));
+            this.sizes.set(key, { faces, xs, ys, values, under, image: this.brush.createImageData(width, height) });
         }
         Object.assign(this, this.sizes.get(key));
     }
@@ -183,30 +183,46 @@ export class Picture {
     }
 
     /** The values of the pixels from a column on, of the first of the layers that has a tile there. NaN is blank. */
-    read(layers, coverage, from = 0) {
+    read(layers, coverage, from = 0, values = this.values) {
         const readers = layers.map((layer) => new Reader(layer, coverage));
         for (let at = 0; at < this.faces.length; at++) {
             if (from > 0 && at % this.width < from) continue;
-            this.values[at] = NaN;
+            values[at] = NaN;
             if (this.faces[at] === OUTSIDE) continue;
             for (let which = 0; which < readers.length; which++) {
                 const tile = readers[which].at(this.faces[at], this.xs[at], this.ys[at]);
-                if (tile !== undefined) this.values[at] = tile.value(readers[which].index);
+                if (tile !== undefined) values[at] = tile.value(readers[which].index);
                 if (tile !== undefined || readers[which].isBlank) break;
             }
         }
     }
 
     /** Some of the values that are shown, in order of their pixels: about so many, those that aren't blank. */
-    samples(most) {
-        const step = Math.max(1, Math.floor(this.values.length / most));
+    samples(most, values = this.values) {
+        const step = Math.max(1, Math.floor(values.length / most));
         const found = [];
-        for (let at = 0; at < this.values.length; at += step) if (this.faces[at] !== OUTSIDE && this.values[at] === this.values[at]) found.push(this.values[at]);
+        for (let at = 0; at < values.length; at += step) if (this.faces[at] !== OUTSIDE && values[at] === values[at]) found.push(values[at]);
         return Float64Array.from(found);
     }
 
-    /** Colours the pixels, and draws the outline of the coverage where there is one. */
-    paint(scale, coverage) {
+    /** Shows a background behind what is painted: the values under it by their own scale, through colours of that opacity. */
+    paintOver(scale, opacity) {
+        const pixels = new Uint8ClampedArray(this.image.data.buffer);
+        const table = new Uint8Array(tableOf(scale).buffer);
+        const shade = shader(scale);
+        for (let at = 0; at < this.under.length; at++) {
+            const value = this.under[at];
+            if (this.faces[at] === OUTSIDE || value !== value) continue;
+            const part = this.values[at] === this.values[at] ? opacity : 0;
+            const from = 4 * shade(value);
+            for (let channel = 0; channel < 3; channel++) {
+                pixels[4 * at + channel] = table[from + channel] + (pixels[4 * at + channel] - table[from + channel]) * part;
+            }
+        }
+    }
+
+    /** Colours the pixels, over a background if there is one, and draws the outline of the coverage where there is one. */
+    paint(scale, coverage, background) {
         const pixels = new Uint32Array(this.image.data.buffer);
         const table = tableOf(scale);
         const shade = shader(scale);
@@ -215,6 +231,7 @@ export class Picture {
             if (this.faces[at] === OUTSIDE) pixels[at] = 0;
             else pixels[at] = value !== value ? GROUND_PIXEL : table[shade(value)];
         }
+        if (background) this.paintOver(background.scale, background.opacity);
         if (coverage) this.outline(pixels, coverage);
         this.brush.putImageData(this.image, 0, 0);
     }

@@ -4,7 +4,6 @@ import { angleText, galacticText, positionText } from "./angles.js";
 import { toGalactic } from "./frames.js";
 import { toDegrees } from "./healpix.js";
 import { element, mark, say } from "./panel.js";
-import { tilePath } from "./survey.js";
 import { counted, facts, faultText, newsText } from "./words.js";
 
 const RULER = 120;
@@ -50,14 +49,11 @@ export function sayPoint(sky, reading, isGalactic, pixel) {
     say("value", reading?.text ?? "");
 }
 
-/** The tile under the pointer can be saved, also once the pointer has gone to the button. */
-export function sayTile(address, { order, cell }) {
-    const path = tilePath(order, cell);
-    const link = element("tile");
-    if (link.dataset.path === path) return;
-    const download = path.replaceAll("/", "_");
-    Object.assign(link, { hidden: false, href: `${address}/${path}`, download, textContent: `Save tile ${order}/${cell}` });
-    link.dataset.path = path;
+/** The leaf under the pointer can be saved, also once the pointer has gone to the button. */
+export function sayTile(order, cell) {
+    element("tile").hidden = false;
+    Object.assign(element("tile").dataset, { order, cell });
+    say("tile", `Save tile ${order}/${cell}`);
 }
 
 /** The row of a source that is picked, with units where they are known. */

@@ -1,6 +1,13 @@
-// The picture as a file.
+// What the page saves: its picture, and files.
 
 const KEPT = 10_000;
+
+/** Saves a blob as a file of that name. */
+export function saveFile(blob, name) {
+    const link = Object.assign(document.createElement("a"), { href: URL.createObjectURL(blob), download: name });
+    link.click();
+    setTimeout(() => URL.revokeObjectURL(link.href), KEPT);
+}
 
 /** Saves canvases over each other on a ground, with a line of words at the top, as a PNG. */
 export function savePicture(canvases, [width, height], density, ground, words) {
@@ -14,9 +21,5 @@ export function savePicture(canvases, [width, height], density, ground, words) {
     Object.assign(brush, { lineWidth: 3 * density, strokeStyle: "rgba(15, 18, 28, 0.7)", fillStyle: "#ffffff" });
     brush.strokeText(words, 8 * density, 16 * density);
     brush.fillText(words, 8 * density, 16 * density);
-    canvas.toBlob((blob) => {
-        const link = Object.assign(document.createElement("a"), { href: URL.createObjectURL(blob), download: "atlas.png" });
-        link.click();
-        setTimeout(() => URL.revokeObjectURL(link.href), KEPT);
-    });
+    canvas.toBlob((blob) => saveFile(blob, "atlas.png"));
 }

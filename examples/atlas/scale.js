@@ -73,7 +73,8 @@ export class ScaleControls {
     fit() {
         const samples = this.page.samples();
         if (samples.length === 0) return;
-        Object.assign(this.page.scale, cutsOf(samples, element("fit").value || Object.keys(FITS)[0]));
+        const { low, high } = cutsOf(samples, element("fit").value || Object.keys(FITS)[0]);
+        Object.assign(this.page.scale, { low: Number(short(low)), high: Number(short(high)) });
         this.show();
     }
 

@@ -1,5 +1,6 @@
-// A second HiPS of the page's origin, which doesn't change while it is shown: a state of the survey as it was, say, to compare with.
+// A second HiPS of the page's origin, which doesn't change while it is shown: a state of the survey as it was, say.
 
+import { element, refuse } from "./panel.js";
 import { Generation, SurveyFault, askFile, tilePath } from "./survey.js";
 
 const FETCHES_AT_ONCE = 4;
@@ -79,5 +80,55 @@ export class Second {
     /** It is shown no longer. */
     end() {
         this.isEnded = true;
+    }
+}
+
+/** The form in which the path of a second HiPS is written: `name` is its input's, and begins the names of what belongs to it. */
+export class SecondForm {
+    /** `page` has `inView(generation)`, `changed()`, called when more of it is here, and `opened(name, path)`. */
+    constructor(name, page) {
+        Object.assign(this, { name, page, second: null });
+    }
+
+    connect() {
+        element(`${this.name}-form`).addEventListener("submit", (event) => {
+            event.preventDefault();
+            this.open(element(this.name).value.trim());
+        });
+        element(`${this.name}-end`).addEventListener("click", () => this.open(""));
+    }
+
+    /** Shows the HiPS at a path of this origin, or none. */
+    open(path) {
+        this.second?.end();
+        this.second = null;
+        element(this.name).value = path;
+        this.page.opened(this.name, path);
+        const isHere = URL.canParse(path, window.location.href) && new URL(path, window.location.href).origin === window.location.origin;
+        refuse(this.name, `${this.name}-refused`, isHere ? "" : "A second HiPS is shown from this server only: write its path, as /past.");
+        if (path !== "" && isHere) {
+            this.second = new Second(path, { inView: this.page.inView, changed: () => this.changed() });
+            this.second.open();
+        }
+        this.show();
+    }
+
+    changed() {
+        refuse(this.name, `${this.name}-refused`, this.second.fault);
+        this.show();
+    }
+
+    show() {
+        element(`${this.name}-shown`).hidden = !this.shown;
+        this.page.changed();
+    }
+
+    /** What it shows, once it is known. */
+    get shown() {
+        return this.second?.shown ?? null;
+    }
+
+    get isWhole() {
+        return this.second === null || this.second.fault !== "" || this.second.isWhole;
     }
 }

@@ -24,7 +24,7 @@ export function newsText(changes) {
     return `The last publication changed ${counted(cells.length, "tile")} of order ${order}${isWhole ? "" : " in view"}.`;
 }
 
-/** What stands at a place, of the finest of the layers that has it: {text, value, order, cell}, the tile that was looked at. */
+/** What stands at a place, of the finest of the layers that has it: {text, value}. */
 export function readingOf(layers, coverage, place) {
     const readers = layers.map((layer) => new Reader(layer, coverage));
     const reader = readers.find((some) => some.at(place.face, place.x, place.y) || some.isBlank) ?? readers[0];
@@ -32,12 +32,11 @@ export function readingOf(layers, coverage, place) {
     const tile = reader.at(place.face, place.x, place.y);
     const { layer } = reader;
     const pixelOrder = layer.order + layer.bits;
-    const cell = cellOf(layer.order, place);
-    const where = `cell ${layer.order}/${cell}, pixel ${pixelOrder}/${cellOf(pixelOrder, place)}`;
-    if (!tile) return { text: `${where}: no data`, value: NaN, order: layer.order, cell };
+    const where = `cell ${layer.order}/${cellOf(layer.order, place)}, pixel ${pixelOrder}/${cellOf(pixelOrder, place)}`;
+    if (!tile) return { text: `${where}: no data`, value: NaN };
     const value = tile.value(reader.index);
     const text = `${where}: ${Number.isNaN(value) ? "blank" : numberText(tile, reader.index)}`;
-    return { text, value, order: layer.order, cell };
+    return { text, value };
 }
 
 /** The value, and the raw number in the file where that is another. */
