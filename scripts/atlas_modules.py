@@ -38,7 +38,7 @@ def judge(trial, module, rows):
 
 def tables(trial):
     trial.open("")
-    for table in (positions, cells, frames, angles, numbers, stretches, colours, cuts, histograms, orders, views, poles, addresses, names, reals, headers, tiles, changes):
+    for table in (positions, cells, frames, angles, numbers, stretches, colours, cuts, histograms, orders, views, poles, projections, addresses, names, reals, headers, tiles, changes):
         table(trial)
 
 
@@ -316,15 +316,47 @@ def poles(trial):
     judge(trial, "projection", [("a turned view", (sky, there), numpy.allclose(sky, there, atol=1e-9))])
 
 
+def projections(trial):
+    """Pixels of each projection, with the equator's and with the galaxy's north up: where wcslib has them, and back."""
+    function = """([part, whole, isGalactic, width, pixels]) => import("/atlas/projection.js").then(({ projectionOf }) => {
+        const projection = projectionOf({ ra: 280, dec: -35, width, turn: 0, part, whole, isGalactic }, 1280, 800);
+        const sky = pixels.map(([x, y]) => projection.toSky(x, y));
+        return [sky, sky.map((one) => one && projection.toScreen(one)), projection.scale ?? projection.half];
+    })"""
+    pixels = [(640, 400), (1, 1), (900.5, 120), (300, 799), (60, 395), (1221, 404), (700, 130)]
+    cases = [(name, is_galactic, width) for is_galactic in (False, True) for name, width in (("ZEA", 100), ("TAN", 60), ("SIN", 90), ("SIN", 170), ("MOL", 360), ("AIT", 360))]
+    inputs = [(name, name, is_galactic, width, pixels) for name, is_galactic, width in cases]
+    for (name, is_galactic, width), (sky, screen, scale) in zip(cases, answers_later(trial, "view", function, inputs)):
+        middle = numpy.array((280.0, -35.0))
+        if is_galactic:
+            middle = numpy.degrees(erfa.icrs2g(*numpy.radians(middle)))
+        found = WCS(naxis=2)
+        found.wcs.ctype = [f"{first}{name}" for first in (("GLON-", "GLAT-") if is_galactic else ("RA---", "DEC--"))]
+        found.wcs.crval = (middle[0], 0) if width == 360 else middle
+        found.wcs.crpix = [640.5, 400.5]
+        degrees = 360 * numpy.sqrt(2) / numpy.pi / scale if width == 360 else numpy.degrees(1 / scale)
+        found.wcs.cdelt = [-degrees, -degrees]
+        along, above = found.all_pix2world(numpy.array(pixels) - 0.5, 0).T
+        inside = numpy.isfinite(along)
+        along, above = along[inside], above[inside]
+        if is_galactic:
+            along, above = numpy.degrees(erfa.g2icrs(*numpy.radians((along, above))))
+        there = healpy.ang2vec(along, above, lonlat=True)
+        is_right = sum(inside) >= 4 and [one is not None for one in sky] == inside.tolist()
+        is_right = is_right and numpy.allclose([one for one in sky if one], there, atol=1e-8)
+        is_right = is_right and numpy.allclose([one for one in screen if one], numpy.array(pixels)[inside], atol=1e-3)
+        judge(trial, "projections", [(f"{name} of {width} degrees, galactic: {is_galactic}", (sky, there), is_right)])
+
+
 ADDRESSES = ["#ra=10.684000&dec=41.269000&width=2.50000&stretch=log&colours=viridis&inverted=1&low=-5&high=1e-7&grid=0&second=%2Fpast",
-             "#ra=0.000000&dec=-90.000000&width=30.0000&turn=179.500&stretch=linear&colours=dusk&inverted=0&grid=1"]
+             "#ra=0.000000&dec=-90.000000&width=30.0000&turn=179.500&part=SIN&whole=AIT&north=galactic&stretch=linear&colours=dusk&inverted=0&grid=1"]
 
 
 def addresses(trial):
     function = """(hash) => {
         const known = { scale: { low: null, high: null, stretch: "linear", colours: "dusk", isInverted: false }, switches: { grid: true }, others: { second: "" } };
-        const { view, scale, switches, others } = it.readAddress(hash, known);
-        return it.writeAddress(view, scale, switches, others);
+        const { view, style, scale, switches, others } = it.readAddress(hash, known);
+        return it.writeAddress({ ...view, ...style }, scale, switches, others);
     }"""
     parts = lambda hash: sorted(hash[1:].split("&"))  # noqa: E731
     for hash, found in zip(ADDRESSES, answers(trial, "address", function, ADDRESSES)):

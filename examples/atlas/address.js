@@ -3,9 +3,10 @@
 
 import { COLOURS } from "./colours.js";
 import { WHOLE_SKY } from "./projection.js";
+import { PARTS, WHOLES } from "./projections.js";
 import { STRETCHES } from "./stretch.js";
 
-/** What an address says, and for what it doesn't say what was known: {isTold, view, scale, switches, others}. */
+/** What an address says, and for what it doesn't say what was known: {isTold, view, style, scale, switches, others}. */
 export function readAddress(hash, { scale, switches, others }) {
     const words = new URLSearchParams(hash.slice(1));
     const number = (name, absent) => (Number.isFinite(parseFloat(words.get(name))) ? parseFloat(words.get(name)) : absent);
@@ -14,6 +15,7 @@ export function readAddress(hash, { scale, switches, others }) {
     return {
         isTold: words.has("ra") || words.has("dec") || words.has("width"),
         view: { ra: number("ra", 0), dec: number("dec", 0), width: number("width", WHOLE_SKY), turn: number("turn", 0) },
+        style: { part: oneOf("part", Object.keys(PARTS), "ZEA"), whole: oneOf("whole", Object.keys(WHOLES), "MOL"), isGalactic: words.get("north") === "galactic" },
         scale: {
             low: number("low", scale.low),
             high: number("high", scale.high),
@@ -27,9 +29,13 @@ export function readAddress(hash, { scale, switches, others }) {
 }
 
 /** The view as it stands in an address: two views with the same texts are one. */
-export function viewWords({ ra, dec, width, turn }) {
+export function viewWords({ ra, dec, width, turn, part, whole, isGalactic }) {
     const words = { ra: ra.toFixed(6), dec: dec.toFixed(6), width: width.toPrecision(6) };
-    return turn === 0 ? words : { ...words, turn: turn.toFixed(3) };
+    if (turn !== 0) words.turn = turn.toFixed(3);
+    if (part !== "ZEA") words.part = part;
+    if (whole !== "MOL") words.whole = whole;
+    if (isGalactic) words.north = "galactic";
+    return words;
 }
 
 export function writeAddress(view, { low, high, stretch, colours, isInverted }, switches, others) {

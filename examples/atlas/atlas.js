@@ -18,6 +18,7 @@ import { element, mark, remembered, say } from "./panel.js";
 import { Picture } from "./picture.js";
 import { connectPointer } from "./pointer.js";
 import { WHOLE_SKY } from "./projection.js";
+import { PARTS, WHOLES } from "./projections.js";
 import { sayCatalogue, sayPoint, sayScale, saySource, sayState, sayTile } from "./said.js";
 import { saveFile, savePicture } from "./save.js";
 import { ScaleControls } from "./scale.js";
@@ -33,7 +34,7 @@ const ZOOM = 1.5;
 const LEAST_PIXELS_ACROSS = 6;
 const WIDEST_FIELD = 20;
 const SAMPLES = 30_000;
-const SWITCHES = { grid: true, compass: true, galactic: false, coverage: true, cells: false, changes: true, catalogue: true };
+const SWITCHES = { grid: true, compass: true, galactic: false, hours: false, coverage: true, cells: false, changes: true, catalogue: true };
 // While the view moves without WebGL, squares of so many pixels are drawn; larger ones where frames take so many milliseconds, and
 // smaller ones where their drawing takes so few.
 const SQUARES = { least: 2, first: 4, most: 8 };
@@ -212,7 +213,7 @@ class Atlas {
         this.place();
         this.lines.begin(this.view.projection, ...this.view.size, this.density);
         if (generation) this.drawSurvey(generation);
-        if (this.switches.grid) this.lines.grid(this.view, this.switches.galactic);
+        if (this.switches.grid) this.lines.grid(this.view, this.switches.galactic, this.switches.hours);
         if (this.switches.compass && !this.view.projection.isWhole) this.lines.compass();
         if (this.switches.catalogue) this.catalogue.draw(this.lines.brush, this.view.projection, ...this.view.size, this.density);
         this.tell(generation);
@@ -332,6 +333,11 @@ class Atlas {
         element("farther").addEventListener("click", () => this.zoom(ZOOM, middle()));
         element("whole").addEventListener("click", () => this.moveTo({ ...this.view, width: WHOLE_SKY }));
         element("north").addEventListener("click", () => this.moveTo({ ...this.view, turn: 0 }));
+        for (const [name, known] of Object.entries({ part: PARTS, "whole-as": WHOLES })) element(name).append(...Object.keys(known).map((kind) => new Option(kind)));
+        element("part").addEventListener("input", () => this.show({ part: element("part").value }));
+        element("whole-as").addEventListener("input", () => this.show({ whole: element("whole-as").value }));
+        element("galactic-up").addEventListener("input", () => this.show({ isGalactic: element("galactic-up").checked }));
+        this.showStyle();
         element("save").addEventListener("click", () => this.save());
         element("cut-out").addEventListener("click", () => this.saveCutOut());
         element("tile").addEventListener("click", () => this.saveTile());
@@ -368,6 +374,18 @@ class Atlas {
         this.catalogue.picked = null;
         saySource(this.catalogue);
         this.draw();
+    }
+
+    /** Shows the same in another projection, or with another north. */
+    show(style) {
+        this.view.show(style);
+        this.moveTo({ ...this.view, turn: 0 });
+    }
+
+    showStyle() {
+        Object.assign(element("part"), { value: this.view.part });
+        Object.assign(element("whole-as"), { value: this.view.whole });
+        Object.assign(element("galactic-up"), { checked: this.view.isGalactic });
     }
 
     showSwitches() {
@@ -433,8 +451,9 @@ class Atlas {
     // ---- the address of the page, which has the view in it
 
     readHash() {
-        const { view, ...others } = readAddress(window.location.hash, this);
+        const { view, style, ...others } = readAddress(window.location.hash, this);
         Object.assign(this, others);
+        this.view.show(style);
         this.view.moveTo(view);
     }
 
@@ -458,6 +477,7 @@ class Atlas {
         this.openOthers();
         this.scaleControls.show();
         this.showSwitches();
+        this.showStyle();
         this.written = undefined;
         this.moveTo(this.view);
     }

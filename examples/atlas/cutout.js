@@ -1,9 +1,9 @@
-// The view as a FITS image with a WCS: a part of the sky in the gnomonic projection (TAN), the whole sky in Mollweide's.
+// The view as a FITS image with a WCS: a part of the sky in the gnomonic projection (TAN), the whole sky in that which is shown.
 
 import { imageFile } from "./fitsfile.js";
 import { locate } from "./healpix.js";
 import { Reader } from "./picture.js";
-import { gnomonicCards, mollweideCards } from "./wcs.js";
+import { gnomonicCards, wholeCards } from "./wcs.js";
 
 /** The file of a view: each pixel has the value that stands at its middle, of the finest of the layers. */
 export function cutOut(view, layers, coverage, title) {
@@ -19,7 +19,7 @@ export function cutOut(view, layers, coverage, title) {
             if (direction) values[(height - 1 - line) * width + column] = valueAt(readers, locate(direction, {}));
         }
     }
-    const where = projection.isWhole ? mollweideCards(projection, size) : gnomonicCards(view, projection.pixel, size);
+    const where = projection.isWhole ? wholeCards(view.whole, projection, size) : gnomonicCards(view, projection.turn, projection.pixel, size);
     return imageFile(values, size, [...where, ["OBJECT", title.slice(0, 60)]]);
 }
 

@@ -1,14 +1,16 @@
 // The picture while the view moves, drawn by WebGL 2 where the browser has it in hardware. It places pixels by numbers of 32 bits:
 // good enough to move by, and not beyond a second of arc, so the picture of a view that rests is drawn by picture.js.
 
-import { GROUND, OUTLINE } from "./picture.js";
 import { channels, tableOf } from "./colours.js";
+import { GROUND, OUTLINE } from "./picture.js";
+import { KINDS, PARTS, SKY, WHOLES } from "./projections.js";
 import { STRETCHED, STRETCHES } from "./stretch.js";
 
 const LEAST_PIXEL = 1 / 3600;
 const MOST_TEXTURES = 400;
 const UPLOADS_OF_A_FRAME = 12;
 const BLANK = 3e38;
+const FARTHEST = 1e6;
 const COVERAGE_ORDER = 8;
 const COLUMNS_OF_MOSAIC = 27;
 
@@ -21,10 +23,10 @@ precision highp float;
 precision highp int;
 precision highp sampler2D;
 const float PI = 3.14159265358979;
-uniform vec2 size, middle;
-uniform float half_side, ra, scale, low, span;
-uniform int stretch;
-uniform bool is_whole, has_numbers, has_coverage;
+uniform vec2 size, middle, scale;
+uniform float most, low, span;
+uniform int kind, stretch;
+uniform bool has_numbers, has_coverage;
 uniform mat3 axes;
 uniform ivec4 tile; // its order, face, column and line; a face of -1 is the mosaic
 uniform int bits;
@@ -32,18 +34,7 @@ uniform sampler2D numbers, colours, coverage;
 uniform vec3 ground, outline;
 out vec4 colour;
 
-vec3 sky(vec2 point) {
-    if (is_whole) {
-        float x = (middle.x - point.x) / half_side, y = 2.0 * (middle.y - point.y) / half_side;
-        if (x * x + y * y > 1.0) discard;
-        float slope = asin(y), z = (2.0 * slope + sin(2.0 * slope)) / PI, angle = ra + PI * x / cos(slope), sine = sqrt(max(0.0, 1.0 - z * z));
-        return vec3(sine * cos(angle), sine * sin(angle), z);
-    }
-    vec2 at = (middle - point) / scale;
-    float square = dot(at, at);
-    if (square > 4.0) discard;
-    return axes * vec3(1.0 - square / 2.0, sqrt(1.0 - square / 4.0) * at);
-}
+${SKY}
 
 vec3 find(vec3 d) {
     float quarters = mod(atan(d.y, d.x) * 2.0 / PI + 4.0, 4.0);
@@ -61,7 +52,9 @@ ${STRETCHED}
 int spread(int n) { n = (n | n << 2) & 0x33; return (n | n << 1) & 0x55; }
 
 void main() {
-    vec3 place = find(sky(vec2(gl_FragCoord.x, size.y - gl_FragCoord.y)));
+    vec2 at = (middle - vec2(gl_FragCoord.x, size.y - gl_FragCoord.y)) / scale;
+    if (dot(at, at) > most) discard;
+    vec3 place = find(axes * sky(at, kind));
     vec2 part = clamp(place.yz, 0.0, 0.9999999) * float(1 << tile.x);
     ivec2 cell = ivec2(part);
     if (tile.y >= 0 && (int(place.x) != tile.y || cell != tile.zw)) discard;
@@ -158,11 +151,11 @@ class Gpu {
         const { low, high, stretch, colours, isInverted } = scale;
         gl.uniform2f(this.at("size"), width, height);
         gl.uniform2f(this.at("middle"), ...projection.middle);
-        gl.uniform1i(this.at("is_whole"), projection.isWhole ? 1 : 0);
-        gl.uniform1f(this.at("half_side"), projection.half ?? 1);
-        gl.uniform1f(this.at("ra"), ((projection.ra ?? 0) * Math.PI) / 180);
-        gl.uniform1f(this.at("scale"), projection.scale ?? 1);
-        if (!projection.isWhole) gl.uniformMatrix3fv(this.at("axes"), false, [...projection.centre, ...projection.left, ...projection.up]);
+        const { kind, centre, left, up, half, isWhole } = projection;
+        gl.uniform2f(this.at("scale"), ...(isWhole ? [half, half / 2] : [projection.scale, projection.scale]));
+        gl.uniform1f(this.at("most"), isWhole ? 1 : Math.min(kind.most, FARTHEST));
+        gl.uniform1i(this.at("kind"), KINDS.findIndex((name) => kind === (PARTS[name] ?? WHOLES[name])));
+        gl.uniformMatrix3fv(this.at("axes"), false, [...centre, ...left, ...up]);
         // Numbers are kept less a value near those that are shown, so that 32 bits hold their differences.
         if (this.zero === undefined || Math.abs(this.zero - low) > 1000 * (high - low)) this.forgetAll(low);
         gl.uniform1f(this.at("low"), low - this.zero);

@@ -10,6 +10,8 @@ const NUMBERS = "rgba(255, 255, 255, 0.78)";
 const CELLS = "rgba(140, 190, 255, 0.75)";
 const CHANGED = "#ff7a1a";
 const STEPS = [30, 15, 10, 5, 2, 1, 0.5, 0.2, 0.1, 0.05, 0.02, 0.01, 0.005, 0.002, 0.001];
+// 2 hours to 0.1 seconds.
+const HOUR_STEPS = [7200, 3600, 1800, 1200, 600, 300, 120, 60, 30, 20, 10, 5, 2, 1, 0.5, 0.2, 0.1].map((seconds) => seconds / 240);
 const LINES_WANTED = 6;
 const POINTS_OF_A_SIDE = 12;
 const MOST_NUMBERED = 80;
@@ -32,44 +34,44 @@ export class Lines {
         this.brush.lineJoin = "round";
     }
 
-    /** Meridians and parallels, with their degrees. */
-    grid(view, isGalactic) {
+    /** Meridians and parallels, with their degrees, or with hours for the right ascension. */
+    grid(view, isGalactic, isInHours) {
         const step = this.projection.isWhole ? 30 : STEPS.find((degrees) => view.width / degrees >= LINES_WANTED) ?? STEPS.at(-1);
-        this.isGalactic = isGalactic;
-        if (this.projection.isWhole && isGalactic) this.wholeGalacticGrid(step);
+        Object.assign(this, { isGalactic, isInHours: isInHours && !isGalactic });
+        if (this.projection.isWhole && isGalactic !== this.projection.isGalactic) this.otherWholeGrid(step);
         else if (this.projection.isWhole) this.wholeGrid(step);
-        else this.partGrid(isGalactic ? galacticView(view) : view, step, isGalactic);
+        else this.partGrid(isGalactic ? galacticView(view) : view, step);
     }
 
-    wholeGalacticGrid(step) {
-        for (let l = 0; l < 360; l += step) {
-            this.gridLine(range(-90, 90, 2).map((b) => this.point(l, b)));
-            const at = this.point(l, 0);
-            this.number(`l ${l}°`, ...shifted(at, 3, -7, this.density), "left", NUMBERS);
+    /** The grid of a frame whose north isn't up. */
+    otherWholeGrid(step) {
+        for (let along = 0; along < 360; along += step) {
+            this.gridLine(range(-90, 90, 2).map((above) => this.point(along, above)));
+            this.number(this.alongText(along, step), ...shifted(this.point(along, 0), 3, -7, this.density), "left", NUMBERS);
         }
-        for (let b = -90 + step; b < 90; b += step) {
-            this.gridLine(range(0, 360, 2).map((l) => this.point(l, b)));
-            this.number(`b ${signed(b, 0)}°`, ...shifted(this.point(0, b), 3, -7, this.density), "left", NUMBERS);
+        for (let above = -90 + step; above < 90; above += step) {
+            this.gridLine(range(0, 360, 2).map((along) => this.point(along, above)));
+            this.number(this.aboveText(above, step), ...shifted(this.point(0, above), 3, -7, this.density), "left", NUMBERS);
         }
         this.edge();
     }
 
     wholeGrid(step) {
         const { projection } = this;
-        const height = (dec) => Math.sin((dec * Math.PI) / 180);
-        const decs = range(-90, 90, 2);
+        const height = (above) => Math.sin((above * Math.PI) / 180);
+        const heights = range(-90, 90, 2);
         for (let east = -180; east <= 180; east += step) {
-            this.gridLine(decs.map((dec) => projection.at(east, height(dec))));
+            this.gridLine(heights.map((above) => projection.at(east, height(above))));
         }
-        for (let dec = -90 + step; dec < 90; dec += step) {
-            this.gridLine(range(-180, 180, step).map((east) => projection.at(east, height(dec))));
-            const [column, line] = projection.at(180, height(dec));
-            this.number(`${signed(dec, 0)}°`, column - 6 * this.density, line, "right", MARGIN_INK);
+        for (let above = -90 + step; above < 90; above += step) {
+            this.gridLine(range(-180, 180, 5).map((east) => projection.at(east, height(above))));
+            const [column, line] = projection.at(180, height(above));
+            this.number(this.aboveText(above, step), column - 6 * this.density, line, "right", MARGIN_INK);
         }
         this.edge();
-        for (let ra = 0; ra < 360; ra += step) {
-            const east = ((ra - projection.ra + 540) % 360) - 180;
-            if (Math.abs(east) < 179) this.number(`${ra}°`, ...shifted(projection.at(east, 0), 3, -7, this.density), "left", NUMBERS);
+        for (let along = 0; along < 360; along += step) {
+            const east = ((along - projection.meridian + 540) % 360) - 180;
+            if (Math.abs(east) < 179) this.number(this.alongText(along, step), ...shifted(projection.at(east, 0), 3, -7, this.density), "left", NUMBERS);
         }
     }
 
@@ -81,26 +83,42 @@ export class Lines {
         this.path(around, "#33384a", 1.5);
     }
 
-    partGrid(view, step, isGalactic) {
-        const places = Math.max(0, Math.ceil(-Math.log10(step)));
+    partGrid(view, step) {
         const reach = Math.min(120, view.width * 0.75 * Math.max(1, this.height / this.width));
         const [lowest, highest] = [Math.max(-90, view.dec - reach), Math.min(90, view.dec + reach)];
         const isPole = lowest <= -88 || highest >= 88;
         const wide = isPole ? 180 : Math.min(180, reach / Math.cos((Math.max(-lowest, highest) * Math.PI) / 180));
-        const across = isPole ? Math.max(step, 15) : STEPS.find((degrees) => (2 * wide) / 1.5 / degrees >= LINES_WANTED) ?? step;
-        for (let dec = Math.ceil(lowest / step) * step; dec <= highest + 1e-9; dec += step) {
-            if (Math.abs(dec) > 90 - 1e-9) continue;
-            const line = range(view.ra - wide, view.ra + wide, wide / 60).map((ra) => this.point(ra, dec));
+        const across = this.acrossFor(wide, isPole ? Math.max(step, 15) : step, isPole);
+        for (let above = Math.ceil(lowest / step) * step; above <= highest + 1e-9; above += step) {
+            if (Math.abs(above) > 90 - 1e-9) continue;
+            const line = range(view.ra - wide, view.ra + wide, wide / 60).map((along) => this.point(along, above));
             this.gridLine(line);
-            this.numberAtEdges(line, `${isGalactic ? "b " : ""}${signed(dec, places)}°`, ["left", "bottom"]);
+            this.numberAtEdges(line, this.aboveText(above, step), ["left", "bottom"]);
         }
-        const first = Math.ceil((view.ra - wide) / across) * across;
-        for (let ra = first; ra < view.ra + wide; ra += across) {
-            const line = range(lowest, highest, (highest - lowest) / 60).map((dec) => this.point(ra, dec));
+        const first = Math.ceil((view.ra - wide) / across);
+        for (let at = first; at * across < view.ra + wide; at++) {
+            const line = range(lowest, highest, (highest - lowest) / 60).map((above) => this.point(at * across, above));
             this.gridLine(line);
-            const degrees = (((ra % 360) + 360) % 360).toFixed(Math.max(0, Math.ceil(-Math.log10(across))));
-            this.numberAtEdges(line, `${isGalactic ? "l " : ""}${degrees}°`, ["bottom", "left"]);
+            this.numberAtEdges(line, this.alongText(at * across, across), ["bottom", "left"]);
         }
+    }
+
+    /** How many degrees are between the meridians of a grid so wide to each side. */
+    acrossFor(wide, step, isPole) {
+        const steps = this.isInHours ? HOUR_STEPS : STEPS;
+        if (isPole) return step;
+        return steps.find((degrees) => (2 * wide) / 1.5 / degrees >= LINES_WANTED) ?? steps.at(-1);
+    }
+
+    /** A right ascension or a longitude, as the grid tells it, for lines so many degrees apart. */
+    alongText(along, step) {
+        const degrees = ((along % 360) + 360) % 360;
+        if (this.isInHours) return hoursText(degrees, step);
+        return `${this.isGalactic ? "l " : ""}${degrees.toFixed(placesOf(step))}°`;
+    }
+
+    aboveText(above, step) {
+        return `${this.isGalactic ? "b " : ""}${signed(above, placesOf(step))}°`;
     }
 
     /** A line that is seen on dark and on light pixels. */
@@ -151,7 +169,7 @@ export class Lines {
     compass() {
         const { density, projection } = this;
         const foot = [this.width - 3 * COMPASS * density, this.height - 3 * COMPASS * density];
-        const [cosine, sine] = [Math.cos(projection.turn), Math.sin(projection.turn)];
+        const [cosine, sine] = [Math.cos, Math.sin].map((of) => of((projection.turn * Math.PI) / 180));
         for (const [letter, right, down] of [["N", sine, -cosine], ["E", -cosine, -sine]]) {
             const along = (length, aside) => [foot[0] + (length * right - aside * down) * density, foot[1] + (length * down + aside * right) * density];
             const tip = along(COMPASS, 0);
@@ -225,6 +243,22 @@ function galacticView(view) {
 
 function range(first, last, step) {
     return Array.from({ length: Math.round((last - first) / step) + 1 }, (_, at) => first + at * step);
+}
+
+/** Decimals that tell lines apart. */
+function placesOf(step) {
+    return Math.max(0, Math.ceil(-Math.log10(step)));
+}
+
+/** A right ascension in hours, in minutes if lines are closer, and in seconds. */
+function hoursText(degrees, step) {
+    const seconds = degrees * 240;
+    const places = step < 1 / 240 ? 1 : 0;
+    const whole = Number(seconds.toFixed(places)) % 86400;
+    const parts = [`${Math.floor(whole / 3600)}h`];
+    if (step < 15) parts.push(`${Math.floor(whole / 60) % 60}m`);
+    if (step < 0.25) parts.push(`${(whole % 60).toFixed(places)}s`);
+    return parts.join(" ");
 }
 
 function signed(degrees, places) {

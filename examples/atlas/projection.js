@@ -1,15 +1,19 @@
-// Where a direction stands in the picture, and back. Both projections keep areas; north is up where the view isn't turned, and east to
-// the left. Points of the picture are counted in its pixels from the top left corner.
+// Where a direction stands in the picture, and back. North, of the equator or of the galaxy, is up where the view isn't turned, and east
+// to the left. Points of the picture are counted in its pixels from the top left corner.
 
+import { fromGalactic, galacticDegrees } from "./frames.js";
 import { border, fromDegrees, partOf, toDegrees } from "./healpix.js";
+import { PARTS, WHOLES } from "./projections.js";
 
 export const WHOLE_SKY = 360;
 export const WIDEST_PART = 180;
 const MARGIN = 36;
 
-/** The projection of a view ({ra, dec, width}, in degrees) into a picture of so many pixels. */
+/** The projection of a view ({ra, dec, width, turn} in degrees, and which: {part, whole, isGalactic}) into a picture of so many pixels. */
 export function projectionOf(view, width, height) {
-    return view.width > WIDEST_PART ? new Mollweide(view, width, height) : new EqualArea(view, width, height);
+    if (view.width > WIDEST_PART) return new Whole(view, width, height);
+    const kind = PARTS[view.part] ?? PARTS.ZEA;
+    return new Part(view, view.width > kind.widest ? PARTS.ZEA : kind, width, height);
 }
 
 /** The view with that width nearest to the wanted one: the whole sky, or a part of it. */
@@ -17,7 +21,39 @@ export function boundedWidth(width, least) {
     return width > WIDEST_PART ? WHOLE_SKY : Math.max(width, least);
 }
 
+/** The directions to the east and to the north of a place, of the equator or of the galaxy. */
+function axesAt(ra, dec, isGalactic) {
+    const [along, above] = isGalactic ? galacticDegrees([ra, dec]) : [ra, dec];
+    const axes = [fromDegrees(along + 90, 0), fromDegrees(along, above + 90)];
+    return isGalactic ? axes.map(fromGalactic) : axes;
+}
+
+/** How far `up` is turned from north to the east at a place, in degrees. */
+function turnFrom([east, north], up) {
+    return (Math.atan2(dot(up, east), dot(up, north)) * 180) / Math.PI;
+}
+
+/** How a view is turned after its middle has moved along a great circle to another direction, and the picture with it. */
+export function turnOf({ centre, up, isGalactic }, middle) {
+    const part = dot(up, middle) / (1 + dot(centre, middle));
+    const moved = up.map((side, axis) => side - part * (centre[axis] + middle[axis]));
+    return turnFrom(axesAt(...toDegrees(middle), isGalactic), moved);
+}
+
+/** Both have three axes, `centre`, `left` and `up`, in which the equations of the projections are written. */
 class Projection {
+    constructor(view, kind, width, height) {
+        this.kind = kind;
+        this.isGalactic = view.isGalactic ?? false;
+        this.middle = [width / 2, height / 2];
+    }
+
+    /** A direction of which the parts along the three axes are known. */
+    along(forward, leftward, upward) {
+        const { centre, left, up } = this;
+        return [0, 1, 2].map((axis) => forward * centre[axis] + leftward * left[axis] + upward * up[axis]);
+    }
+
     /** The order, face, column and line of a cell. */
     tileOf(order, cell) {
         return [order, ...partOf(order, cell)];
@@ -37,13 +73,13 @@ class Projection {
 }
 
 /** The whole sky as an ellipse, around a meridian. */
-class Mollweide extends Projection {
+class Whole extends Projection {
     constructor(view, width, height) {
-        super();
-        this.middle = [width / 2, height / 2];
+        super(view, WHOLES[view.whole] ?? WHOLES.MOL, width, height);
         this.half = Math.max(1, Math.min(width / 2 - MARGIN, height - 2 * MARGIN));
-        this.ra = view.ra;
-        this.turn = 0;
+        this.meridian = this.isGalactic ? galacticDegrees([view.ra, view.dec])[0] : view.ra;
+        const axes = [[this.meridian, 0], [this.meridian + 90, 0], [0, 90]].map((place) => fromDegrees(...place));
+        [this.centre, this.left, this.up] = this.isGalactic ? axes.map(fromGalactic) : axes;
         this.isWhole = true;
     }
 
@@ -61,49 +97,37 @@ class Mollweide extends Projection {
         const x = (this.middle[0] - column) / this.half;
         const y = (2 * (this.middle[1] - line)) / this.half;
         if (x * x + y * y > 1) return null;
-        const slope = Math.asin(y);
-        const z = (2 * slope + Math.sin(2 * slope)) / Math.PI;
-        const angle = (this.ra * Math.PI) / 180 + (Math.PI * x) / Math.cos(slope);
+        const [angle, z] = this.kind.toSky(x, y);
         const sine = Math.sqrt(Math.max(0, 1 - z * z));
-        return [sine * Math.cos(angle), sine * Math.sin(angle), z];
+        return this.along(sine * Math.cos(angle), sine * Math.sin(angle), z);
     }
 
     toScreen(direction) {
-        const [ra] = toDegrees(direction);
-        const east = ((((ra - this.ra + 180) % 360) + 360) % 360) - 180;
-        return this.at(east, direction[2]);
+        const angle = Math.atan2(dot(direction, this.left), dot(direction, this.centre));
+        return this.at((angle * 180) / Math.PI, dot(direction, this.up));
     }
 
-    /** The point of a direction so many degrees to the east of the middle one, -180 to 180: both ends are told apart. */
+    /** The point so many degrees to the east of the middle meridian, -180 to 180, at a height z: both ends are told apart. */
     at(east, z) {
-        const slope = slopeOf(z);
-        return [this.middle[0] - (this.half * east * Math.cos(slope)) / 180, this.middle[1] - (this.half * Math.sin(slope)) / 2];
+        const [x, y] = this.kind.toPlane((east * Math.PI) / 180, z);
+        return [this.middle[0] - this.half * x, this.middle[1] - (this.half * y) / 2];
     }
 }
 
-/** The angle t with 2t + sin 2t = π z, by Newton's steps from a start that is near at the poles too. */
-function slopeOf(z) {
-    if (Math.abs(z) >= 1) return (Math.sign(z) * Math.PI) / 2;
-    let slope = Math.sign(z) * (Math.PI / 2 - Math.cbrt((3 * Math.PI * (1 - Math.abs(z))) / 4));
-    for (let step = 0; step < 8; step++) {
-        slope -= (2 * slope + Math.sin(2 * slope) - Math.PI * z) / (2 + 2 * Math.cos(2 * slope));
-    }
-    return slope;
-}
-
-/** A part of the sky around a direction: Lambert's azimuthal projection. */
-class EqualArea extends Projection {
-    constructor(view, width, height) {
-        super();
-        this.middle = [width / 2, height / 2];
-        this.scale = width / 4 / Math.sin((view.width * Math.PI) / 720);
+/** A part of the sky around a direction. */
+class Part extends Projection {
+    constructor(view, kind, width, height) {
+        super(view, kind, width, height);
+        this.scale = width / 2 / kind.reach((view.width * Math.PI) / 360);
         this.centre = fromDegrees(view.ra, view.dec);
-        const { east, north } = axesAt(view.ra, view.dec);
-        this.turn = ((view.turn ?? 0) * Math.PI) / 180;
-        this.up = combined(north, Math.cos(this.turn), east, Math.sin(this.turn));
-        this.left = combined(east, Math.cos(this.turn), north, -Math.sin(this.turn));
+        const [east, north] = axesAt(view.ra, view.dec, this.isGalactic);
+        const turn = ((view.turn ?? 0) * Math.PI) / 180;
+        this.up = combined(north, Math.cos(turn), east, Math.sin(turn));
+        this.left = combined(east, Math.cos(turn), north, -Math.sin(turn));
+        /** Degrees by which up is turned from the equator's north to the east. */
+        this.turn = turnFrom(axesAt(view.ra, view.dec, false), this.up);
         this.isWhole = false;
-        this.share = Math.min(1, (width * height) / (4 * Math.PI * this.scale * this.scale));
+        this.share = Math.min(1, (kind.thickest * width * height) / (4 * Math.PI * this.scale * this.scale));
     }
 
     get pixel() {
@@ -114,33 +138,18 @@ class EqualArea extends Projection {
         const x = (this.middle[0] - column) / this.scale;
         const y = (this.middle[1] - line) / this.scale;
         const square = x * x + y * y;
-        if (square > 4) return null;
-        const cosine = 1 - square / 2;
-        const length = Math.sqrt(1 - square / 4);
-        const along = (axis) => cosine * this.centre[axis] + length * (x * this.left[axis] + y * this.up[axis]);
-        return [along(0), along(1), along(2)];
+        if (square > this.kind.most) return null;
+        const length = this.kind.length(square);
+        return this.along(this.kind.cosine(square), length * x, length * y);
     }
 
-    /** No point where the direction is far behind the sky's edge: a line there would cross the picture. */
+    /** No point where the direction is behind the projection's edge, or far away: a line there would cross the picture. */
     toScreen(direction) {
         const cosine = dot(direction, this.centre);
-        if (cosine < -0.9) return null;
-        const length = this.scale * Math.sqrt(2 / (1 + cosine));
+        if (cosine < this.kind.least) return null;
+        const length = this.scale * this.kind.stretch(cosine);
         return [this.middle[0] - length * dot(direction, this.left), this.middle[1] - length * dot(direction, this.up)];
     }
-}
-
-/** The directions to the east and to the north of a place. */
-function axesAt(ra, dec) {
-    return { east: fromDegrees(ra + 90, 0), north: fromDegrees(ra, dec + 90) };
-}
-
-/** How a view is turned after its middle has moved along a great circle to another direction, and the picture with it. */
-export function turnOf({ centre, up }, middle) {
-    const part = dot(up, middle) / (1 + dot(centre, middle));
-    const moved = up.map((side, axis) => side - part * (centre[axis] + middle[axis]));
-    const { east, north } = axesAt(...toDegrees(middle));
-    return (Math.atan2(dot(moved, east), dot(moved, north)) * 180) / Math.PI;
 }
 
 /** Two vectors, each so many times. */

@@ -1,6 +1,7 @@
 // Which part of the sky is shown, and how it moves: {ra, dec, width, turn} in degrees, and the projection of it into the picture.
-// `turn` is how far up is from north, to the east.
+// `turn` is how far up is from north, to the east. North is that of the galaxy where `isGalactic`.
 
+import { equatorialDegrees, galacticDegrees } from "./frames.js";
 import { toDegrees } from "./healpix.js";
 import { WHOLE_SKY, WIDEST_PART, boundedWidth, projectionOf, turnOf } from "./projection.js";
 
@@ -11,7 +12,13 @@ const POLAR = 0.25;
 
 export class View {
     constructor() {
-        Object.assign(this, { ra: 0, dec: 0, width: WHOLE_SKY, turn: 0, size: [1, 1], least: 1e-4 });
+        Object.assign(this, { ra: 0, dec: 0, width: WHOLE_SKY, turn: 0, part: "ZEA", whole: "MOL", isGalactic: false, size: [1, 1], least: 1e-4 });
+    }
+
+    /** Shows the same in other projections, or with another north: {part, whole, isGalactic}, or some of them. */
+    show(style) {
+        Object.assign(this, style);
+        this.project();
     }
 
     /** The picture has so many pixels. */
@@ -50,13 +57,17 @@ export class View {
     /** Moves the picture by so many pixels. */
     drag(right, down) {
         if (this.projection.isWhole) {
-            this.moveTo({ ...this, ra: this.ra + right * this.projection.pixel });
+            const [along, above] = this.isGalactic ? galacticDegrees([this.ra, this.dec]) : [this.ra, this.dec];
+            const moved = [along + right * this.projection.pixel, above];
+            const [ra, dec] = this.isGalactic ? equatorialDegrees(moved) : moved;
+            this.moveTo({ ...this, ra, dec });
             return;
         }
         const middle = this.projection.toSky(this.size[0] / 2 - right, this.size[1] / 2 - down);
         if (middle === null) return;
         const [ra, dec] = toDegrees(middle);
-        const isPolar = 90 - Math.max(Math.abs(dec), Math.abs(this.dec)) < this.width * POLAR;
+        const heights = [[ra, dec], [this.ra, this.dec]].map((place) => Math.abs(this.isGalactic ? galacticDegrees(place)[1] : place[1]));
+        const isPolar = 90 - Math.max(...heights) < this.width * POLAR;
         this.moveTo({ ra, dec, width: this.width, turn: isPolar ? turnOf(this.projection, middle) : this.turn });
     }
 

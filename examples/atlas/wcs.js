@@ -2,21 +2,19 @@
 
 import { partOf } from "./healpix.js";
 
-const FRAME = [["RADESYS", "ICRS"], ["CUNIT1", "deg"], ["CUNIT2", "deg"]];
+/** Degrees in the plane for half of the ellipse's width. */
+const HALF_OF_ELLIPSE = (360 * Math.SQRT2) / Math.PI;
 
-/** Degrees in Mollweide's plane for half of its width. */
-const HALF_OF_MOLLWEIDE = (360 * Math.SQRT2) / Math.PI;
-
-/** The cards of a picture of a part of the sky in the gnomonic projection, whose pixels have so many degrees in its middle. */
-export function gnomonicCards({ ra, dec, turn }, pixel, size) {
+/** The cards of a picture of a part of the sky in the gnomonic projection, turned by so many degrees, with such pixels in its middle. */
+export function gnomonicCards({ ra, dec }, turn, pixel, size) {
     const [cosine, sine] = [Math.cos, Math.sin].map((of) => pixel * of((turn * Math.PI) / 180));
     return cards("TAN", [ra, dec], size.map((side) => (side + 1) / 2), [[-cosine, sine], [sine, cosine]]);
 }
 
-/** The cards of the whole sky in Mollweide's projection. */
-export function mollweideCards({ ra, half }, size) {
-    const pixel = HALF_OF_MOLLWEIDE / half;
-    return cards("MOL", [ra, 0], size.map((side) => (side + 1) / 2), [[-pixel, 0], [0, pixel]]);
+/** The cards of the whole sky as an ellipse, by the name of its projection. */
+export function wholeCards(name, { meridian, half, isGalactic }, size) {
+    const pixel = HALF_OF_ELLIPSE / half;
+    return cards(name, [meridian, 0], size.map((side) => (side + 1) / 2), [[-pixel, 0], [0, pixel]], isGalactic);
 }
 
 /**
@@ -36,9 +34,11 @@ export function tileCards(order, cell, width) {
     return [...cards("HPX", [90 * (face % 4), 0], corner, matrix), ["PV2_1", 4], ["PV2_2", 3]];
 }
 
-function cards(projection, [ra, dec], [column, line], matrix) {
+function cards(projection, [along, above], [column, line], matrix, isGalactic = false) {
+    const [first, second] = isGalactic ? ["GLON-", "GLAT-"] : ["RA---", "DEC--"];
     return [
-        ["CTYPE1", `RA---${projection}`], ["CTYPE2", `DEC--${projection}`], ["CRVAL1", ra], ["CRVAL2", dec], ["CRPIX1", column], ["CRPIX2", line],
-        ["CD1_1", matrix[0][0]], ["CD1_2", matrix[0][1]], ["CD2_1", matrix[1][0]], ["CD2_2", matrix[1][1]], ...FRAME,
+        ["CTYPE1", first + projection], ["CTYPE2", second + projection], ["CRVAL1", along], ["CRVAL2", above], ["CRPIX1", column], ["CRPIX2", line],
+        ["CD1_1", matrix[0][0]], ["CD1_2", matrix[0][1]], ["CD2_1", matrix[1][0]], ["CD2_2", matrix[1][1]],
+        ["CUNIT1", "deg"], ["CUNIT2", "deg"], ...(isGalactic ? [] : [["RADESYS", "ICRS"]]),
     ];
 }
