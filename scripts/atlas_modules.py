@@ -9,7 +9,7 @@ import erfa
 import healpy
 import matplotlib
 import numpy
-from astropy import visualization
+from astropy import units, visualization
 from astropy.coordinates import SkyCoord
 from astropy.io import fits
 from astropy.wcs import WCS
@@ -38,7 +38,7 @@ def judge(trial, module, rows):
 
 def tables(trial):
     trial.open("")
-    for table in (positions, cells, frames, angles, numbers, stretches, colours, cuts, histograms, orders, views, poles, projections, addresses, names, reals, headers, tiles, changes):
+    for table in (positions, cells, frames, distances, angles, numbers, stretches, colours, cuts, histograms, orders, views, poles, projections, addresses, names, reals, headers, tiles, changes):
         table(trial)
 
 
@@ -171,6 +171,22 @@ def frames(trial):
     judge(trial, "frames", [(place, answer, numpy.allclose(answer, expected, atol=1e-9)) for place, answer, expected in zip(zip(ra, dec), found, there)])
     back = answers(trial, "frames", "(place) => it.equatorialDegrees(it.galacticDegrees(place))", [*zip(ra, dec)])
     judge(trial, "frames", [(place, found, numpy.allclose(place, found, atol=1e-9)) for place, found in zip(zip(ra, dec), back)])
+
+
+def distances(trial):
+    ra, dec = some_directions()
+    pairs = [*zip(zip(ra, dec), zip(ra[1:], dec[1:])), ((10, 41), (10 + 1e-7, 41)), ((5, 5), (185, -5))]
+    there = SkyCoord([pair[0] for pair in pairs], unit="deg"), SkyCoord([pair[1] for pair in pairs], unit="deg")
+    function = """(pair) => import("/atlas/healpix.js").then(({ fromDegrees }) => {
+        const [one, other] = pair.map((place) => fromDegrees(...place));
+        return [it.separation(one, other), it.positionAngle(one, other), it.arc(one, other)[32]];
+    })"""
+    for pair, (separation, angle, middle), far, to in zip(pairs, answers_later(trial, "measure", function, pairs), there[0].separation(there[1]).deg, there[0].position_angle(there[1]).deg):
+        is_right = abs(separation - far) < 1e-9 and (far > 179.9 or abs((angle - to + 180) % 360 - 180) < 1e-6)
+        judge(trial, "measure", [(pair, (separation, angle), is_right)])
+        if far < 179:
+            halfway = SkyCoord(*pair[0], unit="deg").directional_offset_by(to * units.deg, far / 2 * units.deg)
+            judge(trial, "measure", [(pair, middle, numpy.allclose(middle, halfway.cartesian.xyz, atol=1e-8))])
 
 
 def angles(trial):

@@ -333,6 +333,7 @@ def once(trial, sent, folder):
     turns_dark(trial)
     draws_by_webgl(trial)
     wheels(trial)
+    measures(trial)
     names_are_known(trial)
     compares(trial, folder)
     shows_sources(trial, catalogue_of(folder))
@@ -407,6 +408,29 @@ def cuts_are_typed(trial):
     grey = numpy.where(numpy.isnan(values), 0x17, 255 - numpy.round(255 * part))
     trial.judge("the log stretch, inverted", abs(picture[1:-1:2, 1:-1:2, 0].ravel() - grey) <= 1, 0.999)
     script(trial, "document.getElementById('inverted').click()")
+
+
+def measures(trial):
+    """From a place to another one, by keys; and the position that is copied, or stands in the box."""
+    turn(trial, VIEW)
+    canvas = trial.browser.find_element(By.ID, "lines")
+    script(trial, "arguments[0].addEventListener('pointermove', (event) => { window.at = [event.offsetX, event.offsetY]; })", canvas)
+    places = []
+    for right, down, key in ((-200, 100, "m"), (150, -120, "c")):
+        ActionChains(trial.browser).move_to_element_with_offset(canvas, right, down).perform()
+        at, rect = script(trial, "return window.at"), canvas.rect
+        places.append(SkyCoord(*trial.wcs((round(rect["height"]), round(rect["width"])), *VIEW).all_pix2world(*at, 0), unit="deg"))
+        canvas.send_keys(key)
+    said = re.match(r"([\d.]+)° from the mark, to ([\d.]+)°", script(trial, "return document.getElementById('distance').textContent"))
+    expected = places[0].separation(places[1]).deg, places[0].position_angle(places[1]).deg
+    if not said or abs(float(said[1]) - expected[0]) > 0.06 or abs(float(said[2]) - expected[1]) > 0.3:
+        trial.blame("a distance of", expected, "is said as", said and said[0])
+    place = trial.browser.find_element(By.ID, "place")
+    wait_for(trial, "a position to copy", lambda: re.fullmatch(r"RA ([\d.]+) Dec ([\d.]+), ICRS", place.get_attribute("value")), 5)
+    copied = SkyCoord(*re.findall(r"[\d.]+", place.get_attribute("value")), unit="deg")
+    if copied.separation(places[1]).arcsec > 1:
+        trial.blame("what is copied is", place.get_attribute("value"), "in place of", places[1])
+    canvas.send_keys("m")
 
 
 def names_are_known(trial):

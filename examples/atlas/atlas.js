@@ -9,14 +9,17 @@ import { COLOURS } from "./colours.js";
 import { Compare } from "./compare.js";
 import { cutOut } from "./cutout.js";
 import { withCards } from "./fitsfile.js";
+import { galacticDegrees } from "./frames.js";
 import { gpuOf } from "./gpu.js";
-import { cellOf, locate } from "./healpix.js";
+import { cellOf, locate, toDegrees } from "./healpix.js";
 import { Lines } from "./lines.js";
 import { Live } from "./live.js";
+import { arc } from "./measure.js";
 import { leafPixel, orderFor } from "./orders.js";
 import { element, mark, remembered, say } from "./panel.js";
 import { Picture } from "./picture.js";
 import { connectPointer } from "./pointer.js";
+import { writePosition } from "./position.js";
 import { WHOLE_SKY } from "./projection.js";
 import { PARTS, WHOLES } from "./projections.js";
 import { sayCatalogue, sayPoint, sayScale, saySource, sayState, sayTile } from "./said.js";
@@ -63,6 +66,7 @@ class Atlas {
         this.seen = new Map();
         this.squares = SQUARES.first;
         this.pointed = null;
+        this.marked = null;
         this.isMoving = false;
         this.readHash();
         this.measure();
@@ -215,6 +219,7 @@ class Atlas {
         if (generation) this.drawSurvey(generation);
         if (this.switches.grid) this.lines.grid(this.view, this.switches.galactic, this.switches.hours);
         if (this.switches.compass && !this.view.projection.isWhole) this.lines.compass();
+        if (this.marked) this.lines.way(arc(this.marked, this.pointedSky ?? this.marked));
         if (this.switches.catalogue) this.catalogue.draw(this.lines.brush, this.view.projection, ...this.view.size, this.density);
         this.tell(generation);
         if (this.isMoving && !this.byGpu) this.pace(performance.now() - begun, begun - (this.drawn ?? begun));
@@ -289,15 +294,18 @@ class Atlas {
         this.tellPoint();
     }
 
+    get pointedSky() {
+        return this.pointed && this.view.projection.toSky(...this.pointed);
+    }
+
     /** What stands where the pointer is, or was when it tapped, in the HiPS that is shown there. */
     tellPoint() {
-        const { projection } = this.view;
-        const sky = this.pointed && projection.toSky(...this.pointed);
+        const sky = this.pointedSky;
         const isSecond = this.pointed && this.pointed[0] >= this.compare.columnOf(this.view.size[0]);
         const generation = isSecond ? this.compare.shown : this.live.shown;
         const place = sky && generation ? locate(sky, {}) : null;
         const reading = place && readingOf(this.layers(generation), this.coverageFor(generation), place);
-        sayPoint(sky, reading, this.switches.galactic, projection.pixel);
+        sayPoint(sky, reading, { isGalactic: this.switches.galactic, pixel: this.view.projection.pixel, mark: this.marked });
         this.scaleControls.mark(reading?.value ?? NaN);
         const { shown } = this.live;
         const leaf = place && shown && cellOf(shown.order, place);
@@ -341,6 +349,8 @@ class Atlas {
         element("save").addEventListener("click", () => this.save());
         element("cut-out").addEventListener("click", () => this.saveCutOut());
         element("tile").addEventListener("click", () => this.saveTile());
+        element("measure").addEventListener("click", () => this.measureFrom());
+        element("copy").addEventListener("click", () => this.copy());
         window.addEventListener("resize", () => {
             this.measure();
             this.moveTo(this.view);
@@ -355,12 +365,39 @@ class Atlas {
             pick: (column, line) => this.pick([column, line]),
             pressed: () => this.point(this.pointed ?? middle()),
             middle,
+            keys: { m: () => this.measureFrom(), c: () => this.copy() },
         }, () => this.density);
     }
 
     point(pointed) {
         this.pointed = pointed;
-        if (this.frame === null || this.frame === undefined) this.tellPoint();
+        this.lastPointed = pointed ?? this.lastPointed;
+        if (this.marked) this.draw();
+        else if (this.frame === null || this.frame === undefined) this.tellPoint();
+    }
+
+    /** The place that is pointed at, or was last; or else the middle. */
+    get chosen() {
+        const { projection } = this.view;
+        return projection.toSky(...(this.lastPointed ?? this.view.middle())) ?? projection.centre;
+    }
+
+    /** Begins to measure from where the pointer is, or ends that. */
+    measureFrom() {
+        this.marked = this.marked ? null : this.chosen;
+        element("measure").setAttribute("aria-pressed", String(this.marked !== null));
+        this.draw();
+    }
+
+    /** Copies the position, as the box for positions reads it. */
+    async copy() {
+        const { galactic } = this.switches;
+        const degrees = toDegrees(this.chosen);
+        const text = writePosition(galactic ? galacticDegrees(degrees) : degrees, galactic);
+        const isCopied = await navigator.clipboard?.writeText(text).then(() => true, () => false);
+        say("understood", isCopied ? `${text} is copied.` : text);
+        element("place").value = text;
+        if (!isCopied) element("place").select();
     }
 
     pick(point) {

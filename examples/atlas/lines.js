@@ -181,6 +181,16 @@ export class Lines {
         }
     }
 
+    /** The way from a mark, along these directions. */
+    way(directions) {
+        const points = directions.map((direction) => this.projection.toScreen(direction));
+        const [foot] = points;
+        for (const [colour, width] of [[SHADE, 4], [NUMBERS, 1.5]]) {
+            this.path(points, colour, width);
+            if (foot) this.path([-1, 1].flatMap((side) => [shifted(foot, -5, -5 * side, this.density), shifted(foot, 5, 5 * side, this.density), null]), colour, width);
+        }
+    }
+
     /** The line behind which a second HiPS is shown, with its name. */
     curtain(column, name) {
         this.path([[column, 0], [column, this.height]], "rgba(16, 19, 28, 0.6)", 4);

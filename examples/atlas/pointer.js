@@ -6,7 +6,7 @@ const STILL = 6;
 
 /**
  * `page` has `drag(right, down)`, `zoom(factor, point)`, `point(column, line)`, `leave()` and `pick(column, line)`, in pixels of the
- * picture, and `middle()`, its middle.
+ * picture, `middle()`, its middle, and `keys`, what other keys do.
  */
 export function connectPointer(canvas, page, density) {
     const fingers = new Map();
@@ -60,6 +60,7 @@ function pressed(event, page) {
     if (moves[event.key]) page.drag(...moves[event.key]);
     else if (event.key === "+" || event.key === "=") page.zoom(1 / ZOOM, page.middle());
     else if (event.key === "-") page.zoom(ZOOM, page.middle());
+    else if (page.keys[event.key] && !event.ctrlKey && !event.metaKey) page.keys[event.key]();
     else return;
     event.preventDefault();
     page.pressed();

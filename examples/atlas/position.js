@@ -24,6 +24,7 @@ const COMMA = /[,;|]/y;
 const UNITS = [["", ":", "h", "°"], ["", ":", "m", "'"], ["", "s", '"']];
 const CELL = /^(?:hpx|healpix|cell|pixel)\s*(\d{1,2})\s*\/\s*(\d{1,16})$/i;
 const DEEPEST_CELL = 24;
+const MOST_PLACES = 7;
 // A name made of a position: hours, minutes and seconds, then degrees, minutes and seconds.
 const J_NAME = /^j(\d\d)(\d\d)(\d\d)\.?(\d*)([+-]\d\d)(\d\d)(\d\d)\.?(\d*)$/i;
 const SHORT_J_NAME = /^j(\d\d)(\d\d(?:\.\d+)?)([+-]\d\d)(\d\d)$/i;
@@ -199,7 +200,12 @@ function angle(numbers) {
 }
 
 function positionOf(frame, degrees) {
-    const [along, above] = degrees.map((angle) => String(Number(angle.toFixed(7))));
     const [ra, dec] = frame === ICRS ? degrees : equatorialDegrees(degrees);
-    return { ra, dec, text: frame === ICRS ? `RA ${along} Dec ${above}, ICRS` : `l ${along} b ${above}, galactic` };
+    return { ra, dec, text: writePosition(degrees, frame === GALACTIC) };
+}
+
+/** A position in degrees as it is written here, and can be read again. */
+export function writePosition(degrees, isGalactic = false) {
+    const [along, above] = degrees.map((angle) => String(Number(angle.toFixed(MOST_PLACES))));
+    return isGalactic ? `l ${along} b ${above}, galactic` : `RA ${along} Dec ${above}, ICRS`;
 }

@@ -1,6 +1,8 @@
 // Names of objects, by a service that answers as Sesame of the CDS does: `ADDRESS?NAME` is an XML with the first resolver's position.
 // The page asks none unless its index.html names one (data-resolver), whose origin its Content-Security-Policy must then allow.
 
+import { writePosition } from "./position.js";
+
 const PATIENCE = 10_000;
 
 /** The position of an object: {ra, dec, text}; or {fault}, in words. */
@@ -15,5 +17,5 @@ export function readSesame(text, name) {
     const [ra, dec] = ["jradeg", "jdedeg"].map((tag) => parseFloat(answer.querySelector(`Resolver > ${tag}`)?.textContent));
     if (!(ra >= 0 && ra < 360 && Math.abs(dec) <= 90)) return { fault: `No object is known as “${name}”.` };
     const known = answer.querySelector("Resolver > oname")?.textContent.trim();
-    return { ra, dec, text: `RA ${Number(ra.toFixed(7))} Dec ${Number(dec.toFixed(7))}, ICRS`, name: known || name };
+    return { ra, dec, text: writePosition([ra, dec]), name: known || name };
 }

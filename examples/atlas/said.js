@@ -3,6 +3,7 @@
 import { angleText, galacticText, positionText } from "./angles.js";
 import { toGalactic } from "./frames.js";
 import { toDegrees } from "./healpix.js";
+import { measureText } from "./measure.js";
 import { element, mark, say } from "./panel.js";
 import { counted, facts, faultText, newsText } from "./words.js";
 
@@ -42,10 +43,11 @@ export function sayScale(view, density) {
     element("north").hidden = turn === 0;
 }
 
-/** The position of a direction, and what stands there. */
-export function sayPoint(sky, reading, isGalactic, pixel) {
+/** The position of a direction, how far it is from a mark, and what stands there. */
+export function sayPoint(sky, reading, { isGalactic, pixel, mark }) {
     const text = () => (isGalactic ? galacticText(toDegrees(toGalactic(sky)), pixel) : positionText(toDegrees(sky), pixel));
     say("position", sky ? text() : "");
+    say("distance", sky && mark ? measureText(mark, sky) : "");
     say("value", reading?.text ?? "");
 }
 
