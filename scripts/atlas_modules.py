@@ -38,7 +38,7 @@ def judge(trial, module, rows):
 
 def tables(trial):
     trial.open("")
-    for table in (positions, cells, frames, distances, angles, numbers, stretches, colours, cuts, histograms, orders, views, poles, projections, addresses, names, reals, headers, tiles, changes):
+    for table in (positions, cells, frames, distances, angles, numbers, stretches, colours, cuts, histograms, orders, views, poles, projections, addresses, names, reals, headers, tiles, changes, tables_of_sources, regions, mocs):
         table(trial)
 
 
@@ -467,6 +467,87 @@ def changes(trial):
     judge(trial, "changes", [(pair, answer, answer == {"order": 6, "cells": cells}) for pair, answer, cells in zip(pairs, found, expected)])
     coarse = answers(trial, "changes", "(cells) => it.coarsened({ order: 6, cells })", [[*range(1000)], [1, 2]])
     judge(trial, "changes", [("many", coarse, coarse == [{"order": 5, "cells": [*range(250)]}, {"order": 6, "cells": [1, 2]}])])
+
+
+VOTABLE = """<?xml version="1.0"?><VOTABLE version="1.4" xmlns="http://www.ivoa.net/xml/VOTable/v1.3"><RESOURCE><TABLE>
+<FIELD name="Vmag" datatype="float" unit="mag" ucd="phot.mag"/><FIELD name="lon" datatype="double" ucd="pos.eq.ra;meta.main"/>
+<FIELD name="lat" datatype="double" ucd="pos.eq.dec;meta.main"/><DATA>%s</DATA></TABLE></RESOURCE></VOTABLE>"""
+TABLES = [
+    (VOTABLE % "<TABLEDATA><TR><TD>7.5</TD><TD>10.684</TD><TD>41.269</TD></TR><TR><TD>8</TD><TD/><TD/></TR></TABLEDATA>", [("7.5", M31)]),
+    ("# made\nid;RAJ2000;DEJ2000\n1;10.684;41.269\n2;05:34:31.9;+22:00:52\n", [("1", M31), ("2", CRAB)]),
+    ('id,ra,dec\n"1, ""a""",10.684,41.269\n3,x,5\n', [('1, "a"', M31)]),
+    ("id\t_RAJ2000\t_DEJ2000\r\n\t10.684\t41.269\r\n", [("", M31)]),
+    ("alpha,delta\n10.684,41.269", [("10.684", M31)]),
+    (VOTABLE % "<BINARY2/>", "aren't inline"),
+    ("<?xml version='1.0'?><nothing>", "no VOTable"),
+    ("a,b\n1,2\n", "no columns of a position, as ra and dec, among a, b"),
+    ("one line", "names no columns"),
+    ("", "no lines"),
+]
+
+
+def tables_of_sources(trial):
+    function = """(text) => {
+        try { return it.readTable(text).rows.map(({ values, direction }) => [values[0], direction]); } catch (fault) { return fault.message; }
+    }"""
+    found = answers(trial, "tables", function, [text for text, _ in TABLES])
+    for (text, expected), rows in zip(TABLES, found):
+        if isinstance(expected, str):
+            is_right = isinstance(rows, str) and expected in rows
+        else:
+            is_right = [row[0] for row in rows] == [name for name, _ in expected]
+            is_right = is_right and all(numpy.allclose(direction, place.cartesian.xyz, atol=1e-9) for (_, direction), (_, place) in zip(rows, expected))
+        judge(trial, "tables", [(text, rows, is_right)])
+
+
+def regions(trial):
+    """Shapes of DS9: points of each line, and how far and in which direction astropy has them from the shape's middle."""
+    function = "(text) => { try { return it.readRegions(text).shapes; } catch (fault) { return fault.message; } }"
+    shapes = {
+        "fk5\ncircle(10,41,30')": (SkyCoord(10, 41, unit="deg"), [(0, 0.5, 270), (18, 0.5, 0), (36, 0.5, 90)]),
+        'icrs; circle 00:40:00 +41:00:00 1800"': (SkyCoord(10, 41, unit="deg"), [(54, 0.5, 180)]),
+        "galactic\nellipse(120,-20,2,1,30) # color=red": (SkyCoord(120, -20, unit="deg", frame="galactic"), [(0, 2, 300), (18, 1, 30)]),
+        "j2000\nbox(200,-60,2,1,0)": (SkyCoord(200, -60, unit="deg"), [(0, 1.25**0.5, 360 - 63.4349), (1, 1.25**0.5, 63.4349)]),
+    }
+    for text, (middle, points) in shapes.items():
+        line = answers(trial, "regions", function, [text])[0][0][0]
+        for which, far, angle in points:
+            point = SkyCoord(*line[which], representation_type="cartesian").represent_as("unitspherical")
+            point = SkyCoord(point.lon, point.lat).transform_to(middle.frame)
+            found = middle.separation(point).deg, middle.position_angle(point).deg
+            judge(trial, "regions", [(text, found, abs(found[0] - far) < 1e-4 and abs((found[1] - angle + 180) % 360 - 180) < 0.01)])
+    polygon = answers(trial, "regions", function, ["icrs\npolygon(10,41,11,41,11,42)"])[0][0][0]
+    expected = healpy.ang2vec([10, 11, 11, 10], [41, 41, 42, 41], lonlat=True)
+    judge(trial, "regions", [("a polygon", polygon, numpy.allclose(polygon, expected, atol=1e-12))])
+    refused = {"image\ncircle(1,2,3)": "are image", "circle(1,2,3)": "no frame", "fk5\ncircle(1,2,3p)": "no size", "fk5\nvector(1,2,3,4)": "no shape", "fk5\ncircle(1,99,1)": "−90 to +90"}
+    judge(trial, "regions", [(text, said, refused[text] in said) for text, said in zip(refused, answers(trial, "regions", function, [*refused]))])
+
+
+def mocs(trial):
+    """Coverage maps of each form: which cells of order 8 they touch."""
+    cells = {3: [5, 700], 6: [2**12 * 3 + 17], 8: [123456, 123457]}
+    expected = sorted({cell * 4 ** (8 - order) + at for order, some in cells.items() for cell in some for at in range(4 ** (8 - order))})
+    uniq = [4 * 4**order + cell for order, some in cells.items() for cell in some]
+    ranges = [bound << 2 * (29 - order) for order, some in cells.items() for cell in some for bound in (cell, cell + 1)]
+    text = "3/5 700 6/12305 8/123456-123457"
+    files = [moc_file("NUNIQ", "K", uniq), moc_file("NUNIQ", "J", uniq), moc_file("RANGE", "K", ranges), text.encode(), (text + " 9/").encode(), b'{"3": [5, 700], "6": [12305], "8": [123456, 123457]}']
+    function = """(bytes) => {
+        try { const moc = it.readMoc(Uint8Array.from(bytes).buffer); return Array.from({ length: 12 * 4 ** 8 }, (_, cell) => cell).filter((cell) => moc.touches(8, cell)); }
+        catch (fault) { return fault.message; }
+    }"""
+    found = answers(trial, "moc", function, [[*file] for file in files])
+    judge(trial, "moc", [(file[:40], len(cells), cells == expected) for file, cells in zip(files, found)])
+    wrong = [b"3/768", b"{}", b"5/x", b'{"3": [1', b"25/1"]
+    judge(trial, "moc", [(text, said, isinstance(said, str) and "no coverage map" in said) for text, said in zip(wrong, answers(trial, "moc", function, [[*text] for text in wrong]))])
+
+
+def moc_file(ordering, form, numbers):
+    column = fits.Column("UNIQ", form, array=numpy.array(numbers, "i8" if form == "K" else "i4"))
+    table = fits.BinTableHDU.from_columns([column])
+    table.header["ORDERING"] = ordering
+    file = io.BytesIO()
+    fits.HDUList([fits.PrimaryHDU(), table]).writeto(file)
+    return file.getvalue()
 
 
 def at(pixel):

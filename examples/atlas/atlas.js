@@ -15,9 +15,10 @@ import { cellOf, locate, toDegrees } from "./healpix.js";
 import { Lines } from "./lines.js";
 import { Live } from "./live.js";
 import { arc } from "./measure.js";
+import { Opened } from "./opened.js";
 import { leafPixel, orderFor } from "./orders.js";
 import { element, mark, remembered, say } from "./panel.js";
-import { Picture } from "./picture.js";
+import { OUTLINE, Picture } from "./picture.js";
 import { connectPointer } from "./pointer.js";
 import { writePosition } from "./position.js";
 import { WHOLE_SKY } from "./projection.js";
@@ -57,12 +58,13 @@ class Atlas {
         this.gpu = drawBy === "cpu" ? null : gpuOf(element("moving"), drawBy === "gpu");
         this.lines = new Lines(element("lines"));
         const inView = (generation) => this.inView(generation);
-        this.live = new Live(address, { inView, opened: (generation) => this.opened(generation), changed: () => this.changed() });
+        this.live = new Live(address, { inView, opened: (generation) => this.begin(generation), changed: () => this.changed() });
         this.catalogue = new Catalogue(catalogue, () => this.draw());
         const second = { inView, changed: () => this.changed(), opened: (name, path) => this.openedOther(name, path) };
         this.compare = new Compare(second);
         this.background = new Background(second);
         this.scaleControls = new ScaleControls(this);
+        this.opened = new Opened({ changed: () => this.draw(), found: (ra, dec) => this.found(ra, dec) });
         this.seen = new Map();
         this.squares = SQUARES.first;
         this.pointed = null;
@@ -171,7 +173,7 @@ class Atlas {
     // ---- drawing
 
     /** What is known of the first generation sets the first view and the first cuts, where the page's address doesn't. */
-    opened(generation) {
+    begin(generation) {
         const [ra, dec, fov] = ["hips_initial_ra", "hips_initial_dec", "hips_initial_fov"].map((key) => generation.number(key));
         if (!this.isTold && ra !== null && dec !== null) this.moveTo({ ra, dec, width: fov ?? this.view.width });
         else this.written ??= this.viewKey();
@@ -220,7 +222,8 @@ class Atlas {
         if (this.switches.grid) this.lines.grid(this.view, this.switches.galactic, this.switches.hours);
         if (this.switches.compass && !this.view.projection.isWhole) this.lines.compass();
         if (this.marked) this.lines.way(arc(this.marked, this.pointedSky ?? this.marked));
-        if (this.switches.catalogue) this.catalogue.draw(this.lines.brush, this.view.projection, ...this.view.size, this.density);
+        if (this.switches.catalogue) this.catalogue.draw(this.lines.brush, this.pictureFrame);
+        this.opened.draw(this.lines, this.pictureFrame);
         this.tell(generation);
         if (this.isMoving && !this.byGpu) this.pace(performance.now() - begun, begun - (this.drawn ?? begun));
         this.drawn = this.isMoving ? begun : undefined;
@@ -242,7 +245,8 @@ class Atlas {
             this.gpu.draw(this.view.projection, ...this.view.size, { scale, layers, cells: (at) => this.cellsOf(at), coverage });
         } else {
             this.read();
-            this.picture.paint(scale, coverage, this.background.shown && this.background);
+            const outlines = coverage ? [{ coverage, colour: OUTLINE }] : [];
+            this.picture.paint(scale, [...outlines, ...this.opened.outlines], this.background.shown && this.background);
         }
         if (this.switches.cells) this.lines.cells(order ?? SKY_ORDER, order === null ? this.cellsOf(SKY_ORDER) : cells);
         if (this.switches.changes && this.changes) this.lines.changed(coarsened(this.changes));
@@ -321,7 +325,7 @@ class Atlas {
         element("close").addEventListener("click", () => this.pickNone());
         window.addEventListener("keydown", (event) => event.key === "Escape" && this.pickNone());
         connectSearch(resolver, { isGalactic: () => this.switches.galactic, found: (ra, dec) => this.found(ra, dec) });
-        for (const part of [this.scaleControls, this.compare, this.background]) part.connect();
+        for (const part of [this.scaleControls, this.compare, this.background, this.opened]) part.connect();
         this.showSwitches();
         this.connectView();
         this.openOthers();
@@ -400,15 +404,26 @@ class Atlas {
         if (!isCopied) element("place").select();
     }
 
+    get pictureFrame() {
+        const [width, height] = this.view.size;
+        return { projection: this.view.projection, width, height, density: this.density };
+    }
+
+    /** The tables whose sources can be picked: those from disk, and the catalogue where it is shown. */
+    get tables() {
+        return [...this.opened.tables, ...(this.switches.catalogue && this.catalogue.isThere ? [this.catalogue] : [])];
+    }
+
     pick(point) {
-        if (!this.switches.catalogue || !this.catalogue.isThere) return;
-        this.catalogue.pick(point, this.view.projection, ...this.view.size, this.density);
-        saySource(this.catalogue);
+        const found = this.tables.map((table) => ({ table, distance: table.pick(point, this.pictureFrame) }));
+        const nearest = found.reduce((one, other) => (other.distance < one.distance ? other : one), { distance: Infinity });
+        for (const { table } of found) if (table !== nearest.table) table.picked = null;
+        saySource(nearest.table ?? this.catalogue);
         this.draw();
     }
 
     pickNone() {
-        this.catalogue.picked = null;
+        for (const table of [this.catalogue, ...this.opened.tables]) table.picked = null;
         saySource(this.catalogue);
         this.draw();
     }

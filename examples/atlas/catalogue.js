@@ -2,6 +2,7 @@
 // orders first and larger, and the row of one that is picked.
 
 import { cellOf, fromDegrees, locate } from "./healpix.js";
+import { Marks, placeIn } from "./marks.js";
 import { tilePath } from "./survey.js";
 
 const MOST_TILES = 60;
@@ -9,16 +10,13 @@ const MOST_TILES = 60;
 const AREA_OF_A_MARK = 1500;
 const FETCHES_AT_ONCE = 4;
 const ALL_SKY_ORDERS = 2;
-const REACH = 12;
 const INK = "#ffd24a";
-const EDGE = "rgba(20, 18, 8, 0.65)";
 
-export class Catalogue {
+export class Catalogue extends Marks {
     constructor(address, onChange) {
+        super(INK);
         Object.assign(this, { address, onChange });
         this.orders = new Map();
-        this.units = new Map();
-        this.picked = null;
         this.isThere = false;
     }
 
@@ -89,15 +87,16 @@ export class Catalogue {
     }
 
     /** Some sources in view and where they stand, the best of each cell first. */
-    *inView(projection, width, height, density) {
+    *inView(frame) {
+        const { projection, width, height, density } = frame;
         const area = projection.isWhole ? (Math.PI * projection.half ** 2) / 2 : width * height;
         let left = Math.round(area / AREA_OF_A_MARK / density ** 2);
         for (const [order, tiles] of [...this.orders].sort(([one], [other]) => one - other)) {
             if (order > ALL_SKY_ORDERS && this.cellsOf(order).length > MOST_TILES) return;
             for (const rows of tiles.values()) {
                 for (const row of rows) {
-                    const at = projection.toScreen(row.direction);
-                    if (!at || at[0] < 0 || at[1] < 0 || at[0] >= width || at[1] >= height) continue;
+                    const at = placeIn(frame, row.direction);
+                    if (!at) continue;
                     if (left-- === 0) return;
                     yield [row, at];
                 }
@@ -105,38 +104,10 @@ export class Catalogue {
         }
     }
 
-    /** Draws a ring for each source in view; one that is picked has a second. */
-    draw(brush, projection, width, height, density) {
-        for (const [colour, thick] of [[EDGE, 3.5], [INK, 1.5]]) {
-            brush.strokeStyle = colour;
-            brush.lineWidth = thick * density;
-            brush.beginPath();
-            for (const [row, [x, y]] of this.inView(projection, width, height, density)) {
-                const radius = radiusOf(row) * density;
-                brush.moveTo(x + radius, y);
-                brush.arc(x, y, radius, 0, 2 * Math.PI);
-                if (row !== this.picked) continue;
-                brush.moveTo(x + radius + 4 * density, y);
-                brush.arc(x, y, radius + 4 * density, 0, 2 * Math.PI);
-            }
-            brush.stroke();
-        }
+    /** Brighter sources stand in the tiles of coarser orders. */
+    radiusOf({ order }) {
+        return Math.max(2.5, 6.5 - order);
     }
-
-    /** Picks the source that is nearest to a point, if one is near. */
-    pick([column, line], projection, width, height, density) {
-        let [nearest, least] = [null, REACH * density];
-        for (const [row, [x, y]] of this.inView(projection, width, height, density)) {
-            const distance = Math.hypot(x - column, y - line);
-            if (distance < least) [nearest, least] = [row, distance];
-        }
-        this.picked = nearest;
-    }
-}
-
-/** Brighter sources stand in the tiles of coarser orders. */
-function radiusOf({ order }) {
-    return Math.max(2.5, 6.5 - order);
 }
 
 /** The rows of a tile: its columns by their names, and the direction; of several cells the best ones of each come first. */

@@ -110,16 +110,24 @@ export function cutMosaic(mosaic) {
 
 /** The rows of a coverage file: the numbers 4·4^order + cell, and the order of the leaves. */
 export function readCoverage(buffer) {
+    const { isRange, numbers, order } = readMocTable(buffer);
+    if (isRange) throw new FitsFault("its table isn't one of NUNIQ numbers");
+    return { order, rows: numbers.map(Number) };
+}
+
+/** The numbers of a coverage file's table: cells, or the first cells of ranges and those behind them, in turn. */
+export function readMocTable(buffer) {
     const first = readHeader(buffer, 0);
     const { cards, end } = readHeader(buffer, first.end);
-    if (cards.get("ORDERING") !== "NUNIQ" || cards.get("TFORM1") !== "1K") throw new FitsFault("its table isn't one of NUNIQ numbers");
+    const [isRange, isLong] = [cards.get("ORDERING") === "RANGE", /^1?K$/.test(cards.get("TFORM1"))];
+    if ((!isRange && cards.get("ORDERING") !== "NUNIQ") || !/^1?[JK]$/.test(cards.get("TFORM1"))) throw new FitsFault("its table isn't one of NUNIQ numbers");
     const rows = wholeCard(cards, "NAXIS2");
-    if (buffer.byteLength < end + rows * 8) throw new FitsFault("its table is cut short");
+    const size = isLong ? 8 : 4;
+    if (buffer.byteLength < end + rows * size) throw new FitsFault("its table is cut short");
     const view = new DataView(buffer, end);
-    return {
-        order: wholeCard(cards, "MOCORDER"),
-        rows: Array.from({ length: rows }, (_, row) => Number(view.getBigInt64(row * 8))),
-    };
+    const numbers = Array.from({ length: rows }, (_, row) => (isLong ? view.getBigInt64(row * size) : BigInt(view.getInt32(row * size))));
+    const order = cards.has("MOCORDER") ? wholeCard(cards, "MOCORDER") : null;
+    return { isRange, numbers, order };
 }
 
 /** The values of the cards of the header that begins there, and where its last block ends. */

@@ -191,6 +191,13 @@ export class Lines {
         }
     }
 
+    /** A line of a file, on dark and on light pixels. */
+    shape(directions, colour) {
+        const points = directions.map((direction) => this.projection.toScreen(direction));
+        this.path(points, "rgba(16, 19, 28, 0.6)", 3.5);
+        this.path(points, colour, 1.5);
+    }
+
     /** The line behind which a second HiPS is shown, with its name. */
     curtain(column, name) {
         this.path([[column, 0], [column, this.height]], "rgba(16, 19, 28, 0.6)", 4);

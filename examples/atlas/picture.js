@@ -7,7 +7,6 @@ const OUTSIDE = 255;
 export const GROUND = "#171b26";
 export const OUTLINE = "#59d6c7";
 const GROUND_PIXEL = packed(channels(GROUND));
-const OUTLINE_PIXEL = packed(channels(OUTLINE));
 // Within a block of pixels places are interpolated, by squares, where that is exact to this part of a pixel; else within its quarters.
 const EXACT = 0.001;
 const EXACT_WHILE_MOVING = 0.3;
@@ -59,7 +58,7 @@ export class Picture {
     place(projection, width, height, step) {
         this.resize(Math.ceil(width / step), Math.ceil(height / step));
         this.faces.fill(OUTSIDE);
-        this.covered = null;
+        this.covered = new Map();
         this.sky = (column, line) => projection.toSky((column + 0.5) * step, (line + 0.5) * step);
         this.exact = step === 1 ? EXACT : EXACT_WHILE_MOVING;
         const half = BLOCK / 2;
@@ -221,8 +220,8 @@ export class Picture {
         }
     }
 
-    /** Colours the pixels, over a background if there is one, and draws the outline of the coverage where there is one. */
-    paint(scale, coverage, background) {
+    /** Colours the pixels, over a background if there is one, and draws the outlines of coverages in their colours. */
+    paint(scale, outlines, background) {
         const pixels = new Uint32Array(this.image.data.buffer);
         const table = tableOf(scale);
         const shade = shader(scale);
@@ -232,34 +231,35 @@ export class Picture {
             else pixels[at] = value !== value ? GROUND_PIXEL : table[shade(value)];
         }
         if (background) this.paintOver(background.scale, background.opacity);
-        if (coverage) this.outline(pixels, coverage);
+        for (const { coverage, colour } of outlines) this.outline(pixels, coverage, packed(channels(colour)));
         this.brush.putImageData(this.image, 0, 0);
     }
 
-    outline(pixels, coverage) {
-        if (!this.covered || this.coveredOf !== coverage) this.cover(coverage);
-        const { covered, width } = this;
+    outline(pixels, coverage, colour) {
+        if (!this.covered.has(coverage)) this.covered.set(coverage, this.cover(coverage));
+        const { width } = this;
+        const covered = this.covered.get(coverage);
         for (let at = 0; at + width < pixels.length; at++) {
             const here = covered[at];
             if (here === OUTSIDE) continue;
             const [right, below] = [covered[at + 1], covered[at + width]];
-            if ((right !== here && right !== OUTSIDE && (at + 1) % width !== 0) || (below !== here && below !== OUTSIDE)) pixels[at] = OUTLINE_PIXEL;
+            if ((right !== here && right !== OUTSIDE && (at + 1) % width !== 0) || (below !== here && below !== OUTSIDE)) pixels[at] = colour;
         }
     }
 
     /** Finds for each pixel 1 where it lies in the coverage, and 0 elsewhere. */
     cover(coverage) {
-        this.covered = new Uint8Array(this.faces.length).fill(OUTSIDE);
-        this.coveredOf = coverage;
+        const covered = new Uint8Array(this.faces.length).fill(OUTSIDE);
         const shift = DEEP - coverage.order;
         let [face, column, line, answer] = [OUTSIDE, -1, -1, 0];
-        for (let at = 0; at < this.covered.length; at++) {
+        for (let at = 0; at < covered.length; at++) {
             if (this.faces[at] === OUTSIDE) continue;
             if (this.faces[at] !== face || this.xs[at] >> shift !== column || this.ys[at] >> shift !== line) {
                 [face, column, line] = [this.faces[at], this.xs[at] >> shift, this.ys[at] >> shift];
                 answer = coverage.touches(coverage.order, face * 4 ** coverage.order + interleave(column, line)) ? 1 : 0;
             }
-            this.covered[at] = answer;
+            covered[at] = answer;
         }
+        return covered;
     }
 }

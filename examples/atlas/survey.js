@@ -2,7 +2,7 @@
 
 import { changesOf } from "./changes.js";
 import { FitsFault, cutMosaic, readCoverage, readImage } from "./fits.js";
-import { partOf } from "./healpix.js";
+import { centre, partOf } from "./healpix.js";
 
 const PATIENCE = 20_000;
 const SQUARE_DEGREES = 41_252.96;
@@ -59,12 +59,12 @@ function readProperties(bytes) {
 
 /** The leaves that there are, as ranges of their numbers. */
 export class Coverage {
-    constructor({ order, rows }) {
+    constructor({ order, rows = [], ranges = rows.map((row) => rangeOf(row, order)) }) {
         this.order = order;
         this.ranges = [];
-        for (const [first, end] of rows.map((row) => rangeOf(row, order)).sort((one, other) => one[0] - other[0])) {
+        for (const [first, end] of ranges.sort((one, other) => one[0] - other[0])) {
             const last = this.ranges.at(-1);
-            if (last && last[1] === first) last[1] = end;
+            if (last && last[1] >= first) last[1] = Math.max(last[1], end);
             else this.ranges.push([first, end]);
         }
     }
@@ -74,6 +74,12 @@ export class Coverage {
         const leaves = 4 ** (this.order - order);
         const range = this.rangeAfter(cell * leaves);
         return range !== undefined && range[0] < (cell + 1) * leaves;
+    }
+
+    /** The direction of a leaf amid the others, in the order of their numbers. */
+    get middle() {
+        const [first] = this.ranges[this.ranges.length >> 1];
+        return centre(this.order, first);
     }
 
     /** Degrees along the side of a square as large as all leaves. */
