@@ -330,11 +330,16 @@ def publishes(trial):
     trial.marks_are_at(view, leaf)
     # The same on the sky as a whole, for which the page is opened anew, and a second publication.
     whole = (40, 0, 360)
+    Delayed.sent.clear()
     trial.open(trial.hash(whole))
+    begun = time.monotonic()
     trial.compare("the whole sky after it", whole, 3 + survey.bits)
     trial.ask("DELETE", "/" + tile_path(survey.top, leaf))
     trial.ask("POST", "/publish")
     trial.wait("whole", "2")
+    mosaics = [path for path, _ in Delayed.sent].count("/Norder3/Allsky.fits")
+    if mosaics != 2 or time.monotonic() - begun < 8:
+        trial.blame(mosaics, "mosaics within", time.monotonic() - begun, "seconds")
     kept, survey.leaves = survey.leaves, survey.leaves[survey.leaves != leaf]
     del survey.edited[leaf]
     trial.compare("a leaf that was taken away", whole, 3 + survey.bits)

@@ -1,11 +1,13 @@
 // Keeps one generation of a survey shown, and goes to the next one when it is whole. Every reply names the edits that it shows, its
 // prefix; a generation takes only replies of its own prefix. What is shown stays until all that is in view has come of the next one.
-// Of that only the tiles come that have changed, as far as their ancestors of a coarse order show it. A change that is too small
-// for these is found a little later: once no other generation has come for some seconds, each tile that was kept is looked at itself.
+// Of that only the tiles come that have changed, as far as their ancestors of a coarse order show it; the mosaic, which shows the whole
+// sky, comes as a whole, at most every ten seconds. A change that is too small for coarse tiles is found a little later: once no other
+// generation has come for some seconds, each tile that was kept is looked at itself.
 
 import { Generation, SurveyFault, ask } from "./survey.js";
 
 const PAUSE = 1000;
+const PAUSE_FOR_MOSAIC = 10_000;
 const PAUSE_FOR_OLDER = 300;
 const PAUSE_FOR_OTHERS = 20;
 const QUIET = 2500;
@@ -37,6 +39,7 @@ export class Live {
         this.changes = null;
         this.fault = null;
         this.isAway = false;
+        this.isAwaited = false;
         this.olderReplies = 0;
     }
 
@@ -49,7 +52,18 @@ export class Live {
 
     /** Everything that the picture needs is there, of the newest generation that is known. */
     get isWhole() {
-        return this.shown !== null && this.coming === null && this.fault === null && this.lacking(this.shown).length === 0;
+        return this.shown !== null && !this.isComing && this.fault === null && this.lacking(this.shown).length === 0;
+    }
+
+    /** A newer generation is known than the one that is shown. */
+    get isComing() {
+        return this.shown !== null && (this.coming !== null || this.isAwaited);
+    }
+
+    /** It is too early to fetch the mosaic, which shows the view, once more. */
+    get isEarly() {
+        const isRecent = this.coming === null && performance.now() - this.since < PAUSE_FOR_MOSAIC;
+        return isRecent && this.shown?.sky && this.page.inView(this.shown).order === null;
     }
 
     /** The picture shows another part of the sky: fetches what it lacks. */
@@ -72,7 +86,11 @@ export class Live {
         const newest = this.coming ?? this.shown;
         this.olderReplies = newest && prefix < newest.prefix ? this.olderReplies + 1 : 0;
         const isAnew = this.isAway || this.olderReplies >= OLDER_REPLIES_BEFORE_ANEW;
-        if (!newest || prefix > newest.prefix || isAnew) this.begin(prefix, isAnew);
+        const isOther = !newest || prefix > newest.prefix || isAnew;
+        const wasAwaited = this.isAwaited;
+        this.isAwaited = isOther && !isAnew && Boolean(this.isEarly);
+        if (this.isAwaited !== wasAwaited) this.page.changed();
+        if (isOther && !this.isAwaited) this.begin(prefix, isAnew);
         else if (this.fault) this.viewed();
         else if (this.shown?.unsure.size > 0 && performance.now() - this.since > QUIET) this.check(this.shown);
     }

@@ -11,12 +11,12 @@ const RULER = 120;
 
 /** The state of the survey and of the picture; `order` is null where the mosaic is shown. */
 export function sayState({ live, isMoving, isWhole, changes }, order) {
-    const { fault, coming, shown } = live;
+    const { fault, shown } = live;
     say("message", fault ? faultText(fault, shown) : "");
     element("message").hidden = !fault;
     const state = fault ? "away" : isWhole && !isMoving ? "whole" : "loading";
     mark({ state, generation: shown ? String(shown.prefix) : "", sure: state === "whole" && live.isSure ? "1" : "0" });
-    const loading = coming && shown ? "next generation is coming" : "loading";
+    const loading = live.isComing ? "next generation is coming" : "loading";
     say("state", { away: shown ? "no server" : "no survey", whole: "complete", loading }[state]);
     if (!shown) return;
     say("title", shown.properties.get("obs_title"));
