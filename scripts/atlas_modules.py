@@ -38,7 +38,7 @@ def judge(trial, module, rows):
 
 def tables(trial):
     trial.open("")
-    for table in (positions, cells, frames, distances, angles, numbers, stretches, colours, cuts, histograms, orders, views, poles, projections, addresses, names, reals, headers, tiles, changes, tables_of_sources, regions, mocs):
+    for table in (positions, cells, frames, distances, angles, numbers, stretches, colours, cuts, histograms, orders, views, poles, projections, addresses, names, reals, headers, tiles, changes, tables_of_sources, filters, regions, mocs):
         table(trial)
 
 
@@ -498,6 +498,21 @@ def tables_of_sources(trial):
             is_right = [row[0] for row in rows] == [name for name, _ in expected]
             is_right = is_right and all(numpy.allclose(direction, place.cartesian.xyz, atol=1e-9) for (_, direction), (_, place) in zip(rows, expected))
         judge(trial, "tables", [(text, rows, is_right)])
+
+
+# A filter, and which of these rows it leaves: name, mag.
+SOURCES = [["NGC 224", "3.4"], ["ngc 1", "13.6"], ["M 31", ""], ["M 33", "5.7"]]
+FILTERS = [("", [0, 1, 2, 3]), ("mag < 6", [0, 3]), ("mag<=5.7 & name ~ ngc", [0]), ("name = M 31", [2]), ('name != "M 31"', [0, 1, 3]), ("mag = 3.40", [0]), ('"mag" > 13.5', [1]),
+           ("mag >= 1e1", [1]), ("colour < 1", []), ("mag", "written as"), ("mag < big", "is a number"), ("mag < 6 &", "written as")]
+
+
+def filters(trial):
+    function = """([text, rows]) => {
+        const { accepts, fault } = it.readFilter(text);
+        return fault ?? rows.map((_, at) => at).filter((at) => accepts({ names: ["name", "mag"], values: rows[at] }));
+    }"""
+    found = answers(trial, "filter", function, [(text, SOURCES) for text, _ in FILTERS])
+    judge(trial, "filter", [(text, rows, expected in rows if isinstance(expected, str) else rows == expected) for (text, expected), rows in zip(FILTERS, found)])
 
 
 def regions(trial):

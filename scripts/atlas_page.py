@@ -617,12 +617,36 @@ def numbers_are_at(trial, what, path, order):
     trial.judge(what, (abs(found - numbers) <= 1) | (numpy.isnan(found) & numpy.isnan(numbers)), 0.9999)
 
 
+CONTRASTS = """
+const lightness = (text) => {
+    const [red, green, blue] = text.match(/[\\d.]+/g).map((part) => part / 255).map((part) => part <= 0.04045 ? part / 12.92 : ((part + 0.055) / 1.055) ** 2.4);
+    return 0.2126 * red + 0.7152 * green + 0.0722 * blue;
+};
+const groundOf = (one) => { const colour = getComputedStyle(one).backgroundColor; return /, 0\\)$/.test(colour) ? groundOf(one.parentElement) : colour; };
+document.querySelectorAll("details").forEach((one) => { one.open = true; });
+return [...document.querySelectorAll("header *, aside *, footer *")].filter((one) => one.checkVisibility() && (one.matches("input:not([type=range], [type=checkbox]), select") || [...one.childNodes].some((node) => node.nodeType === 3 && node.data.trim())))
+    .map((one) => [one.id || one.textContent, ...[getComputedStyle(one).color, groundOf(one)].map(lightness).sort((one, other) => one - other)])
+    .filter(([, dark, light]) => (light + 0.05) / (dark + 0.05) < 4.5);
+"""
+NAMELESS = """return [...document.querySelectorAll("input, select, button")].filter((one) => !(one.ariaLabel || one.labels?.length || one.textContent.trim())).map((one) => one.outerHTML)"""
+
+
+def is_legible(trial):
+    """The text has the contrast of WCAG's AA, and each control has a name for screen readers."""
+    if found := script(trial, CONTRASTS):
+        trial.blame("too little contrast:", found)
+    if found := script(trial, NAMELESS):
+        trial.blame("without a name:", found)
+
+
 def turns_dark(trial):
+    is_legible(trial)
     colour = lambda: script(trial, "return getComputedStyle(document.body).backgroundColor")  # noqa: E731
     before = colour()
     script(trial, "document.getElementById('dark').click()")
     if colour() == before or max(map(int, re.findall(r"\d+", colour())[:3])) > 80:
         trial.blame("dark is", colour())
+    is_legible(trial)
     script(trial, "document.getElementById('dark').click()")
     if colour() != before:
         trial.blame("light is", colour())
@@ -670,7 +694,34 @@ def shows_sources(trial, catalogue):
     trial.browser.find_element(By.ID, "close").click()
     if trial.browser.find_element(By.ID, "source").is_displayed():
         trial.blame("the row of a source isn't closed")
+    are_filtered(trial, [(round(column), round(line)) for column, line in zip(columns, lines)])
     del trial.page.folders["catalogue"]
+
+
+def are_filtered(trial, places):
+    """By a column's value, coloured by it, and listed."""
+    ink = lambda column, line: trial.shot()[line - 9:line + 10, column - 9:column + 10].reshape(-1, 3).astype(int)  # noqa: E731
+    is_yellow = lambda pixels: ((pixels[:, 0] > 220) & (pixels[:, 2] < 120)).sum() > 10  # noqa: E731
+    box = trial.browser.find_element(By.ID, "filter")
+    search(box, "mag < much")
+    is_said(trial, "a filter that is none", "is a number", script(trial, "return document.getElementById('filter-refused').textContent"))
+    search(box, "mag < 6")
+    trial.wait("whole")
+    if [is_yellow(ink(*place)) for place in places] != [True, False]:
+        trial.blame("a filter leaves", [is_yellow(ink(*place)) for place in places])
+    search(box, "")
+    box.send_keys(Keys.TAB)
+    script(trial, "const by = document.getElementById('by'); by.value = 'mag'; by.dispatchEvent(new Event('input')); document.getElementById('list').click()")
+    trial.wait("whole")
+    # The least and the greatest are viridis's ends.
+    for place, end in zip(places, ((0x44, 0x01, 0x54), (0xFD, 0xE7, 0x25))):
+        if (abs(ink(*place) - end).max(axis=1) < 40).sum() < 5:
+            trial.blame("a source isn't coloured by its column at", place)
+    is_said(trial, "the list of sources", "2 sources marked in view", trial.text("listed-count"))
+    script(trial, "document.querySelectorAll('#rows button')[1].click()")
+    wait_for(trial, f"a source of the list leads to {view_of(trial)}", lambda: numpy.allclose(view_of(trial)[:2], (83, 22), atol=1e-4), 5)
+    is_said(trial, "a source of the list", "second", trial.text("source"))
+    script(trial, "document.getElementById('list').click()")
 
 
 def begins_anew(trial):

@@ -27,6 +27,7 @@ import { sayCatalogue, sayPoint, sayScale, saySource, sayState, sayTile } from "
 import { saveFile, savePicture } from "./save.js";
 import { ScaleControls } from "./scale.js";
 import { connectSearch } from "./search.js";
+import { SourcesPanel } from "./sources.js";
 import { askFile, tilePath } from "./survey.js";
 import { View } from "./view.js";
 import { tileCards } from "./wcs.js";
@@ -65,6 +66,7 @@ class Atlas {
         this.background = new Background(second);
         this.scaleControls = new ScaleControls(this);
         this.opened = new Opened({ changed: () => this.draw(), found: (ra, dec) => this.found(ra, dec) });
+        this.sources = new SourcesPanel(this);
         this.seen = new Map();
         this.squares = SQUARES.first;
         this.pointed = null;
@@ -222,6 +224,7 @@ class Atlas {
         if (this.switches.grid) this.lines.grid(this.view, this.switches.galactic, this.switches.hours);
         if (this.switches.compass && !this.view.projection.isWhole) this.lines.compass();
         if (this.marked) this.lines.way(arc(this.marked, this.pointedSky ?? this.marked));
+        if (!this.isMoving) this.sources.prepare();
         if (this.switches.catalogue) this.catalogue.draw(this.lines.brush, this.pictureFrame);
         this.opened.draw(this.lines, this.pictureFrame);
         this.tell(generation);
@@ -325,7 +328,7 @@ class Atlas {
         element("close").addEventListener("click", () => this.pickNone());
         window.addEventListener("keydown", (event) => event.key === "Escape" && this.pickNone());
         connectSearch(resolver, { isGalactic: () => this.switches.galactic, found: (ra, dec) => this.found(ra, dec) });
-        for (const part of [this.scaleControls, this.compare, this.background, this.opened]) part.connect();
+        for (const part of [this.scaleControls, this.compare, this.background, this.opened, this.sources]) part.connect();
         this.showSwitches();
         this.connectView();
         this.openOthers();
@@ -420,6 +423,15 @@ class Atlas {
         for (const { table } of found) if (table !== nearest.table) table.picked = null;
         saySource(nearest.table ?? this.catalogue);
         this.draw();
+    }
+
+    /** Goes to a source, and picks it. */
+    goTo(row) {
+        const table = this.tables.find((one) => [...one.inView(this.pictureFrame)].some(([other]) => other === row));
+        this.pickNone();
+        if (table) table.picked = row;
+        saySource(table ?? this.catalogue);
+        this.found(...toDegrees(row.direction));
     }
 
     pickNone() {

@@ -95,7 +95,7 @@ export class Catalogue extends Marks {
             if (order > ALL_SKY_ORDERS && this.cellsOf(order).length > MOST_TILES) return;
             for (const rows of tiles.values()) {
                 for (const row of rows) {
-                    const at = placeIn(frame, row.direction);
+                    const at = this.accepts(row) && placeIn(frame, row.direction);
                     if (!at) continue;
                     if (left-- === 0) return;
                     yield [row, at];

@@ -23,7 +23,7 @@ class Sources extends Marks {
     *inView(frame) {
         let left = MOST_MARKS;
         for (const row of this.rows) {
-            const at = placeIn(frame, row.direction);
+            const at = this.accepts(row) && placeIn(frame, row.direction);
             if (!at) continue;
             if (left-- === 0) return;
             yield [row, at];
