@@ -276,7 +276,10 @@ def frames(trial, name):
         turn(trial, view, "grid=1&coverage=1&cells=0&changes=1&colours=dusk")
         trial.browser.execute_cdp_cmd("Performance.enable", {"timeDomain": "threadTicks"})
         # Something else may hold the machine up for a second, hardly for three.
-        rate, spent = max((a_second_of_frames(trial) for _ in range(3)), key=lambda found: found[0])
+        for _ in range(3):
+            rate, spent = a_second_of_frames(trial)
+            if rate >= LEAST_FRAMES_A_SECOND and spent <= MOST_MILLISECONDS_A_FRAME:
+                break
         told.append(f"{what} {rate:.0f} frames a second, {spent:.0f} ms of the main thread each")
         if spent > MOST_MILLISECONDS_A_FRAME or rate < LEAST_FRAMES_A_SECOND:
             trial.blame(f"{name}: {told[-1]}")
@@ -663,9 +666,8 @@ def draws_by_webgl(trial):
             trial.wait("whole")
             order = shown_order(trial)
             script(trial, """window.still = setInterval(() => document.getElementById("lines").dispatchEvent(new WheelEvent("wheel", { deltaY: 0, cancelable: true })), 60)""")
-            time.sleep(1.5)
-            if script(trial, "return document.getElementById('moving').hidden"):
-                trial.blame("WebGL isn't there, or isn't used")
+            wait_for(trial, "WebGL isn't there, or isn't used", lambda: not script(trial, "return document.getElementById('moving').hidden"), 5)
+            time.sleep(0.6)
             trial.compare(f"by WebGL, {what}", view, order + trial.survey.bits, 0.995)
             script(trial, "clearInterval(window.still)")
     finally:
