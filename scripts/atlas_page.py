@@ -486,11 +486,10 @@ def wheels(trial):
     """From the whole sky to a part and back; `=` is the key of `+` without Shift."""
     turn(trial, (40, 0, 360))
     canvas = trial.browser.find_element(By.ID, "lines")
-    for steps, is_whole in ((-2, False), (9, True)):
-        ActionChains(trial.browser).scroll_from_origin(ScrollOrigin.from_element(canvas), 0, 100 * steps).perform()
-        for _ in range(abs(steps) - 1):
-            ActionChains(trial.browser).scroll_from_origin(ScrollOrigin.from_element(canvas), 0, 100 * steps).perform()
-        wait_for(trial, f"{steps} steps of the wheel lead to {view_of(trial)}", lambda is_whole=is_whole: (view_of(trial)[2] == 360) == is_whole, 5)
+    for steps, direction, is_whole in ((2, -1, False), (4, 1, True)):
+        for _ in range(steps):
+            ActionChains(trial.browser, duration=0).scroll_from_origin(ScrollOrigin.from_element(canvas), 0, 200 * direction).perform()
+        wait_for(trial, f"{steps} steps of the wheel by {direction} lead to {view_of(trial)}", lambda is_whole=is_whole: (view_of(trial)[2] == 360) == is_whole, 5)
     canvas.send_keys("=")
     wait_for(trial, f"the key = leads to {view_of(trial)}", lambda: view_of(trial)[2] < 180, 5)
 
