@@ -332,14 +332,18 @@ def publishes(trial):
     whole = (40, 0, 360)
     Delayed.sent.clear()
     trial.open(trial.hash(whole))
-    begun = time.monotonic()
     trial.compare("the whole sky after it", whole, 3 + survey.bits)
     trial.ask("DELETE", "/" + tile_path(survey.top, leaf))
     trial.ask("POST", "/publish")
+    # The mosaic comes at most every ten seconds, by the page's clock, which is put forward.
+    trial.wait("loading", "1")
+    mosaics = lambda: [path for path, _ in Delayed.sent].count("/Norder3/Allsky.fits")  # noqa: E731
+    if mosaics() != 1 or trial.text("state") != "next generation is coming":
+        trial.blame(mosaics(), "mosaics come within a few seconds, and the page says:", trial.text("state"))
+    trial.browser.execute_script("const now = performance.now.bind(performance); performance.now = () => now() + 10000")
     trial.wait("whole", "2")
-    mosaics = [path for path, _ in Delayed.sent].count("/Norder3/Allsky.fits")
-    if mosaics != 2 or time.monotonic() - begun < 8:
-        trial.blame(mosaics, "mosaics within", time.monotonic() - begun, "seconds")
+    if mosaics() != 2:
+        trial.blame(mosaics(), "mosaics come for two generations")
     kept, survey.leaves = survey.leaves, survey.leaves[survey.leaves != leaf]
     del survey.edited[leaf]
     trial.compare("a leaf that was taken away", whole, 3 + survey.bits)

@@ -484,6 +484,7 @@ def names_are_known(trial):
 
 def wheels(trial):
     """From the whole sky to a part and back; `=` is the key of `+` without Shift."""
+    resize(trial, 700, 420, False)
     turn(trial, (40, 0, 360))
     canvas = trial.browser.find_element(By.ID, "lines")
     for steps, direction, is_whole in ((2, -1, False), (4, 1, True)):
@@ -492,6 +493,7 @@ def wheels(trial):
         wait_for(trial, f"{steps} steps of the wheel by {direction} lead to {view_of(trial)}", lambda is_whole=is_whole: (view_of(trial)[2] == 360) == is_whole, 5)
     canvas.send_keys("=")
     wait_for(trial, f"the key = leads to {view_of(trial)}", lambda: view_of(trial)[2] < 180, 5)
+    resize(trial, *SIZES["1280 by 800"])
 
 
 def compares(trial, folder):
