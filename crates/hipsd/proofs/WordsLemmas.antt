@@ -1,12 +1,10 @@
 -- What `run` says of words by their status, where no command needs more doors than there are.
+use Rattle.std.proofs.Common.{◌≡◌, ℕ, ◌≤◌, List, length, subst, arith}
 use Rattle.std.proofs.lemmas.Bool.{false≢true}
-use Rattle.std.proofs.Common.{◌≡◌, ℕ, ◌≤◌, ◌∙◌, List, length, ap, sym, subst, arith}
 use Rattle.command_output.specs.Status.{IsAmong}
-use Rattle.leaf_probe.specs.declared.asked.Probe.{Probe}
 use Rattle.hipsd_run.specs.Command.{Asks, IsCommand, IsCommandFor, doors_of, statuses_of}
 use Rattle.hipsd_run.specs.Runs.{Ends, RunsWords}
 use Rattle.survey_commands.specs.Serve.{IsServe}
-use Rattle.survey_commands.specs.declared.serve.AskedPlaces.{AskedPlaces}
 use Rattle.hipsd_run.specs.declared.command.Command.{Command}
 use Rattle.hipsd_run.specs.declared.command.Command.TheVariants.{Probe as ProbeCommand, Session, Export, Verify, Make, Serve, Past, Catalog, Mirror}
 
@@ -47,8 +45,3 @@ pub usage_only : {S H D : Type 0} (words : List (List ℕ)) (old new : Ends S H 
     → RunsWords words old new status → status ≡ 1 → ¬ IsCommandFor (length old.doors.items) words
 usage_only words old new status ran one (command, asks, fits) =
     never_1 command (subst (λ (n : ℕ). IsAmong (statuses_of command) n) one (ran.run command asks fits).ends)
-
--- no words ask for a probe and for places
-pub not_both : (words : List (List ℕ)) (asked : Probe) (places : AskedPlaces) → Asks words (ProbeCommand asked) → ¬ Asks words (Serve places)
-not_both words asked places probe serve =
-    let same : 5 ≡ 4 = ap length (sym probe.spelled ∙ serve.spelled) in absurd (omega (arith, same))
