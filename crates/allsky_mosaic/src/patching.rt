@@ -15,7 +15,8 @@ use tile_pixels::{Tile, TileForm};
 
 /// The mosaic of the tiles of order 3, as `whole` makes it, by the mosaic that there was before some of them changed: the
 /// squares of the touched cells are made anew, and all others are copied. `touched` has each cell whose tile has changed, in
-/// whatever order, and may have others. `None` if and only if there is no tile now.
+/// whatever order, and may have others. `None` if and only if there is no tile now. The server calls `patch_in_place`: this is
+/// for who has the old mosaic lent.
 ///
 /// # Errors
 ///

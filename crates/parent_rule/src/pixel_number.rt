@@ -34,7 +34,7 @@ pub trait PixelNumber: Copy + Ord {
     fn next(self) -> Self
         ensures { value result ≡ int_min (value self +ℤ pos 1) (greatest_number bits) };
 
-    /// It raised.
+    /// The number, counted from the least one of its width.
     fn raised(self) -> Self::Sum
         ensures raised { Self.Sum.value result ≡ value self +ℤ pos raise }
         ensures room { Self.Sum.value result <ℤ pos (2 ^ bits) };

@@ -51,7 +51,8 @@ impl Model for Past {
 }
 
 impl Past {
-    /// A cache of so many generations, from 1 to 8, that knows the journal's batches and holds none.
+    /// A cache of so many generations, from 1 to 8, that knows the journal's batches and holds none. The command `past` begins
+    /// by `over`.
     ///
     /// # Errors
     ///
@@ -238,7 +239,7 @@ impl Past {
         Ok(Arc::new(means.alloc, made)?)
     }
 
-    // The same from the opening leaves.
+    // The same from the opening leaves, where their generation isn't kept.
     fn make_afresh<R: Threads + Sync, G: Gate + Sync>(
         &self,
         means: &Means<'_, R, G>,

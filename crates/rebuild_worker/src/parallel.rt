@@ -22,7 +22,7 @@ use tile_pixels::Tile;
 const PIXELS_OF_A_WORKER: usize = 65536;
 
 /// The same list as `level_serial`, made by as many workers as the machine has processors, as `level_changed` makes it where
-/// nothing stood before.
+/// nothing stood before. The server calls `level_changed`: this is for those who compare.
 ///
 /// # Errors
 ///

@@ -17,7 +17,8 @@ use tile_pixels::Tile;
 
 /// Makes the merges that the permits allow, one after the other: for each permit, in order, its cell with the tile above
 /// those of the cell's children that `children` has, and with no tile if and only if it has none of the four. The gate is
-/// passed once before each merge, with its cell. All permits are consumed, also by a refusal.
+/// passed once before each merge, with its cell. All permits are consumed, also by a refusal. The server calls `level_changed`:
+/// this is for those who compare.
 ///
 /// # Errors
 ///

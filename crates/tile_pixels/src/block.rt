@@ -12,7 +12,8 @@ use parent_rule::Depth;
 use std::alloc::{AllocError, Global};
 use std::marker::Model;
 
-/// A square of numbers in line order from the top.
+/// A square of numbers in line order from the top. The server merges tiles without it, by `Tile::merge_quadrants`: it is for
+/// those who compare.
 #[derive(Drop)]
 pub struct Block {
     levels: u8,

@@ -7,7 +7,7 @@ ghost use Rattle.parent_rule.specs.declared.combine.Combine.TheVariants.{Mean, M
 use crate::stored::Stored;
 use parent_rule::{Combine, Depth, PixelNumber, mean_of_four, mean_rows, median_of_four};
 
-/// What `mean_rows` makes of two rows.
+/// What `mean_rows` makes of two rows, for `Block::halve`.
 pub fn combine_rows(top: &[i64], bottom: &[i64], depth: Depth, out: &mut [i64])
     requires top_length { length top.now ≡ 2 * length out.old }
     requires bottom_length { length bottom.now ≡ 2 * length out.old }
