@@ -6,7 +6,7 @@ use crate::stop::{CommitStop, DiskFailed, StageStop};
 use sqlite_disk::Disk;
 
 /// The greatest length of a WAL.
-const MOST_BYTES: usize = 1 << 62;
+pub(crate) const MOST_BYTES: usize = 1 << 62;
 
 /// A write-ahead log, whose last record ends before the byte `end`, which is the gate of the next one; the bytes up to `next`
 /// are staged behind it.
@@ -28,7 +28,8 @@ impl<D: Disk> Wal<D> {
     /// The WAL that the device holds up to `end`, where no open gate stands, whatever a crash leaves.
     pub fn new(device: D, end: usize) -> Wal<D>
         requires { end < 2 ^ 62 }
-        ensures { (front : List ℕ) → end ≡ length front → ((c : List ℕ) → D.may_leave device c → Shut front c) → IsStaged D.seen D.may_leave front [] result }
+        ensures kept { (front : List ℕ) → end ≡ length front → ((c : List ℕ) → D.may_leave device c → Shut front c) → IsStaged D.seen D.may_leave front [] result }
+        ensures device { device_of result ≡ device }
     {
         Wal {
             device,
@@ -74,6 +75,7 @@ impl<D: Disk> Wal<D> {
         ensures usable { IsTrue (D.is_usable (device_of self.new)) }
         ensures full { IsErrOf result StageStop.Full → 2 ^ 62 ≤ next_of self.old + length bytes.now }
         ensures failed { IsErrOf result StageStop.Failed → MoreFaults (D.faults (device_of self.old)) (D.faults (device_of self.new)) }
+        ensures calm { D.is_clean (device_of self.new) ≡ D.is_clean (device_of self.old) }
     {
         if bytes.len() >= MOST_BYTES - self.next {
             return Err(StageStop::Full);
@@ -110,6 +112,7 @@ impl<D: Disk> Wal<D> {
             → IfErr result (Stopped D.seen D.may_leave front body self.new) }
         ensures usable { OnOk result (IsTrue (D.is_usable (device_of self.new))) }
         ensures failed { OnErr result (MoreFaults (D.faults (device_of self.old)) (D.faults (device_of self.new))) }
+        ensures calm { D.is_clean (device_of self.new) ≡ D.is_clean (device_of self.old) }
     {
         match self.close_behind() {
             Ok(()) => self.open_gate(),
@@ -127,6 +130,7 @@ impl<D: Disk> Wal<D> {
         ensures places { (end_of self.new ≡ end_of self.old) × (next_of self.new ≡ next_of self.old) }
         ensures usable { OnOk result (IsTrue (D.is_usable (device_of self.new))) }
         ensures failed { OnErr result (MoreFaults (D.faults (device_of self.old)) (D.faults (device_of self.new))) }
+        ensures calm { D.is_clean (device_of self.new) ≡ D.is_clean (device_of self.old) }
         ensures never_falls { D.faults (device_of self.old) ≤ D.faults (device_of self.new) }
     {
         match self.device.write_at(self.next, &[0]) {
@@ -148,6 +152,7 @@ impl<D: Disk> Wal<D> {
             → IfErr result (Stopped D.seen D.may_leave front body self.new) }
         ensures usable { OnOk result (IsTrue (D.is_usable (device_of self.new))) }
         ensures failed { OnErr result (MoreFaults (D.faults (device_of self.old)) (D.faults (device_of self.new))) }
+        ensures calm { D.is_clean (device_of self.new) ≡ D.is_clean (device_of self.old) }
     {
         match self.device.write_at(self.end, &[1]) {
             Ok(()) => match self.device.sync() {
@@ -175,6 +180,7 @@ impl<D: Disk> Wal<D> {
         ensures places { (end_of self.new ≡ end_of self.old) × (next_of self.new ≡ next_of self.old) }
         ensures usable { OnOk result (IsTrue (D.is_usable (device_of self.new))) }
         ensures failed { OnErr result (MoreFaults (D.faults (device_of self.old)) (D.faults (device_of self.new))) }
+        ensures calm { D.is_clean (device_of self.new) ≡ D.is_clean (device_of self.old) }
         ensures never_falls { D.faults (device_of self.old) ≤ D.faults (device_of self.new) }
     {
         match self.device.write_at(self.end, &[0]) {
@@ -199,6 +205,7 @@ impl<D: Disk> Wal<D> {
         ensures unsure { (front body : List ℕ) → IsStaged D.seen D.may_leave (with_record front body) [] self.old → count ≡ 1 + length body
             → OnErr result (IsUnsure D.seen D.may_leave front body self.new) }
         ensures failed { OnErr result (MoreFaults (D.faults (device_of self.old)) (D.faults (device_of self.new))) }
+        ensures calm { D.is_clean (device_of self.new) ≡ D.is_clean (device_of self.old) }
     {
         self.end -= count;
         self.next = self.end + 1;

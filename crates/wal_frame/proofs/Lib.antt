@@ -5,3 +5,4 @@ mod Records
 mod Wals
 mod Headers
 mod Loops
+mod Alone

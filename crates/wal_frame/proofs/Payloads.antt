@@ -1,5 +1,5 @@
 -- A payload that is read is the one that was written, and what was written is read again.
-use Rattle.std.proofs.Common.{◌≡◌, ℕ, ◌+◌, ◌*◌, ◌/◌, ◌^◌, ◌<◌, ◌≤◌, true, false, cond, ltb, eqb, ◌||◌, List, [], ◌∷◌, ◌++◌, length, Option, Some, None, All, refl, sym, ap, subst, ◌∙◌, arith, inl, inr, IsTrue}
+use Rattle.std.proofs.Common.{◌≡◌, ℕ, suc, ◌+◌, ◌*◌, ◌/◌, ◌^◌, ◌<◌, ◌≤◌, true, false, cond, ltb, eqb, ◌||◌, List, [], ◌∷◌, ◌++◌, length, Option, Some, None, All, refl, sym, ap, subst, ◌∙◌, arith, inl, inr, IsTrue}
 use Rattle.std.specs.Prelude.{option_and_then, flat_map}
 use Rattle.std.specs.Int.{w32, to_be_bytes}
 use Rattle.std.proofs.lemmas.Bool.{eqb-true}
@@ -14,6 +14,8 @@ use Rattle.pyramid_model.specs.Shape.{PyramidShape}
 use Rattle.tile_pixels.specs.StoredLaws.{AreBytes}
 use Rattle.edit_journal.specs.Edit.{LeafEdit, put, add, replace, remove}
 use Rattle.wal_frame.specs.Record.{WalRecord, batch, publication, kind_of, payload, edit_bytes, stored_of, FitsWal, FitsRecord}
+use Rattle.wal_frame.specs.Survey.{tile_length}
+use Rattle.wal_frame.specs.Told.{most_payload}
 use Rattle.wal_frame.specs.Payload.{number_at, edits_at, batch_of, publication_of, payload_of}
 use Rattle.wal_frame.specs.Laws.{IsKnown}
 use Rattle.wal_frame.proofs.Fields.{bind_some, Takes, takes_then, number_takes, number_again, length-tile_bytes}
@@ -107,24 +109,33 @@ tile_at_most bits n known few =
     let numbers : 4 ^ n ≤ 262144 = four_pow_mono n 9 few in
     mul-le (4 ^ n) (bits / 8) 262144 8 numbers (omega arith)
 
-stored_at_most : (shape : PyramidShape) (edit : LeafEdit) → IsKnown shape → FitsWal shape edit → length (stored_of edit) ≤ 2 ^ 21
-stored_at_most shape (put leaf tile) known fits = rw (length-tile_bytes shape tile known (record { has_shape = fits.fits.1; is_tile = fits.tile })) (tile_at_most _ _ known.bitpix known.known.greatest_n)
-stored_at_most shape (add leaf tile) known fits = rw (length-tile_bytes shape tile known (record { has_shape = fits.fits.1; is_tile = fits.tile })) (tile_at_most _ _ known.bitpix known.known.greatest_n)
-stored_at_most shape (replace leaf tile) known fits = rw (length-tile_bytes shape tile known (record { has_shape = fits.fits.1; is_tile = fits.tile })) (tile_at_most _ _ known.bitpix known.known.greatest_n)
+stored_at_most : (shape : PyramidShape) (edit : LeafEdit) → IsKnown shape → FitsWal shape edit → length (stored_of edit) ≤ tile_length shape
+stored_at_most shape (put leaf tile) known fits = omega (arith, length-tile_bytes shape tile known (record { has_shape = fits.fits.1; is_tile = fits.tile }))
+stored_at_most shape (add leaf tile) known fits = omega (arith, length-tile_bytes shape tile known (record { has_shape = fits.fits.1; is_tile = fits.tile }))
+stored_at_most shape (replace leaf tile) known fits = omega (arith, length-tile_bytes shape tile known (record { has_shape = fits.fits.1; is_tile = fits.tile }))
 stored_at_most shape (remove leaf) known fits = omega arith
 
-edits_at_most : (shape : PyramidShape) (edits : List LeafEdit) → IsKnown shape → All (FitsWal shape) edits → length (flat_map edit_bytes edits) ≤ length edits * (5 + 2 ^ 21)
+edits_at_most : (shape : PyramidShape) (edits : List LeafEdit) → IsKnown shape → All (FitsWal shape) edits → length (flat_map edit_bytes edits) ≤ length edits * (5 + tile_length shape)
 unfolding edit_bytes
 edits_at_most shape [] known all = omega arith
 edits_at_most shape (edit ∷ edits) known all =
-    let first : length (stored_of edit) ≤ 2 ^ 21 = stored_at_most shape edit known (All-head (FitsWal shape) edit edits all) in
-    let others = edits_at_most shape edits known (All-tail (FitsWal shape) edit edits all) in
+    let most : ℕ = tile_length shape in
+    let first : length (stored_of edit) ≤ most = stored_at_most shape edit known (All-head (FitsWal shape) edit edits all) in
+    let others : length (flat_map edit_bytes edits) ≤ length edits * (5 + most) = edits_at_most shape edits known (All-tail (FitsWal shape) edit edits all) in
     let parts : length (flat_map edit_bytes (edit ∷ edits)) ≡ length (edit_bytes edit) + length (flat_map edit_bytes edits) = ap length (flat_map-cons edit_bytes edit edits) ∙ length-append (edit_bytes edit) (flat_map edit_bytes edits) in
-    omega (arith, parts, first, others)
+    sum_at_most (length (flat_map edit_bytes (edit ∷ edits))) (length (stored_of edit)) (length (flat_map edit_bytes edits)) (length edits) most (omega (arith, parts)) first others
+  where
+    sum_at_most : (all one others n most : ℕ) → all ≡ 5 + one + others → one ≤ most → others ≤ n * (5 + most) → all ≤ suc n * (5 + most)
+    sum_at_most all one others n most parts first rest = omega (arith, parts, first, rest)
+
+pub payload_at_most : (shape : PyramidShape) (r : WalRecord) → IsKnown shape → FitsRecord shape r → length (payload r) ≤ most_payload shape
+payload_at_most shape (batch edits) known fits =
+    let all = edits_at_most shape edits known fits.2 in
+    let most : length edits * (5 + tile_length shape) ≤ 1024 * (5 + tile_length shape) = mul-le (length edits) (5 + tile_length shape) 1024 (5 + tile_length shape) fits.1 (omega arith) in
+    omega (arith, length-append (to_be_bytes w32 (length edits)) (flat_map edit_bytes edits), all, most)
+payload_at_most shape (publication tip) known fits = omega arith
 
 pub payload_fits : (shape : PyramidShape) (r : WalRecord) → IsKnown shape → FitsRecord shape r → length (payload r) < 2 ^ 64
-payload_fits shape (batch edits) known fits =
-    let all = edits_at_most shape edits known fits.2 in
-    let most : length edits * (5 + 2 ^ 21) ≤ 1024 * (5 + 2 ^ 21) = mul-le (length edits) (5 + 2 ^ 21) 1024 (5 + 2 ^ 21) fits.1 (omega arith) in
-    omega (arith, length-append (to_be_bytes w32 (length edits)) (flat_map edit_bytes edits), all, most)
-payload_fits shape (publication tip) known fits = omega arith
+payload_fits shape r known fits =
+    let most : tile_length shape ≤ 2 ^ 21 = tile_at_most shape.depth.bitpix shape.n known.bitpix known.known.greatest_n in
+    omega (arith, payload_at_most shape r known fits, most)

@@ -1,5 +1,5 @@
 -- The records of a write-ahead log (WAL), and the bytes of each. All numbers are big-endian. This project's profile.
-use Rattle.std.specs.Prelude.{ℕ, ◌^◌, ◌<◌, ◌≤◌, List, [], ◌∷◌, ◌++◌, length, flat_map, All, Option, Some, None, IfSome}
+use Rattle.std.specs.Prelude.{ℕ, ◌^◌, ◌<◌, ◌≤◌, List, [], ◌∷◌, ◌++◌, length, drop, flat_map, All, Option, Some, None, IfSome}
 use Rattle.std.specs.Int.{w32, w64, to_be_bytes}
 use Rattle.pyramid_model.specs.Shape.{PyramidShape}
 use Rattle.tile_pixels.specs.Stored.{stored_bytes}
@@ -51,6 +51,10 @@ record_head kind count = 1 ∷ (kind ∷ (to_be_bytes w64 count ++ to_be_bytes w
 -- a record whose gate is open
 abbrev pub record_bytes : WalRecord → List ℕ
 record_bytes r = record_head (kind_of r) (length (payload r)) ++ payload r
+
+-- what stands behind its gate
+abbrev pub record_body : WalRecord → List ℕ
+record_body r = drop 1 (record_bytes r)
 
 -- an edit that a survey of that shape may have, with a tile where it has one
 pub record FitsWal (shape : PyramidShape) (edit : LeafEdit) : Type 0 where

@@ -14,8 +14,10 @@ mod survey;
 mod writing;
 
 pub use header::{HEADER_LEN, check_header, header_of};
-pub use reading::read_record;
+pub use reading::{read_record, record_span};
 pub use record::Record;
 pub use refusal::{ReadStop, Reason, WalRefusal};
 pub use survey::SurveyMark;
-pub use writing::{batch_head, edit_head, publication};
+pub use writing::{
+    RECORD_HEAD_LEN, batch_head, edit_head, edit_length, publication, record_length,
+};

@@ -1,16 +1,17 @@
 //! Reading of one record.
-ghost use Rattle.std.specs.Prelude.{◌≡◌, ◌<◌, ◌≤◌, ◌+◌, ◌^◌, length, map, IfOk, IfErr, IfSome, IfNone, Some, false, true, slice_range};
+ghost use Rattle.std.specs.Prelude.{◌≡◌, ◌<◌, ◌≤◌, ◌+◌, ◌^◌, List, ℕ, length, take, map, IfOk, IfErr, IfSome, IfNone, Some, false, true, slice_range};
 ghost use Rattle.std.specs.Int.{w64, from_be_bytes};
 ghost use Rattle.std.specs.Arc.{arc_value};
 ghost use Rattle.edit_journal.specs.Edit.{edit_of};
 ghost use Rattle.wal_frame.specs.Payload.{Gives, number_at, tile_at, edit_by, edit_at, edits_at, batch_of, publication_of, payload_of};
 ghost use Rattle.wal_frame.specs.Payload.{whole_record};
-ghost use Rattle.wal_frame.specs.Reading.{ends_here, wal_end, record_then, StandsFirst};
-ghost use Rattle.wal_frame.specs.Told.{record_of, Stops};
+ghost use Rattle.wal_frame.specs.Reading.{head_length, first_length, second_length, ends_here, wal_end, record_then, StandsFirst};
+ghost use Rattle.wal_frame.specs.Told.{record_of, malformed_at, most_payload, Stops, Spans};
 
 use crate::record::Record;
 use crate::refusal::{ReadStop, Reason, WalRefusal};
 use crate::survey::tile_length;
+use crate::writing::{RECORD_HEAD_LEN, record_length};
 use edit_journal::Edit;
 use healpix_nested::cells;
 use parent_rule::Steps;
@@ -18,9 +19,6 @@ use pyramid_model::Shape;
 use std::alloc::{AllocError, AllocFailed, Global};
 use std::sync::Arc;
 use tile_pixels::Tile;
-
-/// The length of a record before its payload.
-const HEAD_LEN: usize = 18;
 
 /// The most edits of a batch.
 const MOST_EDITS: u32 = 1024;
@@ -70,31 +68,80 @@ pub fn read_record(
     ensures end { IfOk result (λ next. IfNone next (StandsFirst shape bytes.now wal_end)) }
     ensures stop { IfErr result (Stops shape offset bytes.now) }
 {
-    if ends_here(bytes) {
+    if ends_here(bytes, bytes.len()) {
         return Ok(None);
     }
     // For the prover: what a shape is.
     let _bitpix = shape.depth.bitpix();
     match whole_record(alloc, shape, bytes) {
         Ok((record, rest)) => Ok(Some((record, rest))),
-        Err(Unread::Malformed) => Err(ReadStop::Refused(WalRefusal {
-            reason: Reason::Malformed,
-            offset,
-        })),
+        Err(Unread::Malformed) => Err(ReadStop::Refused(malformed_at(offset))),
         Err(Unread::OutOfMemory) => Err(ReadStop::OutOfMemory),
     }
 }
 
-// Whether the WAL ends here.
-#[tactic(auto, unfolding(crate::specs::Reading::ends_here))]
-fn ends_here(bytes: &[u8]) -> bool
-    ensures { result ≡ ends_here bytes.now }
+/// How many bytes from a record's gate on tell what stands there, of the `left` bytes that there are, by the first 18 of them or by
+/// all of fewer; `None` if and only if the WAL ends there.
+///
+/// # Errors
+///
+/// `Malformed` at that offset, only where an open record that is there whole is longer than any.
+pub fn record_span(
+    shape: Shape,
+    offset: u64,
+    head: &[u8],
+    left: usize,
+) -> Result<Option<usize>, WalRefusal>
+    requires { length head.now ≤ left }
+    ensures span { (bytes : List ℕ) → take head_length bytes ≡ head.now → length bytes ≡ left → Spans shape offset bytes result }
+    ensures within { IfOk result (λ span. IfSome span (λ count. count ≤ left)) }
+    ensures at_most { IfOk result (λ span. IfSome span (λ count. count ≤ head_length + most_payload shape)) }
 {
-    if bytes.is_empty() || bytes[0] != 1 || bytes.len() < HEAD_LEN {
+    if ends_here(head, left) {
+        return Ok(None);
+    }
+    // For the prover: what a shape is.
+    let _bitpix = shape.depth.bitpix();
+    let length = length_at(head, 2);
+    if length != length_at(head, 10) {
+        return Ok(Some(RECORD_HEAD_LEN));
+    }
+    if length > most_payload(shape) as u64 {
+        return Err(malformed_at(offset));
+    }
+    Ok(Some(record_length(length as usize)))
+}
+
+// The longest payload of a record.
+fn most_payload(shape: Shape) -> usize
+    ensures length { result ≡ most_payload shape }
+    ensures at_most { result ≤ 2 ^ 32 }
+{
+    4 + MOST_EDITS as usize * (5 + tile_length(shape))
+}
+
+// That the record there is malformed.
+fn malformed_at(offset: u64) -> WalRefusal
+    ensures { result ≡ malformed_at offset }
+{
+    WalRefusal {
+        reason: Reason::Malformed,
+        offset,
+    }
+}
+
+// Whether the WAL ends where so many bytes are left, which begin as these do.
+fn ends_here(head: &[u8], left: usize) -> bool
+    requires { length head.now ≤ left }
+    ensures end { (bytes : List ℕ) → take head_length bytes ≡ take head_length head.now → length bytes ≡ left → result ≡ ends_here bytes }
+    ensures long { result ≡ false → head_length ≤ length head.now }
+    ensures whole { result ≡ false → first_length head.now ≡ second_length head.now → head_length + first_length head.now ≤ left }
+{
+    if head.len() < RECORD_HEAD_LEN || head[0] != 1 {
         return true;
     }
-    let length = length_at(bytes, 2);
-    length == length_at(bytes, 10) && length > (bytes.len() - HEAD_LEN) as u64
+    let length = length_at(head, 2);
+    length == length_at(head, 10) && length > (left - RECORD_HEAD_LEN) as u64
 }
 
 // The number of 8 bytes at that place.
@@ -116,7 +163,7 @@ fn whole_record(alloc: Global, shape: Shape, bytes: &[u8]) -> Result<(Record, &[
     if length != length_at(bytes, 10) {
         return Err(Unread::Malformed);
     }
-    let (payload, rest) = bytes[HEAD_LEN..].split_at(length as usize);
+    let (payload, rest) = bytes[RECORD_HEAD_LEN..].split_at(length as usize);
     let record = payload_of(alloc, shape, bytes[1], payload)?;
     Ok((record, rest))
 }

@@ -116,10 +116,14 @@ fn tile(alloc: Global, raw: &[u8; 8]) -> Result<Option<Arc<Tile>>, AllocError> {
 
 // The bytes of a batch.
 fn batch_bytes(alloc: Global, edits: &[Edit]) -> Result<Vec<u8>, AllocError> {
-    let mut bytes = Vec::new(alloc);
-    if edits.len() <= 1024 {
-        bytes.extend_from_slice(&batch_head(edits))?;
+    let mut total = 0;
+    for edit in edits {
+        if total < 1 << 32 {
+            total += edit_length(edit);
+        }
     }
+    let mut bytes = vec![in alloc; 1]?;
+    bytes.extend_from_slice(&batch_head(edits.len().min(1024) as u32, total))?;
     for edit in edits {
         bytes.extend_from_slice(&edit_head(edit))?;
         if let Some(tile) = edit.tile() {
