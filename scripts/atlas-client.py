@@ -1,7 +1,8 @@
 #!/usr/bin/python3
-"""Tries the atlas page in Debian's chromium: atlas-client.py PROGRAM.
+"""Tries the atlas page in Debian's chromium: atlas-client.py PROGRAM [PART]. Without a part all of them are tried, at once;
+the part `bytes` measures what a publication costs.
 
-hipsd serves surveys of each depth with known numbers (gradient_survey.py); examples/atlas/look.py serves the page, and the browser
+hipsd serves surveys of each depth with known numbers (gradient_survey.py); `hipsctl page` serves the page, and the browser
 runs without a window. Pixels of screenshots are compared with the numbers that healpy and astropy's WCS (wcslib) say are there: which
 direction a pixel of the picture shows, which cell that is, and which number this has.
 
@@ -10,7 +11,8 @@ direction a pixel of the picture shows, which cell that is, and which number thi
 - While 16 leaves in view are published together over and over, through a proxy that delays each reply at random, each picture shows
   one generation, that which the page names.
 - A server that goes away is told of in words, and the picture stays; when it is back over its folder, that is shown.
-- What each module of the page answers (atlas_modules.py), and what whoever looks at the page does with it, at three sizes (atlas_page.py).
+- What each module of the page answers or does (atlas_modules.py, atlas_parts.py), and what whoever looks at the page does with it, by
+  mouse, touch and keys, at three sizes (atlas_page.py, atlas_keys.py).
 - An address without hipsd is told of in words; through the location of examples/nginx.conf the page is the same.
 
 Ends with status 1 and says what is wrong.
@@ -42,13 +44,15 @@ from selenium.webdriver.chrome.service import Service
 from selenium.webdriver.common.action_chains import ActionChains
 from selenium.webdriver.common.by import By
 
+import atlas_keys
 import atlas_modules
 import atlas_page
-from gradient_survey import PAGE, SURVEYS
+import atlas_parts
+from gradient_survey import PAGE, SURVEYS, WIDE
 from survey_files import tile_path
 
-sys.path.insert(0, str(Path(__file__).parent.parent / "examples/atlas"))
-from look import Handler, page_server  # noqa: E402
+sys.path.insert(0, str(Path(__file__).parent.parent / "examples"))
+from hipsctl.page import PAGE as PAGE_FOLDER, Handler, page_server  # noqa: E402
 
 GROUND = (0x17, 0x1B, 0x26)
 CHANGED = (0xFF, 0x7A, 0x1A)
@@ -70,13 +74,16 @@ class Delayed(Handler):
         super().pass_on(path)
 
     def do_GET(self):
-        """Also a resolver of names, of the form of Sesame's, which knows one."""
-        if not self.path.startswith("/resolver"):
+        """Also a resolver of names, of the form of Sesame's, which knows one; and the atlas's elements without its script."""
+        if self.path == "/still":
+            text, kind = (PAGE_FOLDER / "index.html").read_text().replace('<script type="module" src="atlas.js"></script>', '<base href="/atlas/">'), "text/html"
+        elif self.path.startswith("/resolver"):
+            text, kind = atlas_modules.SESAME.format(name="M31", ra="84", dec="21.5") if self.path == "/resolver?M%2031" else atlas_modules.NOTHING, "text/xml"
+        else:
             return super().do_GET()
-        known = atlas_modules.SESAME.format(name="M31", ra="84", dec="21.5")
-        body = (known if self.path == "/resolver?M%2031" else atlas_modules.NOTHING).encode()
+        body = text.encode()
         self.send_response(200)
-        self.send_header("Content-Type", "text/xml")
+        self.send_header("Content-Type", kind)
         self.send_header("Content-Length", str(len(body)))
         self.end_headers()
         return self.wfile.write(body)
@@ -104,7 +111,7 @@ class Trial:
 
     def serve(self, depth):
         """hipsd over the survey of that depth, and the page before it."""
-        self.survey = SURVEYS.get(depth, PAGE)
+        self.survey = SURVEYS.get(depth) or {"page": PAGE, "wide": WIDE}[depth]
         self.place = self.folder / str(depth)
         if not self.place.exists():
             self.survey.write(self.place)
@@ -328,26 +335,34 @@ def publishes(trial):
     trial.browser.execute_script("document.getElementById('changes').click()")
     trial.wait("whole", "1")
     trial.marks_are_at(view, leaf)
-    # The same on the sky as a whole, for which the page is opened anew, and a second publication.
+    # The same on the sky as a whole, for which the page is opened anew. That a leaf goes the coverage tells, so the mosaic needn't come.
     whole = (40, 0, 360)
     Delayed.sent.clear()
     trial.open(trial.hash(whole))
     trial.compare("the whole sky after it", whole, 3 + survey.bits)
     trial.ask("DELETE", "/" + tile_path(survey.top, leaf))
     trial.ask("POST", "/publish")
-    # The mosaic comes at most every ten seconds, by the page's clock, which is put forward.
-    trial.wait("loading", "1")
-    mosaics = lambda: [path for path, _ in Delayed.sent].count("/Norder3/Allsky.fits")  # noqa: E731
-    if mosaics() != 1 or trial.text("state") != "next generation is coming":
-        trial.blame(mosaics(), "mosaics come within a few seconds, and the page says:", trial.text("state"))
-    trial.browser.execute_script("const now = performance.now.bind(performance); performance.now = () => now() + 10000")
     trial.wait("whole", "2")
-    if mosaics() != 2:
-        trial.blame(mosaics(), "mosaics come for two generations")
     kept, survey.leaves = survey.leaves, survey.leaves[survey.leaves != leaf]
     del survey.edited[leaf]
     trial.compare("a leaf that was taken away", whole, 3 + survey.bits)
     survey.leaves = kept
+    mosaics = lambda: [path for path, _ in Delayed.sent].count("/Norder3/Allsky.fits")  # noqa: E731
+    # Two edits of one leaf: the second one is looked for in the mosaic, at most every ten seconds by the page's clock, which is put forward.
+    for number in (None, 14000):
+        trial.ask("PUT", "/" + tile_path(survey.top, leaf), survey.file(leaf, number))
+    trial.ask("POST", "/publish")
+    trial.wait("loading", "2")
+    time.sleep(1)
+    if mosaics() != 1 or trial.text("state") != "next generation is coming":
+        trial.blame(mosaics(), "mosaics come within a few seconds, and the page says:", trial.text("state"))
+    trial.browser.execute_script("const now = performance.now.bind(performance); performance.now = () => now() + 10000")
+    trial.wait("whole", "4")
+    if mosaics() != 2:
+        trial.blame(mosaics(), "mosaics come for three generations")
+    survey.edited[leaf] = 14000
+    trial.compare("a leaf that came back", whole, 3 + survey.bits)
+    del survey.edited[leaf]
 
 
 def storms(trial, seconds=10):
@@ -465,35 +480,86 @@ def browser(width=900, height=640):
     return webdriver.Chrome(service=Service(shutil.which("chromedriver")), options=options)
 
 
-def main():
-    program = os.path.realpath(sys.argv[1])
+def of_generations(trial):
+    trial.serve(16)
+    publishes(trial)
+    storms(trial)
+    goes_away(trial)
+    says_what_is_wrong(trial)
+    goes_through_nginx(trial)
+
+
+def of_modules(trial):
+    trial.serve("page")
+    atlas_modules.tables(trial)
+    atlas_parts.parts(trial)
+    atlas_keys.keys(trial)
+
+
+def of_sizes(trial):
+    trial.serve("page")
+    atlas_page.at_each_size(trial, Delayed.sent)
+
+
+def of_visits(trial):
+    trial.serve("page")
+    atlas_page.once(trial, Delayed.sent, trial.folder)
+
+
+def of_bytes(trial):
+    """What publications of one leaf cost a page over leaves 512 pixels wide: of the same leaf three times, and of another one."""
+    trial.serve("wide")
+    leaf, other = (int(healpy.ang2pix(2**trial.survey.top, *place, nest=True, lonlat=True)) for place in ((80, 20), (84, 24)))
+    number = 0
+    for what, view in (("whole sky", (80, 20, 360)), ("10 degrees", (80, 20, 10))):
+        trial.open(trial.hash(view))
+        costs = []
+        for one in (leaf, leaf, leaf, other):
+            number += 1
+            trial.browser.execute_script("const now = performance.now.bind(performance); performance.now = () => now() + 10000")
+            Delayed.sent.clear()
+            trial.ask("PUT", "/" + tile_path(trial.survey.top, one), trial.survey.file(one, 14000 + number))
+            trial.ask("POST", "/publish")
+            trial.wait("whole", str(number))
+            costs.append(sum(size for _, size in Delayed.sent))
+        print(f"check-atlas: {what}: publications of one leaf of 512 by 512 cost", *(f"{cost / 1e6:.2f}" for cost in costs), "MB")
+
+
+PARTS = {"depths": looks_at_each, "generations": of_generations, "modules": of_modules, "sizes": of_sizes, "visits": of_visits}
+MEASURES = {"bytes": of_bytes}
+
+
+def tried(program, name):
+    """Tries a part, with a browser and servers of its own."""
+    signal.signal(signal.SIGTERM, signal.default_int_handler)
     begun = time.monotonic()
     with tempfile.TemporaryDirectory() as folder:
         window = browser()
         trial = Trial(program, Path(folder), window)
         try:
-            looks_at_each(trial)
-            trial.serve(16)
-            publishes(trial)
-            storms(trial)
-            goes_away(trial)
-            says_what_is_wrong(trial)
-            goes_through_nginx(trial)
-            trial.end()
-            trial.serve("page")
-            atlas_modules.tables(trial)
-            atlas_page.at_each_size(trial, Delayed.sent)
-            atlas_page.once(trial, Delayed.sent, Path(folder))
+            (PARTS | MEASURES)[name](trial)
             for line in window.get_log("browser"):
                 if "TypeError" in line["message"] or "Uncaught" in line["message"]:
                     trial.blame("the browser says:", line["message"])
         finally:
             trial.end()
             window.quit()
-    if trial.wrong:
-        sys.exit(1)
-    print(f"check-atlas: the page shows what the numbers say: {trial.compared} pixels of pictures compared, {trial.apart} apart, "
-          f"{round(time.monotonic() - begun)} seconds")
+    print(f"check-atlas: {name}: {trial.compared} pixels of pictures compared, {trial.apart} apart, {round(time.monotonic() - begun)} seconds", flush=True)
+    return not trial.wrong
+
+
+def main():
+    program = os.path.realpath(sys.argv[1])
+    if sys.argv[2:]:
+        sys.exit(0 if tried(program, sys.argv[2]) else 1)
+    running = [subprocess.Popen([sys.executable, __file__, program, name]) for name in PARTS]
+    try:
+        if any([process.wait() for process in running]):
+            sys.exit(1)
+    finally:
+        for process in running:
+            process.terminate()
+    print("check-atlas: the page shows what the numbers say")
 
 
 if __name__ == "__main__":

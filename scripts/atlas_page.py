@@ -4,15 +4,13 @@
 - Positions that are written, and those that the page doesn't take; what stands under a pointer, after arrow keys, under a finger.
 - Frames a second while the view moves, and how many milliseconds of the browser's main thread each takes; the first picture, also on
   a slow line; how many bytes come for a view, and for a publication; a change that coarser tiles don't show.
-- A tile that examples/edit-tile.py edits; a second HiPS beside the survey.
-- The scale bar, the colour bar, cuts that are typed or fitted, galactic coordinates, Back and Forward, files that are saved, dark and light.
+- A second HiPS beside the survey.
+- The scale bar, the colour bar, cuts that are typed or fitted, galactic coordinates, Back and Forward, files that are saved.
 - A server that begins anew; names of objects; a catalogue over the sky; the picture that WebGL draws.
 """
 
-import io
 import os
 import re
-import subprocess
 import tempfile
 import time
 from pathlib import Path
@@ -107,9 +105,11 @@ def at_each_size(trial, sent):
         ruler(trial, name)
         publication(trial, name, sent)
         if is_touch:
-            touches(trial, name)
+            folds_away(trial, name)
         else:
             reads(trial, name)
+            turn(trial, VIEW)
+        by_fingers(trial, name)
         searches(trial, name)
         frames(trial, name)
     resize(trial, *SIZES["1280 by 800"])
@@ -206,25 +206,36 @@ def fingers(trial, kind, *points):
     trial.browser.execute_cdp_cmd("Input.dispatchTouchEvent", {"type": kind, "touchPoints": touched})
 
 
-def touches(trial, name):
-    """A tap reads, two fingers zoom, controls fold away, and what is touched is large enough."""
+def by_fingers(trial, name):
+    """A tap reads, two fingers zoom, and one drags."""
+    rect = trial.browser.find_element(By.ID, "lines").rect
+    x, y = 150, 200
+    fingers(trial, "touchStart", (x, rect["y"] + y))
+    fingers(trial, "touchEnd")
+    reading_is(trial, f"{name}, under a finger", (x, y))
+    before = view_of(trial)
+    middle = round(rect["width"] / 2), rect["y"] + 300
+    fingers(trial, "touchStart", (middle[0] - 40, middle[1]), (middle[0] + 40, middle[1]))
+    for apart in (50, 60, 70, 80):
+        fingers(trial, "touchMove", (middle[0] - apart, middle[1]), (middle[0] + apart, middle[1]))
+    fingers(trial, "touchEnd")
+    wait_for(trial, f"{name}: two fingers leave a width of {view_of(trial)[2]}", lambda: 0.4 * before[2] < view_of(trial)[2] < 0.65 * before[2], 10)
+    zoomed = view_of(trial)
+    fingers(trial, "touchStart", middle)
+    for far in (20, 40, 60):
+        fingers(trial, "touchMove", (middle[0], middle[1] + far))
+    fingers(trial, "touchEnd")
+    wait_for(trial, f"{name}: a finger leaves the view at {view_of(trial)}", lambda: view_of(trial)[1] > zoomed[1], 10)
+    trial.wait("whole")
+
+
+def folds_away(trial, name):
+    """On a small screen controls fold away, and what is touched is large enough."""
     rect = trial.browser.find_element(By.ID, "lines").rect
     if rect["height"] < 600:
         trial.blame(f"{name}: the sky gets {rect['height']} of 844 pixels")
     if trial.browser.find_element(By.ID, "controls").is_displayed():
         trial.blame(f"{name}: the controls aren't folded away")
-    x, y = 150, 200
-    fingers(trial, "touchStart", (x, rect["y"] + y))
-    fingers(trial, "touchEnd")
-    reading_is(trial, f"{name}, under a finger", (x, y))
-    before = view_of(trial)[2]
-    middle = 195, rect["y"] + 300
-    fingers(trial, "touchStart", (middle[0] - 40, middle[1]), (middle[0] + 40, middle[1]))
-    for apart in (50, 60, 70, 80):
-        fingers(trial, "touchMove", (middle[0] - apart, middle[1]), (middle[0] + apart, middle[1]))
-    fingers(trial, "touchEnd")
-    wait_for(trial, f"{name}: two fingers leave a width of {view_of(trial)[2]}", lambda: 0.4 * before < view_of(trial)[2] < 0.65 * before, 10)
-    trial.wait("whole")
     script(trial, "document.getElementById('fold').click()")
     small = script(trial, """return [...document.querySelectorAll("button, select, a.button, label.switch, input:not([type=checkbox])")]
         .map((one) => [one.id || one.textContent, one.getBoundingClientRect()]).filter(([, box]) => box.width > 0 && Math.min(box.width, box.height) < arguments[0])
@@ -326,14 +337,12 @@ def small_change(trial, sent):
 
 def once(trial, sent, folder):
     small_change(trial, sent)
-    edits_by_astropy(trial)
     on_a_slow_line(trial, sent)
     begins_as_told(trial)
     cuts_are_typed(trial)
     is_galactic(trial)
     goes_back(trial)
     saves(trial)
-    turns_dark(trial)
     draws_by_webgl(trial)
     wheels(trial)
     measures(trial)
@@ -342,25 +351,6 @@ def once(trial, sent, folder):
     compares(trial, folder)
     shows_sources(trial, catalogue_of(folder))
     begins_anew(trial)
-
-
-def edits_by_astropy(trial):
-    """examples/edit-tile.py adds to each pixel that isn't blank, and to no other."""
-    survey = trial.survey
-    leaf = int(survey.leaves[7])
-    path = tile_path(survey.top, leaf)
-    numbers = numpy.array(survey.stored(leaf * 4**survey.bits + numpy.arange(4**survey.bits)), ">i2")
-    numbers[5:9] = survey.blank
-    header, data = survey.file(leaf)[:2880], numbers.tobytes()
-    trial.ask("PUT", "/" + path, header + data + bytes(-len(data) % 2880))
-    trial.ask("POST", "/publish")
-    done = subprocess.run([EXAMPLES / "edit-tile.py", f"http://{trial.address}", path, "100"], capture_output=True, text=True, timeout=60)
-    trial.ask("POST", "/publish")
-    found = numpy.frombuffer(trial.ask("GET", "/" + path)[2880:2880 + len(data)], ">i2")
-    if done.returncode != 0 or not numpy.array_equal(found, numpy.where(numbers == survey.blank, numbers, numbers + 100)):
-        trial.blame("edit-tile.py ends by", done.returncode, done.stderr[-300:])
-    trial.ask("PUT", "/" + path, survey.file(leaf))
-    trial.ask("POST", "/publish")
 
 
 def on_a_slow_line(trial, sent):
@@ -621,41 +611,6 @@ def numbers_are_at(trial, what, path, order):
     trial.judge(what, (abs(found - numbers) <= 1) | (numpy.isnan(found) & numpy.isnan(numbers)), 0.9999)
 
 
-CONTRASTS = """
-const lightness = (text) => {
-    const [red, green, blue] = text.match(/[\\d.]+/g).map((part) => part / 255).map((part) => part <= 0.04045 ? part / 12.92 : ((part + 0.055) / 1.055) ** 2.4);
-    return 0.2126 * red + 0.7152 * green + 0.0722 * blue;
-};
-const groundOf = (one) => { const colour = getComputedStyle(one).backgroundColor; return /, 0\\)$/.test(colour) ? groundOf(one.parentElement) : colour; };
-document.querySelectorAll("details").forEach((one) => { one.open = true; });
-return [...document.querySelectorAll("header *, aside *, footer *")].filter((one) => one.checkVisibility() && (one.matches("input:not([type=range], [type=checkbox]), select") || [...one.childNodes].some((node) => node.nodeType === 3 && node.data.trim())))
-    .map((one) => [one.id || one.textContent, ...[getComputedStyle(one).color, groundOf(one)].map(lightness).sort((one, other) => one - other)])
-    .filter(([, dark, light]) => (light + 0.05) / (dark + 0.05) < 4.5);
-"""
-NAMELESS = """return [...document.querySelectorAll("input, select, button")].filter((one) => !(one.ariaLabel || one.labels?.length || one.textContent.trim())).map((one) => one.outerHTML)"""
-
-
-def is_legible(trial):
-    """The text has the contrast of WCAG's AA, and each control has a name for screen readers."""
-    if found := script(trial, CONTRASTS):
-        trial.blame("too little contrast:", found)
-    if found := script(trial, NAMELESS):
-        trial.blame("without a name:", found)
-
-
-def turns_dark(trial):
-    is_legible(trial)
-    colour = lambda: script(trial, "return getComputedStyle(document.body).backgroundColor")  # noqa: E731
-    before = colour()
-    script(trial, "document.getElementById('dark').click()")
-    if colour() == before or max(map(int, re.findall(r"\d+", colour())[:3])) > 80:
-        trial.blame("dark is", colour())
-    is_legible(trial)
-    script(trial, "document.getElementById('dark').click()")
-    if colour() != before:
-        trial.blame("light is", colour())
-
-
 def draws_by_webgl(trial):
     """While the view moves: here by a processor, which draws the same as a card, only slowly."""
     resize(trial, 620, 360, False)
@@ -697,6 +652,14 @@ def shows_sources(trial, catalogue):
     trial.browser.find_element(By.ID, "close").click()
     if trial.browser.find_element(By.ID, "source").is_displayed():
         trial.blame("the row of a source isn't closed")
+    turn(trial, (83, 22, 20), "grid=0&coverage=0&cells=0&changes=0&colours=grey&catalogue=1")
+    ActionChains(trial.browser).move_to_element(trial.browser.find_element(By.ID, "title")).perform()
+    canvas.send_keys(Keys.ENTER)
+    is_said(trial, "a source that is picked by keys", "second", trial.text("source"))
+    canvas.send_keys(Keys.ESCAPE)
+    if trial.browser.find_element(By.ID, "source").is_displayed():
+        trial.blame("the row of a source isn't closed by keys")
+    turn(trial, view, "grid=0&coverage=0&cells=0&changes=0&colours=grey&catalogue=1")
     are_filtered(trial, [(round(column), round(line)) for column, line in zip(columns, lines)])
     del trial.page.folders["catalogue"]
 
@@ -740,7 +703,7 @@ def begins_anew(trial):
 
 
 def catalogue_of(folder):
-    """A catalogue of three sources, as examples/catalog.sh makes it."""
+    """A catalogue of three sources, as `hipsctl catalog` makes it."""
     rows = ["80\t20\tA\t5\tfirst", "83\t22\tB\t7.25\tsecond", "200\t-60\tC\t9\tthird"]
     text = "# Completeness = 3 / 3\nra\tdec\tid\tmag\tnote\n" + "".join(f"{row}\n" for row in rows)
     (folder / "catalogue/Norder1").mkdir(parents=True)

@@ -1,9 +1,9 @@
-// A catalogue HiPS over the sky, where there is one beside the survey (examples/catalog.sh): its sources as rings, those of the coarse
+// A catalogue HiPS over the sky, where there is one beside the survey (hipsctl catalog): its sources as rings, those of the coarse
 // orders first and larger, and the row of one that is picked.
 
+import { readProperties, tilePath } from "./files.js";
 import { cellOf, fromDegrees, locate } from "./healpix.js";
 import { Marks, placeIn } from "./marks.js";
-import { tilePath } from "./survey.js";
 
 const MOST_TILES = 60;
 // So many pixels of the sky, on a screen of one pixel a point, have a mark.
@@ -22,10 +22,7 @@ export class Catalogue extends Marks {
 
     /** Finds out whether there is one. */
     async open() {
-        const reply = await fetch(`${this.address}/properties`).catch(() => null);
-        if (!reply?.ok) return;
-        const lines = (await reply.text()).split("\n").map((line) => line.split("=").map((part) => part.trim()));
-        const properties = new Map(lines.map(([key, ...value]) => [key, value.join("=")]));
+        const properties = readProperties((await this.ask("properties")) ?? "");
         if (properties.get("dataproduct_type") !== "catalog") return;
         this.deepest = Number(properties.get("hips_order"));
         this.title = properties.get("obs_title");
@@ -35,11 +32,15 @@ export class Catalogue extends Marks {
         await this.readUnits();
     }
 
+    /** The text of a file, or none. */
+    async ask(path) {
+        const reply = await fetch(`${this.address}/${path}`).catch(() => null);
+        return reply?.ok ? reply.text() : null;
+    }
+
     /** The units of its columns are in a VOTable beside its tiles, where there is one. */
     async readUnits() {
-        const reply = await fetch(`${this.address}/metadata.xml`).catch(() => null);
-        if (!reply?.ok) return;
-        const table = new DOMParser().parseFromString(await reply.text(), "text/xml");
+        const table = new DOMParser().parseFromString((await this.ask("metadata.xml")) ?? "", "text/xml");
         this.units = new Map([...table.querySelectorAll("FIELD[unit]")].map((field) => [field.getAttribute("name"), field.getAttribute("unit")]));
     }
 
@@ -60,8 +61,8 @@ export class Catalogue extends Marks {
             const [order, cell, path] = next;
             const tiles = this.tilesOf(order);
             tiles.set(cell, []);
-            const reply = await fetch(`${this.address}/${path}`).catch(() => null);
-            if (reply?.ok) tiles.set(cell, readRows(await reply.text(), order));
+            const text = await this.ask(path);
+            if (text) tiles.set(cell, readRows(text, order));
             this.onChange();
         }
     }

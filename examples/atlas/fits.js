@@ -1,5 +1,7 @@
 // FITS files of a HiPS (FITS 4.0; MOC 1.1): images of whole and of real numbers, and the table of a coverage file.
 
+import { partOf } from "./healpix.js";
+
 const CARD = 80;
 const BLOCK = 2880;
 const COLUMNS_OF_MOSAIC = 27;
@@ -30,12 +32,6 @@ export class Image {
         return number === this.blank ? NaN : this.zero + this.scale * Number(number);
     }
 
-    /** Whether two images show the same numbers. */
-    equals(other) {
-        const { numbers } = this;
-        return numbers.length === other.numbers.length && numbers.every((number, place) => isSame(number, other.numbers[place]));
-    }
-
     /** Whether 32 bits of a real number hold its values. */
     get isShort() {
         return this.numbers instanceof Float32Array || this.numbers.BYTES_PER_ELEMENT <= 2;
@@ -48,22 +44,44 @@ export class Image {
 
     /** Whether two tiles show the same within a cell below theirs: that of a number, so many orders deeper. No other tile is a blank one. */
     equalsWithin(other, cell, deeper) {
-        const bits = Math.log2(this.width);
-        if (deeper > bits) return false;
-        const side = this.width >> deeper;
-        let [x, y] = [0, 0];
-        for (let bit = 0; bit < deeper; bit++) {
-            x |= (Math.floor(cell / 4 ** bit) & 1) << bit;
-            y |= ((Math.floor(cell / 4 ** bit) >> 1) & 1) << bit;
-        }
-        // Lines of a tile go with x, from the top, and columns with y; the bottom line is the first.
-        const bottom = this.width - (x + 1) * side;
+        if (this.width < 2 ** deeper) return false;
+        const { left, bottom, side } = this.squareOf(cell, deeper);
         for (let line = bottom; line < bottom + side; line++) {
-            for (let place = line * this.width + y * side; place < line * this.width + (y + 1) * side; place++) {
+            for (let place = line * this.width + left; place < line * this.width + left + side; place++) {
                 if (other ? !isSame(this.numbers[place], other.numbers[place]) : !this.isBlankAt(place)) return false;
             }
         }
         return true;
+    }
+
+    /** Where a cell below a tile's stands in it. Lines of a tile go with x, from the top, and columns with y; the bottom line is the first. */
+    squareOf(cell, deeper) {
+        const side = this.width >> deeper;
+        const [, column, line] = partOf(deeper, cell);
+        return { left: line * side, bottom: this.width - (column + 1) * side, side };
+    }
+
+    /** A square of it as an image of its own. */
+    cut({ left, bottom, side }) {
+        const numbers = new this.numbers.constructor(side * side);
+        for (let line = 0; line < side; line++) {
+            const from = (bottom + line) * this.width + left;
+            numbers.set(this.numbers.subarray(from, from + side), line * side);
+        }
+        return new Image(side, side, numbers, this);
+    }
+
+    /** The same with other squares, [square, image]; an image of null is blank. */
+    pasted(squares) {
+        const numbers = this.numbers.slice();
+        for (const [{ left, bottom, side }, image] of squares) {
+            for (let line = 0; line < side; line++) {
+                const at = (bottom + line) * this.width + left;
+                if (image) numbers.set(image.numbers.subarray(line * side, (line + 1) * side), at);
+                else numbers.fill(this.blank ?? NaN, at, at + side);
+            }
+        }
+        return new Image(this.width, this.height, numbers, this);
     }
 }
 
@@ -91,21 +109,15 @@ export function readImage(buffer) {
     });
 }
 
-/** The cells of order 3 of the all-sky mosaic, as a map from their numbers to images. */
+/** Where a cell of order 3 stands in the all-sky mosaic. */
+export function squareInMosaic({ width, height }, cell) {
+    const side = width / COLUMNS_OF_MOSAIC;
+    return { left: (cell % COLUMNS_OF_MOSAIC) * side, bottom: height - (Math.floor(cell / COLUMNS_OF_MOSAIC) + 1) * side, side };
+}
+
+/** The cells of the mosaic, as a map from their numbers to images. */
 export function cutMosaic(mosaic) {
-    const side = mosaic.width / COLUMNS_OF_MOSAIC;
-    const cells = new Map();
-    for (let cell = 0; cell < CELLS_OF_MOSAIC; cell++) {
-        const column = (cell % COLUMNS_OF_MOSAIC) * side;
-        const bottom = mosaic.height - (Math.floor(cell / COLUMNS_OF_MOSAIC) + 1) * side;
-        const numbers = new mosaic.numbers.constructor(side * side);
-        for (let line = 0; line < side; line++) {
-            const from = (bottom + line) * mosaic.width + column;
-            numbers.set(mosaic.numbers.subarray(from, from + side), line * side);
-        }
-        cells.set(cell, new Image(side, side, numbers, mosaic));
-    }
-    return cells;
+    return new Map(Array.from({ length: CELLS_OF_MOSAIC }, (_, cell) => [cell, mosaic.cut(squareInMosaic(mosaic, cell))]));
 }
 
 /** The rows of a coverage file: the numbers 4·4^order + cell, and the order of the leaves. */

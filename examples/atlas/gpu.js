@@ -2,6 +2,7 @@
 // good enough to move by, and not beyond a second of arc, so the picture of a view that rests is drawn by picture.js.
 
 import { channels, tableOf } from "./colours.js";
+import { partOf } from "./healpix.js";
 import { GROUND, OUTLINE } from "./picture.js";
 import { KINDS, PARTS, SKY, WHOLES } from "./projections.js";
 import { STRETCHED, STRETCHES } from "./stretch.js";
@@ -12,7 +13,6 @@ const UPLOADS_OF_A_FRAME = 12;
 const BLANK = 3e38;
 const FARTHEST = 1e6;
 const COVERAGE_ORDER = 8;
-const COLUMNS_OF_MOSAIC = 27;
 
 const VERTICES = `#version 300 es
 in vec2 corner;
@@ -169,10 +169,8 @@ class Gpu {
     useColours({ colours, isInverted }) {
         const { gl } = this;
         Object.assign(this, { colours, isInverted });
-        gl.activeTexture(gl.TEXTURE1);
         this.table ??= this.texture();
-        gl.bindTexture(gl.TEXTURE_2D, this.table);
-        gl.texImage2D(gl.TEXTURE_2D, 0, gl.RGBA8, 256, 1, 0, gl.RGBA, gl.UNSIGNED_BYTE, new Uint8Array(tableOf({ colours, isInverted }).buffer));
+        this.bindTo(1, this.table, [gl.RGBA8, 256, 1, gl.RGBA, gl.UNSIGNED_BYTE, new Uint8Array(tableOf({ colours, isInverted }).buffer)]);
     }
 
     useCoverage(coverage) {
@@ -180,11 +178,9 @@ class Gpu {
         gl.uniform1i(this.at("has_coverage"), coverage ? 1 : 0);
         if (!coverage || coverage === this.coverage) return;
         this.coverage = coverage;
-        gl.activeTexture(gl.TEXTURE2);
         this.covered ??= this.texture();
-        gl.bindTexture(gl.TEXTURE_2D, this.covered);
         const side = 2 ** COVERAGE_ORDER;
-        gl.texImage2D(gl.TEXTURE_2D, 0, gl.R8, side, 12 * side, 0, gl.RED, gl.UNSIGNED_BYTE, coverage.map(COVERAGE_ORDER));
+        this.bindTo(2, this.covered, [gl.R8, side, 12 * side, gl.RED, gl.UNSIGNED_BYTE, coverage.map(COVERAGE_ORDER)]);
     }
 
     drawLayer(layer, cells, projection, size) {
@@ -202,7 +198,7 @@ class Gpu {
             if (!bounds || !this.bind(tile)) continue;
             const [left, top, right, bottom] = bounds;
             gl.scissor(left, size[1] - bottom, right - left, bottom - top);
-            this.drawTile(projection.tileOf(layer.order, cell));
+            this.drawTile([layer.order, ...partOf(layer.order, cell)]);
         }
         gl.disable(gl.SCISSOR_TEST);
     }
@@ -215,30 +211,38 @@ class Gpu {
     /** Binds an image's numbers, which are brought to the card some images a frame; false where they aren't there yet. */
     bind(image) {
         const { gl } = this;
-        gl.activeTexture(gl.TEXTURE0);
         const known = this.textures.get(image);
-        if (known) {
-            this.textures.delete(image);
-            this.textures.set(image, known);
-            gl.bindTexture(gl.TEXTURE_2D, known);
-            return true;
-        }
-        if (++this.uploads > UPLOADS_OF_A_FRAME) return false;
-        const made = this.texture();
-        this.textures.set(image, made);
-        gl.bindTexture(gl.TEXTURE_2D, made);
+        if (!known && ++this.uploads > UPLOADS_OF_A_FRAME) return false;
+        const texture = known ?? this.texture();
+        // Those that were used last are the last ones.
+        this.textures.delete(image);
+        this.textures.set(image, texture);
+        this.bindTo(0, texture);
+        if (known) return true;
         const numbers = new Float32Array(image.numbers.length);
         for (let place = 0; place < numbers.length; place++) {
             const value = image.value(place);
             numbers[place] = value !== value ? BLANK : value - this.zero;
         }
-        gl.texImage2D(gl.TEXTURE_2D, 0, gl.R32F, image.width, image.height, 0, gl.RED, gl.FLOAT, numbers);
+        this.bindTo(0, texture, [gl.R32F, image.width, image.height, gl.RED, gl.FLOAT, numbers]);
         return true;
     }
 
+    /** Binds a texture, with new contents where there are some. */
+    bindTo(unit, texture, contents) {
+        const { gl } = this;
+        gl.activeTexture(gl.TEXTURE0 + unit);
+        gl.bindTexture(gl.TEXTURE_2D, texture);
+        if (!contents) return;
+        const [kept, width, height, format, type, data] = contents;
+        gl.texImage2D(gl.TEXTURE_2D, 0, kept, width, height, 0, format, type, data);
+    }
+
+    /** A new texture, which is bound as the numbers are, so that the others stay. */
     texture() {
         const { gl } = this;
         const made = gl.createTexture();
+        gl.activeTexture(gl.TEXTURE0);
         gl.bindTexture(gl.TEXTURE_2D, made);
         for (const name of [gl.TEXTURE_MIN_FILTER, gl.TEXTURE_MAG_FILTER]) gl.texParameteri(gl.TEXTURE_2D, name, gl.NEAREST);
         return made;

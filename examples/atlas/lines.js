@@ -173,10 +173,7 @@ export class Lines {
         for (const [letter, right, down] of [["N", sine, -cosine], ["E", -cosine, -sine]]) {
             const along = (length, aside) => [foot[0] + (length * right - aside * down) * density, foot[1] + (length * down + aside * right) * density];
             const tip = along(COMPASS, 0);
-            for (const [colour, width] of [[SHADE, 4], [NUMBERS, 1.5]]) {
-                this.path([foot, tip], colour, width);
-                this.path([along(COMPASS - 6, 4), tip, along(COMPASS - 6, -4)], colour, width);
-            }
+            this.bold([foot, tip, null, along(COMPASS - 6, 4), tip, along(COMPASS - 6, -4)], NUMBERS);
             this.number(letter, ...along(COMPASS + 9, 0), "center", NUMBERS);
         }
     }
@@ -184,24 +181,24 @@ export class Lines {
     /** The way from a mark, along these directions. */
     way(directions) {
         const points = directions.map((direction) => this.projection.toScreen(direction));
-        const [foot] = points;
-        for (const [colour, width] of [[SHADE, 4], [NUMBERS, 1.5]]) {
-            this.path(points, colour, width);
-            if (foot) this.path([-1, 1].flatMap((side) => [shifted(foot, -5, -5 * side, this.density), shifted(foot, 5, 5 * side, this.density), null]), colour, width);
-        }
+        const cross = (foot) => [-1, 1].flatMap((side) => [shifted(foot, -5, -5 * side, this.density), shifted(foot, 5, 5 * side, this.density), null]);
+        this.bold([...points, null, ...(points[0] ? cross(points[0]) : [])], NUMBERS);
+    }
+
+    /** The point at which keys point. */
+    cross(point) {
+        const arm = (right, down) => [shifted(point, 4 * right, 4 * down, this.density), shifted(point, 12 * right, 12 * down, this.density), null];
+        this.bold([arm(1, 0), arm(-1, 0), arm(0, 1), arm(0, -1)].flat(), NUMBERS);
     }
 
     /** A line of a file, on dark and on light pixels. */
     shape(directions, colour) {
-        const points = directions.map((direction) => this.projection.toScreen(direction));
-        this.path(points, "rgba(16, 19, 28, 0.6)", 3.5);
-        this.path(points, colour, 1.5);
+        this.bold(directions.map((direction) => this.projection.toScreen(direction)), colour);
     }
 
     /** The line behind which a second HiPS is shown, with its name. */
     curtain(column, name) {
-        this.path([[column, 0], [column, this.height]], "rgba(16, 19, 28, 0.6)", 4);
-        this.path([[column, 0], [column, this.height]], "#ffffff", 1.5);
+        this.bold([[column, 0], [column, this.height]], "#ffffff");
         const line = 14 * this.density;
         if (column > 0) this.number("now ▸", column - 8 * this.density, line, "right", NUMBERS);
         if (column < this.width) this.number(`◂ ${name}`, column + 8 * this.density, line, "left", NUMBERS);
@@ -215,6 +212,12 @@ export class Lines {
     cell(order, cell, colour, width) {
         const points = border(order, cell, POINTS_OF_A_SIDE).map((direction) => this.projection.toScreen(direction));
         this.path([...points, points[0]], colour, width);
+    }
+
+    /** A line that stands out from any pixels. */
+    bold(points, colour) {
+        this.path(points, "rgba(16, 19, 28, 0.6)", 4);
+        this.path(points, colour, 1.5);
     }
 
     /** A line through points; it is lifted where a point is missing or far from the one before. */

@@ -1,17 +1,18 @@
 // Keeps one generation of a survey shown, and goes to the next one when it is whole. Every reply names the edits that it shows, its
 // prefix; a generation takes only replies of its own prefix. What is shown stays until all that is in view has come of the next one.
-// Of that only the tiles come that have changed, as far as their ancestors of a coarse order show it; the mosaic, which shows the whole
-// sky, comes as a whole, at most every ten seconds. A change that is too small for coarse tiles is found a little later: once no other
-// generation has come for some seconds, each tile that was kept is looked at itself.
+// Of that only the tiles come that a publication touched (patch.js); where it takes all of the sky to find these, at most every ten
+// seconds. A change that is too small for coarse tiles is found a little later: once no other generation has come for some seconds, each
+// tile that was taken over unseen is looked at itself.
 
-import { Generation, SurveyFault, ask } from "./survey.js";
+import { SurveyFault, ask } from "./files.js";
+import { Generation } from "./survey.js";
 
 const PAUSE = 1000;
-const PAUSE_FOR_MOSAIC = 10_000;
+const PAUSE_FOR_SKY = 10_000;
 const PAUSE_FOR_OLDER = 300;
 const PAUSE_FOR_OTHERS = 20;
 const QUIET = 2500;
-// Looking at tiles that were kept costs at most so many bytes a second.
+// Looking at tiles that were taken over costs at most so many bytes a second.
 const BYTES_TO_CHECK = 100_000;
 const FETCHES_AT_ONCE = 6;
 const MOST_TILES = 600;
@@ -39,7 +40,7 @@ export class Live {
         this.changes = null;
         this.fault = null;
         this.isAway = false;
-        this.isAwaited = false;
+        this.lookedAt = -PAUSE_FOR_SKY;
         this.olderReplies = 0;
     }
 
@@ -57,13 +58,12 @@ export class Live {
 
     /** A newer generation is known than the one that is shown. */
     get isComing() {
-        return this.shown !== null && (this.coming !== null || this.isAwaited);
+        return this.shown !== null && this.coming !== null;
     }
 
-    /** It is too early to fetch the mosaic, which shows the view, once more. */
+    /** It is too early to look at all of the sky once more. */
     get isEarly() {
-        const isRecent = this.coming === null && performance.now() - this.since < PAUSE_FOR_MOSAIC;
-        return isRecent && this.shown?.sky && this.page.inView(this.shown).order === null;
+        return performance.now() - this.lookedAt < PAUSE_FOR_SKY;
     }
 
     /** The picture shows another part of the sky: fetches what it lacks. */
@@ -84,14 +84,13 @@ export class Live {
 
     heard(prefix) {
         const newest = this.coming ?? this.shown;
+        // After older replies its edits may count anew.
+        const isOvertaken = this.olderReplies > 0 && prefix > newest.prefix;
         this.olderReplies = newest && prefix < newest.prefix ? this.olderReplies + 1 : 0;
-        const isAnew = this.isAway || this.olderReplies >= OLDER_REPLIES_BEFORE_ANEW;
+        const isAnew = this.isAway || isOvertaken || this.olderReplies >= OLDER_REPLIES_BEFORE_ANEW;
         const isOther = !newest || prefix > newest.prefix || isAnew;
-        const wasAwaited = this.isAwaited;
-        this.isAwaited = isOther && !isAnew && Boolean(this.isEarly);
-        if (this.isAwaited !== wasAwaited) this.page.changed();
-        if (isOther && !this.isAwaited) this.begin(prefix, isAnew);
-        else if (this.fault) this.viewed();
+        if (isOther) this.begin(prefix, isAnew);
+        else if (this.fault || this.coming) this.viewed();
         else if (this.shown?.unsure.size > 0 && performance.now() - this.since > QUIET) this.check(this.shown);
     }
 
@@ -107,6 +106,7 @@ export class Live {
         this.coming = generation;
         this.isAway = false;
         this.olderReplies = 0;
+        if (this.shown) this.page.changed();
         this.load(generation, isAnew).catch((fault) => this.stopped(generation, fault));
     }
 
@@ -135,14 +135,20 @@ export class Live {
     async fetchNext(generation) {
         while (this.isCurrent(generation)) {
             const wanted = this.lacking(generation);
-            if (wanted.length === 0) return;
             const file = wanted.find(({ path }) => !generation.fetching.has(path));
+            if (wanted.length === 0 || (file?.isMuch && !generation.isLooking && this.isEarly)) return;
             if (file === undefined) await pause(PAUSE_FOR_OTHERS);
-            else {
-                await generation.fetch((path) => this.get(generation, path), file);
-                if (generation === this.shown) this.page.changed();
-            }
+            else await this.fetch(generation, file);
         }
+    }
+
+    async fetch(generation, file) {
+        if (file.isMuch || file.order === null) {
+            generation.isLooking = true;
+            this.lookedAt = performance.now();
+        }
+        await generation.fetch((path) => this.get(generation, path), file);
+        if (generation === this.shown) this.page.changed();
     }
 
     filled(generation) {
@@ -153,8 +159,9 @@ export class Live {
     }
 
     show(generation) {
-        this.changes = this.shown && !generation.isAnew ? generation.changesSince(this.shown, this.page.inView(generation)) : null;
-        generation.earlier = null;
+        const view = this.page.inView(generation);
+        this.changes = this.shown && !generation.isAnew ? generation.changesSince(this.shown, view) : null;
+        generation.patch?.end(view);
         this.shown = generation;
         this.coming = null;
         this.since = performance.now();

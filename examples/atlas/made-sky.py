@@ -2,7 +2,7 @@
 """Makes a survey folder to look at, where there is none yet: made-sky.py FOLDER. The band of a galaxy with clouds before it, and stars,
 as an observatory in the north would see them: leaf tiles of order 4, 64 pixels wide, of 16 bits. It needs Debian's python3-healpy.
 
-    examples/atlas/made-sky.py /tmp/sky && examples/atlas/look.py /tmp/sky
+    examples/atlas/made-sky.py /tmp/sky && hipsctl page /tmp/sky
 """
 
 import sys

@@ -1,8 +1,8 @@
 // Coverage maps from disk (MOC 2.0): FITS files of NUNIQ numbers or of ranges, JSON, and text.
 
+import { Coverage, orderOfRow } from "./coverage.js";
 import { readMocTable } from "./fits.js";
 import { DEEP } from "./healpix.js";
-import { Coverage } from "./survey.js";
 import { FileFault } from "./tables.js";
 
 const RANGE_ORDER = 29;
@@ -15,7 +15,8 @@ export function readMoc(bytes) {
 
 function readFits(bytes) {
     const { isRange, numbers } = readMocTable(bytes);
-    if (!isRange) return coverageOf(numbers.map((number) => cellsOf(Number(number))));
+    const rows = numbers.map(Number);
+    if (!isRange) return new Coverage({ order: Math.max(...rows.map(orderOfRow)), rows });
     const shift = BigInt(2 * (RANGE_ORDER - DEEP));
     const last = (1n << shift) - 1n;
     return coverageOf(pairsOf(numbers).map(([first, end]) => ({ order: DEEP, first: Number(first >> shift), end: Number((end + last) >> shift) })));
@@ -23,13 +24,6 @@ function readFits(bytes) {
 
 function pairsOf(numbers) {
     return Array.from({ length: Math.floor(numbers.length / 2) }, (_, at) => [numbers[2 * at], numbers[2 * at + 1]]);
-}
-
-/** The cells of a number 4·4^order + cell. */
-function cellsOf(number) {
-    const order = Math.floor(Math.log2(number / 4) / 2);
-    const first = number - 4 * 4 ** order;
-    return { order, first, end: first + 1 };
 }
 
 /** `{"5": [1, 2]}`, or `5/1-2 7 6/30`. */

@@ -4,7 +4,7 @@ import { FitsFault } from "./fits.js";
 import { toDegrees } from "./healpix.js";
 import { Marks, placeIn } from "./marks.js";
 import { readMoc } from "./moc.js";
-import { element, refuse } from "./panel.js";
+import { element, made, refuse } from "./panel.js";
 import { readRegions } from "./regions.js";
 import { FileFault, readTable } from "./tables.js";
 import { counted } from "./words.js";
@@ -69,14 +69,9 @@ export class Opened {
 
     show() {
         element("opened").replaceChildren(...this.items.map((item) => {
-            const row = document.createElement("li");
-            const mark = Object.assign(document.createElement("i"), { style: `color: ${item.ink}` });
-            const go = Object.assign(document.createElement("button"), { textContent: `${item.name} (${item.said})`, title: "Go there" });
-            const end = Object.assign(document.createElement("button"), { textContent: "✕", ariaLabel: `Close ${item.name}` });
-            go.addEventListener("click", () => item.first && this.page.found(...toDegrees(item.first)));
-            end.addEventListener("click", () => this.close(item));
-            row.append(mark, go, end);
-            return row;
+            const go = made("button", { title: "Go there", onclick: () => item.first && this.page.found(...toDegrees(item.first)) }, `${item.name} (${item.said})`);
+            const end = made("button", { ariaLabel: `Close ${item.name}`, onclick: () => this.close(item) }, "✕");
+            return made("li", {}, made("i", { style: `color: ${item.ink}` }), go, end);
         }));
         this.page.changed();
     }

@@ -7,6 +7,13 @@ export function say(id, text) {
     if (element(id).textContent !== text) element(id).textContent = text;
 }
 
+/** A new element with these properties and children. */
+export function made(kind, properties = {}, ...children) {
+    const one = Object.assign(document.createElement(kind), properties);
+    one.append(...children);
+    return one;
+}
+
 /** Says under an input what is wrong with it; an empty text takes that back. */
 export function refuse(input, note, text) {
     say(note, text);

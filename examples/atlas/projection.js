@@ -2,7 +2,7 @@
 // to the left. Points of the picture are counted in its pixels from the top left corner.
 
 import { fromGalactic, galacticDegrees } from "./frames.js";
-import { border, fromDegrees, partOf, toDegrees } from "./healpix.js";
+import { border, fromDegrees, toDegrees } from "./healpix.js";
 import { PARTS, WHOLES } from "./projections.js";
 
 export const WHOLE_SKY = 360;
@@ -52,11 +52,6 @@ class Projection {
     along(forward, leftward, upward) {
         const { centre, left, up } = this;
         return [0, 1, 2].map((axis) => forward * centre[axis] + leftward * left[axis] + upward * up[axis]);
-    }
-
-    /** The order, face, column and line of a cell. */
-    tileOf(order, cell) {
-        return [order, ...partOf(order, cell)];
     }
 
     /** Whole pixels around a cell in a picture; all of them where its border isn't all there, or crosses the picture's edge. */

@@ -4,17 +4,17 @@ import { angleText, galacticText, positionText } from "./angles.js";
 import { toGalactic } from "./frames.js";
 import { toDegrees } from "./healpix.js";
 import { measureText } from "./measure.js";
-import { element, mark, say } from "./panel.js";
+import { element, made, mark, say } from "./panel.js";
 import { counted, facts, faultText, newsText } from "./words.js";
 
 const RULER = 120;
 
 /** The state of the survey and of the picture; `order` is null where the mosaic is shown. */
-export function sayState({ live, isMoving, isWhole, changes }, order) {
+export function sayState({ live, isWhole, changes }, order) {
     const { fault, shown } = live;
     say("message", fault ? faultText(fault, shown) : "");
     element("message").hidden = !fault;
-    const state = fault ? "away" : isWhole && !isMoving ? "whole" : "loading";
+    const state = fault ? "away" : isWhole ? "whole" : "loading";
     mark({ state, generation: shown ? String(shown.prefix) : "", sure: state === "whole" && live.isSure ? "1" : "0" });
     const loading = live.isComing ? "next generation is coming" : "loading";
     say("state", { away: shown ? "no server" : "no survey", whole: "complete", loading }[state]);
@@ -51,6 +51,11 @@ export function sayPoint(sky, reading, { isGalactic, pixel, mark }) {
     say("value", reading?.text ?? "");
 }
 
+/** Says the same to screen readers, which aren't told of each move of a pointer. */
+export function hearPoint() {
+    say("heard", ["position", "distance", "value"].map((id) => element(id).textContent).filter((text) => text !== "").join("; "));
+}
+
 /** The leaf under the pointer can be saved, also once the pointer has gone to the button. */
 export function sayTile(order, cell) {
     element("tile").hidden = false;
@@ -61,11 +66,8 @@ export function sayTile(order, cell) {
 /** The row of a source that is picked, with units where they are known. */
 export function saySource({ picked, units }) {
     element("source").hidden = !picked;
-    const cellOfTable = (kind, textContent) => Object.assign(document.createElement(kind), { textContent });
     element("source-row").replaceChildren(...(picked?.names ?? []).map((name, at) => {
-        const row = document.createElement("tr");
-        const unit = units.get(name);
-        row.append(cellOfTable("th", name), cellOfTable("td", unit && picked.values[at] ? `${picked.values[at]} ${unit}` : picked.values[at]));
-        return row;
+        const unit = picked.values[at] ? units.get(name) : undefined;
+        return made("tr", {}, made("th", { scope: "row" }, name), made("td", {}, [picked.values[at], unit].filter(Boolean).join(" ")));
     }));
 }

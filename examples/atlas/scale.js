@@ -13,7 +13,7 @@ const CHOICES = { colours: COLOURS, stretch: Object.keys(STRETCHES) };
 const STEPS = 1000;
 
 export class ScaleControls {
-    /** `page` has `scale`, `samples()`, some of the values that are shown, and `scaled()`, called when a person has set something. */
+    /** `page` has `scale`, `drawing`, and `scaled()`, called when a person has set something. */
     constructor(page) {
         this.page = page;
         this.samples = new Float64Array();
@@ -71,7 +71,7 @@ export class ScaleControls {
 
     /** Cuts that fit what is shown, where something is. */
     fit() {
-        const samples = this.page.samples();
+        const samples = this.page.drawing.samples();
         if (samples.length === 0) return;
         const { low, high } = cutsOf(samples, element("fit").value || Object.keys(FITS)[0]);
         Object.assign(this.page.scale, { low: Number(short(low)), high: Number(short(high)) });

@@ -1,7 +1,8 @@
 // A second HiPS of the page's origin, which doesn't change while it is shown: a state of the survey as it was, say.
 
+import { SurveyFault, askFile, tilePath } from "./files.js";
 import { element, refuse } from "./panel.js";
-import { Generation, SurveyFault, askFile, tilePath } from "./survey.js";
+import { Generation } from "./survey.js";
 
 const FETCHES_AT_ONCE = 4;
 const MOST_TILES = 600;

@@ -3,25 +3,25 @@
 import { shader, tableOf } from "./colours.js";
 import { cutsOf } from "./cuts.js";
 import { readFilter } from "./filter.js";
-import { element, refuse, say } from "./panel.js";
+import { element, made, refuse, say } from "./panel.js";
 import { counted } from "./words.js";
 
 const MOST_LISTED = 200;
 const ONE_COLOUR = "one colour";
 
 export class SourcesPanel {
-    /** `page` has `tables`, what is shown, `pictureFrame`, `draw()`, and `goTo(row)`. */
+    /** `page` has `picks`, whose tables are shown, and `drawing`. */
     constructor(page) {
         Object.assign(this, { page, accepts: () => true, isListed: false });
     }
 
     connect() {
         element("filter").addEventListener("change", () => this.filter(element("filter").value));
-        element("by").addEventListener("input", () => this.page.draw());
+        element("by").addEventListener("input", () => this.page.drawing.draw());
         element("list").addEventListener("click", () => {
             this.isListed = !this.isListed;
             element("list").setAttribute("aria-pressed", String(this.isListed));
-            this.page.draw();
+            this.page.drawing.draw();
         });
     }
 
@@ -29,15 +29,16 @@ export class SourcesPanel {
         const { accepts, fault = "" } = readFilter(text);
         refuse("filter", "filter-refused", fault);
         if (!fault) this.accepts = accepts;
-        this.page.draw();
+        this.page.drawing.draw();
     }
 
     /** Tells the tables which rows they show and how these are coloured; before they are drawn. */
     prepare() {
-        const { tables, pictureFrame } = this.page;
+        const { tables } = this.page.picks;
+        const { frame } = this.page.drawing;
         element("sources-panel").hidden = tables.length === 0;
         for (const table of tables) Object.assign(table, { accepts: this.accepts, colourOf: null });
-        const rows = tables.flatMap((table) => [...table.inView(pictureFrame)].map(([row]) => row));
+        const rows = tables.flatMap((table) => [...table.inView(frame)].map(([row]) => row));
         this.showColumns(rows);
         const colourOf = this.colours(rows);
         for (const table of tables) table.colourOf = colourOf;
@@ -80,17 +81,10 @@ export class SourcesPanel {
         this.listed = key;
         const more = rows.length > shown.length ? `, the first ${MOST_LISTED} of which are listed` : "";
         say("listed-count", `${counted(rows.length, "source")} marked in view${more}`);
-        const cell = (kind, textContent) => Object.assign(document.createElement(kind), { textContent });
-        const head = document.createElement("tr");
-        head.append(cell("th", ""), ...names.map((name) => cell("th", name)));
+        const head = made("tr", {}, made("td"), ...names.map((name) => made("th", { scope: "col" }, name)));
         element("rows").replaceChildren(head, ...shown.map((row) => {
-            const line = document.createElement("tr");
-            const go = Object.assign(cell("button", "Go"), { ariaLabel: `Go to ${row.values.join(" ")}` });
-            go.addEventListener("click", () => this.page.goTo(row));
-            const first = document.createElement("td");
-            first.append(go);
-            line.append(first, ...names.map((name) => cell("td", row.values[row.names.indexOf(name)] ?? "")));
-            return line;
+            const go = made("button", { ariaLabel: `Go to ${row.values.join(" ")}`, onclick: () => this.page.picks.row(row) }, "Go");
+            return made("tr", {}, made("td", {}, go), ...names.map((name) => made("td", {}, row.values[row.names.indexOf(name)] ?? "")));
         }));
     }
 }

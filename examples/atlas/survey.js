@@ -1,172 +1,50 @@
-// A survey as a server gives it: its files, each with the generation that its reply names, and one generation of it as it is known.
+// One generation of a survey, as far as its files were fetched: all of them are answered by the same published edits.
 
 import { changesOf } from "./changes.js";
-import { FitsFault, cutMosaic, readCoverage, readImage } from "./fits.js";
-import { centre, partOf } from "./healpix.js";
+import { Coverage } from "./coverage.js";
+import { SurveyFault, read, readProperties, tilePath } from "./files.js";
+import { readCoverage, readImage } from "./fits.js";
+import { Layer, SKY_ORDER, SKY_WIDTH, patchedSky, skyOf } from "./layers.js";
+import { MOSAIC, Patch } from "./patch.js";
 
-const PATIENCE = 20_000;
-const SQUARE_DEGREES = 41_252.96;
-
-/** What is said to whoever looks at the page. */
-export class SurveyFault extends Error {}
-
-/** Asks for a file of hipsd: its generation, and its bytes, or none where the survey has no such file. */
-export async function ask(address, path) {
-    const reply = await replyFor(address, path);
-    const prefix = reply.headers.get("Survey-Prefix");
-    if (prefix === null) throw new SurveyFault(`The reply for ${path} has no Survey-Prefix: there is no hipsd at ${address}.`);
-    return { prefix: Number(prefix), bytes: await bytesOf(reply, path) };
-}
-
-/** Asks for a file of any HiPS: its bytes, or none. */
-export async function askFile(address, path) {
-    return bytesOf(await replyFor(address, path), path);
-}
-
-async function replyFor(address, path) {
-    const reply = await fetch(`${address}/${path}`, { cache: "no-store", signal: AbortSignal.timeout(PATIENCE) }).catch(() => {
-        throw new SurveyFault("The server can't be reached.");
-    });
-    if (!reply.ok && reply.status !== 404) throw new SurveyFault(`The server answers ${path} by ${reply.status} ${reply.statusText}.`);
-    return reply;
-}
-
-async function bytesOf(reply, path) {
-    const bytes = await reply.arrayBuffer().catch(() => {
-        throw new SurveyFault(`The server broke off within ${path}.`);
-    });
-    return reply.ok ? bytes : null;
-}
-
-export function tilePath(order, cell) {
-    return `Norder${order}/Dir${Math.floor(cell / 10000) * 10000}/Npix${cell}.fits`;
-}
-
-/** What a file holds, by the reader for it; a fault is told with its path. */
-function read(path, bytes, reader) {
-    try {
-        return reader(bytes);
-    } catch (fault) {
-        throw fault instanceof FitsFault ? new SurveyFault(`${path} can't be read: ${fault.message}.`) : fault;
-    }
-}
-
-/** The lines `key = value` of a text. */
-function readProperties(bytes) {
-    const lines = new TextDecoder().decode(bytes).split("\n").filter((line) => line.includes("="));
-    return new Map(lines.map((line) => [line.slice(0, line.indexOf("=")).trim(), line.slice(line.indexOf("=") + 1).trim()]));
-}
-
-/** The leaves that there are, as ranges of their numbers. */
-export class Coverage {
-    constructor({ order, rows = [], ranges = rows.map((row) => rangeOf(row, order)) }) {
-        this.order = order;
-        this.ranges = [];
-        for (const [first, end] of ranges.sort((one, other) => one[0] - other[0])) {
-            const last = this.ranges.at(-1);
-            if (last && last[1] >= first) last[1] = Math.max(last[1], end);
-            else this.ranges.push([first, end]);
-        }
-    }
-
-    /** Whether there is a leaf at or under a cell. */
-    touches(order, cell) {
-        const leaves = 4 ** (this.order - order);
-        const range = this.rangeAfter(cell * leaves);
-        return range !== undefined && range[0] < (cell + 1) * leaves;
-    }
-
-    /** The direction of a leaf amid the others, in the order of their numbers. */
-    get middle() {
-        const [first] = this.ranges[this.ranges.length >> 1];
-        return centre(this.order, first);
-    }
-
-    /** Degrees along the side of a square as large as all leaves. */
-    get side() {
-        const leaves = this.ranges.reduce((sum, [first, end]) => sum + end - first, 0);
-        return Math.sqrt((leaves / (12 * 4 ** this.order)) * SQUARE_DEGREES);
-    }
-
-    /** The faces as pictures above each other, of cells of an order: 255 where there is a leaf at or under the cell. */
-    map(order) {
-        const side = 2 ** order;
-        const found = new Uint8Array(12 * side * side);
-        const shift = 4 ** Math.max(0, this.order - order);
-        const copies = 4 ** Math.max(0, order - this.order);
-        for (const [first, end] of this.ranges) {
-            for (let cell = Math.floor(first / shift) * copies; cell < Math.ceil(end / shift) * copies; cell++) {
-                const [face, column, line] = partOf(order, cell);
-                found[(face * side + line) * side + column] = 255;
-            }
-        }
-        return found;
-    }
-
-    /** The first range that ends behind a leaf. */
-    rangeAfter(leaf) {
-        let [low, high] = [0, this.ranges.length];
-        while (low < high) {
-            const middle = (low + high) >> 1;
-            if (this.ranges[middle][1] > leaf) high = middle;
-            else low = middle + 1;
-        }
-        return this.ranges[low];
-    }
-}
-
-/** The leaves under the cell of a row, the number 4·4^order + cell. */
-function rangeOf(row, leafOrder) {
-    const order = Math.floor(Math.log2(row / 4) / 2);
-    const leaves = 4 ** (leafOrder - order);
-    const cell = row - 4 * 4 ** order;
-    return [cell * leaves, (cell + 1) * leaves];
-}
-
-/** The tiles of an order, and how many bits a column of theirs has. */
-class Layer {
-    constructor(order, width, tiles = new Map()) {
-        this.order = order;
-        this.bits = Math.log2(width);
-        this.tiles = tiles;
-    }
-}
-
-/** Cells of the mosaic, and the bits of a column there. */
-const SKY_ORDER = 3;
-const SKY_WIDTH = 64;
 /** So many bits of a coarse tile's column show a tile of the order in view, which is 4 of its pixels wide. */
 const PIXEL_BITS_OF_A_TILE = 2;
 /** A mosaic costs as much as so many coarse tiles that come before it. */
 const COARSE_SHARE = 4;
+const CELLS_OF_MOSAIC = 768;
+/** Bytes that are looked at together for what a publication touched. */
+const BYTES_AT_ONCE = 300_000;
+const MOST_REFERENCES = 30;
+const LAYOUT = ["hips_order", "hips_order_min", "hips_tile_width", "survey_bitpix"];
 
-/**
- * One generation of a survey, as far as its files were fetched: all of them are answered by the same published edits. `earlier` is the
- * one that is shown, of the same server: tiles of it are kept where their ancestors of a coarse order show no change.
- */
 export class Generation {
+    /** `earlier` is the one that is shown, of the same server, from which is taken what didn't change. */
     constructor(prefix, earlier = null) {
-        this.prefix = prefix;
-        this.earlier = earlier;
+        Object.assign(this, { prefix, earlier, patch: null, sky: null, lastFound: null, isRepeated: false });
         this.layers = new Map();
         this.fetching = new Set();
-        this.sky = null;
-        // Tiles that were kept, and not compared themselves.
-        this.unsure = new Set();
+        // Tiles by their paths that were taken over and not compared themselves; and whether they weren't either in the generation before.
+        this.unsure = new Map();
+        // Tiles of earlier generations by their paths, and the cells that have changed in them since then: {tile, since}.
+        this.references = new Map();
     }
 
     /** Fetches what says which tiles there are. `get` asks for a path, and its answer is of this generation. */
     async open(get) {
         const [properties, coverage] = await Promise.all(["properties", "Moc.fits"].map(get));
         if (!properties) throw new SurveyFault("There is no properties file.");
-        this.properties = readProperties(properties);
+        this.properties = readProperties(new TextDecoder().decode(properties));
         this.order = this.number("hips_order");
         this.width = this.number("hips_tile_width");
+        this.bits = Math.log2(this.width);
         this.least = Math.min(this.number("hips_order_min") ?? SKY_ORDER, SKY_ORDER);
         this.skyBits = Math.log2(Math.min(this.width, SKY_WIDTH));
+        // Tiles of this order have the mosaic's pixels; one of a negative order is none.
+        this.skyOrder = SKY_ORDER + this.skyBits - this.bits;
         this.coverage = this.coverageOf(coverage);
-        const is = (name) => this.properties.get(name) === this.earlier.properties.get(name);
-        if (this.earlier && !["hips_order", "hips_order_min", "hips_tile_width", "survey_bitpix"].every(is)) this.earlier = null;
+        const { earlier } = this;
+        this.earlier = null;
+        if (earlier && LAYOUT.every((name) => this.properties.get(name) === earlier.properties.get(name))) this.patch = new Patch(this, earlier);
     }
 
     coverageOf(bytes) {
@@ -182,65 +60,87 @@ export class Generation {
 
     /** The tiles of an order, as far as they are here. */
     layer(order) {
-        if (!this.layers.has(order)) this.layers.set(order, new Layer(order, this.width));
+        if (!this.layers.has(order)) this.layers.set(order, new Layer(order, this.bits));
         return this.layers.get(order);
     }
 
     /** The layers that show an order, the finest first; null is the mosaic. */
     shownBy(order) {
-        const finest = order === null ? SKY_ORDER + this.skyBits : order + this.layer(order).bits;
+        const finest = order === null ? SKY_ORDER + this.skyBits : order + this.bits;
         const isShown = (layer) => layer && layer.order + layer.bits <= finest && (layer.tiles.size > 0 || layer.order === order);
-        return [...this.layers.values(), this.sky].filter(isShown).sort((one, other) => other.order + other.bits - one.order - one.bits);
+        return [this.sky, ...this.layers.values()].filter(isShown).sort((one, other) => other.order + other.bits - one.order - one.bits);
     }
 
     lacks(order, cell) {
         return this.coverage.touches(order, cell) && !this.layer(order).tiles.has(cell);
     }
 
-    /** The files that a view lacks, those that are to be fetched next first: coarse tiles, then those of its order, or the mosaic. */
+    file(order, cell) {
+        return { path: tilePath(order, cell), order, cell };
+    }
+
+    /** As many of some tiles as are looked at together, all of them where there is nothing to be compared with. */
+    some(tiles) {
+        const bytes = (this.width ** 2 * Math.abs(this.number("survey_bitpix") ?? 16)) / 8;
+        return this.patch?.before ? tiles.slice(0, Math.max(1, Math.floor(BYTES_AT_ONCE / bytes))) : tiles;
+    }
+
+    /**
+     * The files that a view lacks, those that are to be fetched next: what a publication touched or is likely to have, coarse tiles, then
+     * those of its order, or the mosaic. Of `isMuch` not too much is fetched.
+     */
     lacking({ order, cells }) {
+        if (order === null) return this.lackingOfSky();
+        this.patch?.keep(order, cells);
+        const missing = cells.filter((cell) => this.lacks(order, cell));
+        const first = this.patch?.first(order, missing) ?? [];
+        if (missing.length === 0 || first.length > 0) return first.map((cell) => this.file(order, cell));
         const above = this.above(order);
         const coarse = this.coarse(order, cells).filter((cell) => this.lacks(above, cell));
-        if (coarse.length > 0) return coarse.map((cell) => ({ path: tilePath(above, cell), order: above, cell, isCoarse: true }));
-        if (order === null) return this.sky ? [] : [{ path: "Norder3/Allsky.fits", order: null }];
-        this.keep(order, cells);
-        return cells.filter((cell) => this.lacks(order, cell)).map((cell) => ({ path: tilePath(order, cell), order, cell }));
+        if (coarse.length > 0) return this.some(coarse).map((cell) => ({ ...this.file(above, cell), isCoarse: true }));
+        return (order === above ? this.some(missing) : missing).map((cell) => this.file(order, cell));
+    }
+
+    /** The files that the mosaic lacks: tiles with the same pixels where it is known where it changed, or itself. */
+    lackingOfSky() {
+        if (this.sky) return [];
+        const before = this.skyOrder >= this.least ? this.references.get(MOSAIC) : null;
+        const changed = before ? [...before.since.at(this.skyOrder)] : [];
+        const missing = changed.filter((cell) => this.lacks(this.skyOrder, cell));
+        if (before && missing.length === 0) this.sky = patchedSky(before.tile, this.layer(this.skyOrder), changed);
+        if (this.sky) return [];
+        if (before && missing.length * 2 < this.tilesOfMosaic) {
+            const isMuch = this.isLimited && missing.length * COARSE_SHARE > this.tilesOfMosaic;
+            return missing.map((cell) => ({ ...this.file(this.skyOrder, cell), isMuch }));
+        }
+        const files = this.patch?.filesOfSky();
+        if (files) return files.length > 0 ? files : this.lackingOfSky();
+        const coarse = this.isLimited ? [] : this.coarse(null, []).filter((cell) => this.lacks(this.least, cell));
+        if (coarse.length > 0) return coarse.map((cell) => ({ ...this.file(this.least, cell), isCoarse: true }));
+        return [{ path: MOSAIC, order: null, isMuch: this.isLimited }];
+    }
+
+    /** Another generation's mosaic is shown while this one comes. */
+    get isLimited() {
+        return Boolean(this.patch?.before?.sky);
+    }
+
+    /** So many tiles have as many pixels as the mosaic. */
+    get tilesOfMosaic() {
+        return CELLS_OF_MOSAIC * 4 ** (this.skyBits - this.bits);
     }
 
     /** The order of the coarse tiles for an order in view: the coarsest in which a tile of it still has some pixels to a side. */
     above(order) {
-        return order === null ? this.least : Math.min(order, Math.max(this.least, order - Math.log2(this.width) + PIXEL_BITS_OF_A_TILE));
+        return order === null ? this.least : Math.min(order, Math.max(this.least, order - this.bits + PIXEL_BITS_OF_A_TILE));
     }
 
     /** The cells of that order above those in view; none where they are no shorter way. */
     coarse(order, cells) {
         const above = this.above(order);
         if (order !== null) return order > above ? [...new Set(cells.map((cell) => Math.floor(cell / 4 ** (order - above))))] : [];
-        if (this.earlier || this.sky || above === SKY_ORDER) return [];
         const all = Array.from({ length: 12 * 4 ** above }, (_, cell) => cell);
-        const isShort = all.length * this.width ** 2 * COARSE_SHARE <= 768 * 4 ** this.skyBits;
-        return isShort ? all : [];
-    }
-
-    /** Keeps tiles of the generation before that their ancestors show as unchanged. */
-    keep(order, cells) {
-        if (!this.earlier) return;
-        const { tiles } = this.layer(order);
-        for (const cell of cells) {
-            if (tiles.has(cell) || !this.isUnchanged(order, cell)) continue;
-            tiles.set(cell, this.earlier.layer(order).tiles.get(cell));
-            this.unsure.add(tilePath(order, cell));
-        }
-    }
-
-    /** Whether a tile of the generation before is here, and the pixels of its ancestor are the same. */
-    isUnchanged(order, cell) {
-        const { earlier } = this;
-        const above = this.above(order);
-        if (order === above || !this.coverage.touches(order, cell) || !earlier.layer(order).tiles.has(cell)) return false;
-        const leading = Math.floor(cell / 4 ** (order - above));
-        const [now, before] = [this, earlier].map((generation) => generation.layer(above).tiles.get(leading));
-        return now !== undefined && before !== undefined && now.equalsWithin(before, cell - leading * 4 ** (order - above), order - above);
+        return above < SKY_ORDER && all.length * COARSE_SHARE <= this.tilesOfMosaic ? all : [];
     }
 
     /** Fetches what is lacking. */
@@ -248,9 +148,12 @@ export class Generation {
         this.fetching.add(path);
         try {
             const bytes = await get(path);
-            if (order === null) this.sky = this.cut(path, bytes);
+            if (order === null) this.sky = skyOf(bytes && read(path, bytes, readImage), this.skyBits);
             else if (!bytes) this.isMissing(path, order, cell);
-            else this.layer(order).tiles.set(cell, read(path, bytes, readImage));
+            else {
+                this.layer(order).tiles.set(cell, read(path, bytes, readImage));
+                this.patch?.compare(order, cell);
+            }
         } finally {
             this.fetching.delete(path);
         }
@@ -260,27 +163,22 @@ export class Generation {
         throw new SurveyFault(`The coverage has leaves at ${path}, and the server has no such file.`);
     }
 
-    cut(path, bytes) {
-        const mosaic = bytes && read(path, bytes, readImage);
-        const layer = new Layer(SKY_ORDER, 2 ** this.skyBits, mosaic ? cutMosaic(mosaic) : new Map());
-        layer.mosaic = mosaic;
-        return layer;
-    }
-
-    /** Whether a tile was kept, and not looked at since. */
+    /** Whether a tile was taken over, and not looked at since. */
     keeps(order, cell) {
         return order !== null && this.unsure.has(tilePath(order, cell));
     }
 
-    /** Looks at a tile that was kept: the cells in it that are others after all. */
+    /** Looks at a tile that was taken over: the cells in it that are others after all. */
     async check(get, order, cell) {
         const path = tilePath(order, cell);
         const bytes = await get(path);
-        this.unsure.delete(path);
         const layer = this.layer(order);
-        const before = new Layer(order, this.width, new Map([[cell, layer.tiles.get(cell)]]));
+        const before = new Layer(order, this.bits, new Map([[cell, layer.tiles.get(cell)]]));
         if (bytes) layer.tiles.set(cell, read(path, bytes, readImage));
-        return changesOf(layer, before, [cell], this.order).cells;
+        const changes = changesOf(layer, before, [cell], this.order);
+        if (this.unsure.get(path) === false) this.patch.add(changes);
+        this.unsure.delete(path);
+        return changes.cells;
     }
 
     /** Forgets the tiles that aren't in view, once there are many. */
@@ -290,6 +188,7 @@ export class Generation {
             const kept = new Set(layer.order === order ? cells : layer.order === this.above(order) ? this.coarse(order, cells) : []);
             for (const cell of layer.tiles.keys()) if (!kept.has(cell)) layer.tiles.delete(cell);
         }
+        for (const path of this.references.keys()) if (this.references.size > MOST_REFERENCES && path !== MOSAIC) this.references.delete(path);
     }
 
     /** Where what is shown in view differs from another state of the survey: {order, cells, isWhole}; null where that isn't known. */
