@@ -200,7 +200,7 @@ fault() {
             text=$(card "${file:-/dev/null}" "$4")
             if [ "$3" = 5 ]; then echo "card $4 has the keyword of an earlier card${text:+: $text}"; else
                 echo "card $4 has no value of its kind${text:+: $text}"
-                case $text in BLANK*) echo "(it must be a whole number: import-hipsgen.py mends what HipsGen wrote)" ;; esac
+                case $text in BLANK*) echo "(it must be a whole number: hipsctl import mends what HipsGen wrote)" ;; esac
             fi
             ;;
         '2 simple') echo "its first card isn't SIMPLE = T" ;;
