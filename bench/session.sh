@@ -37,8 +37,7 @@ trap 'rm -rf "$work"' EXIT
 gcc -O3 -march=x86-64-v2 -o "$work/session" "$here/session.c" || exit 1
 hipsd=${HIPSD:-}
 if [ -z "$hipsd" ]; then
-    # Builds the proved program at crates/hipsd/out/hipsd.
-    (cd "$here/../crates/hipsd" && rt run -- probe 4 1 3 0 <stdin >/dev/null 2>&1) || { echo "session.sh: hipsd isn't built"; exit 1; }
+    "$here/../scripts/build.sh" 2>/dev/null || { echo "session.sh: hipsd isn't built"; exit 1; }
     hipsd="$here/../crates/hipsd/out/hipsd"
 else
     hipsd=$(realpath -e "$hipsd") || exit 1

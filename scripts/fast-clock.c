@@ -1,4 +1,4 @@
-/* A clock that goes on by PACE milliseconds at each reading. check-log.py has the program use it by LD_PRELOAD, so that what is said
+/* A clock that goes on by PACE milliseconds at each reading. check_log.py has the program use it by LD_PRELOAD, so that what is said
  * at most once a second is said after so many parts of a work. */
 #include <stdatomic.h>
 #include <stdlib.h>

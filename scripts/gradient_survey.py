@@ -101,3 +101,6 @@ SURVEYS = {
 # One whose description says where a page begins, and that there are coarser tiles.
 PAGE = Gradient(16, top=4, bits=6, low=-16000, rise=32000, blank=-32768, place=(80, 20), radius=30,
                 more="hips_order_min = 0\nhips_initial_ra = 82.5\nhips_initial_dec = 19.5\nhips_initial_fov = 20\nhips_pixel_cut = -9000 9000\n")
+
+# One of leaves as HipsGen makes them.
+WIDE = Gradient(16, top=3, bits=9, low=-16000, rise=32000, blank=-32768, place=(80, 20), radius=8, more="hips_order_min = 0\n")

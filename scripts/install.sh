@@ -3,10 +3,11 @@
 #
 #     scripts/install.sh [--remove] [PREFIX]
 #
-# PREFIX is /usr/local if none is named. It gets bin/hipsd, share/man/man1/hipsd.1, the units of examples/ in lib/systemd/system,
-# lib/sysusers.d/hipsd.conf and share/doc/hipsd with the examples and the documents, which stand there as they do here; systemd finds
-# those of /usr/local and /usr. The program is crates/hipsd/out/hipsd, or the one in the environment variable PROGRAM. With DESTDIR all
-# goes below that folder, as a package wants it. Nothing is started, no user is made, and /etc and the survey's folder stay as they are.
+# PREFIX is /usr/local if none is named. It gets bin/hipsd, bin/hipsctl (a link into the examples), share/man/man1/hipsd.1, the units of
+# examples/ in lib/systemd/system, lib/sysusers.d/hipsd.conf and share/doc/hipsd with the examples and the documents, which stand there
+# as they do here; systemd finds those of /usr/local and /usr. The program is crates/hipsd/out/hipsd, or the one in the environment
+# variable PROGRAM. With DESTDIR all goes below that folder, as a package wants it. Nothing is started, no user is made, and /etc and
+# the survey's folder stay as they are.
 # With --remove nothing is removed while a unit of hipsd runs or starts with the machine.
 set -eu
 cd "$(dirname "$0")/.."
@@ -59,7 +60,7 @@ filled() {
 
 # examples: the files below examples/.
 examples() {
-    (cd examples && find . -type f ! -name '.*' | sed 's#^\./##' | sort)
+    (cd examples && find . -type f ! -name '.*' ! -path '*/__pycache__/*' ! -path './hipsctl/tests/*' | sed 's#^\./##' | sort)
 }
 
 install_all() {
@@ -85,6 +86,8 @@ install_all() {
         [ ! -x "examples/$name" ] || mode=755
         put "$mode" "examples/$name" "share/doc/hipsd/examples/$name"
     done
+    ln -s ../share/doc/hipsd/examples/hipsctl/__main__.py "$into/bin/hipsctl"
+    echo bin/hipsctl >>"$list"
     [ -z "${DESTDIR:-}" ] || return 0
     running=$(running)
     if [ -n "$running" ]; then

@@ -1,7 +1,7 @@
 #!/usr/bin/python3
-"""Prints the rows of the table MADE of crates/run_tests/src/make.rt, and one of scripts/check-statuses.sh, with NUMBER, EDITS and
-the line that `hipsd make` writes. The surveys are made here from docs/DEFINITIONS.md and docs/FORMATS.md, cell by cell, with nothing of the
-program, by survey_files.py.
+"""Prints the rows of the table MADE of crates/run_tests/src/make.rt, and one of scripts/checks/check_statuses.py, with NUMBER, EDITS
+and the line that `hipsd make` writes. The surveys are made here from docs/DEFINITIONS.md and docs/FORMATS.md, cell by cell, with nothing of
+the program, by survey_files.py.
 
 With --check it compares the rows with those that stand there, and ends with status 1 where one differs or is missing.
 With two numbers, NUMBER and EDITS, it prints that line alone.
@@ -16,7 +16,7 @@ TOP_FOLDER = Path(__file__).parent.parent
 # In the second of the first table the eighth edit takes a leaf away, in the third three leaves have one parent.
 TABLES = (
     ("crates/run_tests/src/make.rt", "make {} {}||0|{}^|none", ((0, 1), (1479, 8), (26741, 8))),
-    ("scripts/check-statuses.sh", "{} {}|{}", ((7, 4096),)),
+    ("scripts/checks/check_statuses.py", "{} {}|{}", ((7, 4096),)),
 )
 MADE = Survey("make", "Made survey", top=5, low=3, width=32)
 

@@ -1,12 +1,15 @@
-"""The files of a survey with 16-bit tiles, made of its leaves from docs/DEFINITIONS.md and docs/FORMATS.md, cell by cell, with
-nothing of the program. made-summary.py and serve-client.py compare the program with it.
+"""The files of a survey of whole numbers with signs, made of its leaves from docs/DEFINITIONS.md and docs/FORMATS.md, cell by cell, with
+nothing of the program. made-summary.py and the checks compare the program with it.
 """
 
 import struct
 from collections import namedtuple
 from functools import cache
+from pathlib import Path
 
 BLANK = -32768
+# The letter of struct for a stored number, by its bits.
+LETTERS = {16: "h", 32: "i", 64: "q"}
 CELLS_AT_3 = 768
 PROPERTIES = """creator_did = ivo://example/P/{name}
 obs_title = {title}
@@ -19,7 +22,7 @@ hips_order = {top}
 hips_order_min = {low}
 hips_tile_width = {width}
 hips_tile_format = fits
-survey_bitpix = 16
+survey_bitpix = {bitpix}
 survey_bscale = 1.0E0
 survey_bzero = 0.0E0
 survey_blank = -32768
@@ -32,7 +35,7 @@ hips_status = public master clonable
 hips_order = {top}
 hips_order_min = {low}
 hips_tile_width = {width}
-survey_bitpix = 16
+survey_bitpix = {bitpix}
 survey_blank = -32768
 """
 
@@ -62,21 +65,42 @@ def block(data):
     return data + bytes(-len(data) % 2880)
 
 
-def image(width, height, numbers, *more):
-    cards = [("SIMPLE", "T"), ("BITPIX", 16), ("NAXIS", 2), ("NAXIS1", width), ("NAXIS2", height)]
+def image(width, height, numbers, *more, bitpix=16):
+    cards = [("SIMPLE", "T"), ("BITPIX", bitpix), ("NAXIS", 2), ("NAXIS1", width), ("NAXIS2", height)]
     cards += [("BSCALE", "1.0E0"), ("BZERO", "0.0E0"), ("BLANK", BLANK), *more]
-    return header(*cards) + block(struct.pack(f">{len(numbers)}h", *numbers))
+    return header(*cards) + block(struct.pack(f">{len(numbers)}{LETTERS[bitpix]}", *numbers))
 
 
 def tile_path(order, npix):
     return f"Norder{order}/Dir{npix // 10000 * 10000}/Npix{npix}.fits"
 
 
-class Survey(namedtuple("Survey", "name title top low width")):
-    """A survey by its description: the orders of its leaves and of its coarsest tiles, and the width of its tiles."""
+def write_files(folder, files):
+    """Makes the folder with these files, by their paths."""
+    Path(folder).mkdir(parents=True, exist_ok=True)
+    for path, data in files.items():
+        Path(folder, path).parent.mkdir(parents=True, exist_ok=True)
+        Path(folder, path).write_bytes(data)
+    return folder
+
+
+class Survey(namedtuple("Survey", "name title top low width bitpix", defaults=[16])):
+    """A survey by its description: the orders of its leaves and of its coarsest tiles, the width of its tiles, the bits of a number."""
 
     def description(self):
         return DESCRIPTION.format(**self._asdict()).encode()
+
+    def leaf(self, npix, numbers):
+        """The file of a leaf, as the survey has it."""
+        return self.tile_file(numbers, self.top, npix)
+
+    def tile_file(self, numbers, order, npix):
+        return image(self.width, self.width, numbers, ("ORDER", order), ("NPIX", npix), bitpix=self.bitpix)
+
+    def write(self, folder, leaves=()):
+        """Makes the folder, with the description and with these leaves, by their numbers."""
+        files = {tile_path(self.top, npix): self.leaf(npix, numbers) for npix, numbers in dict(leaves).items()}
+        return write_files(folder, {"survey.conf": self.description()} | files)
 
     def properties(self, leaves):
         return PROPERTIES.format(**self._asdict(), leaves=len(leaves)).encode()
@@ -121,13 +145,13 @@ class Survey(namedtuple("Survey", "name title top low width")):
                 i = line // side * 27 + column // side
                 cell = i * side * side + place(column % side, line % side)
                 numbers.append(level.get(cell, BLANK) if i < CELLS_AT_3 else BLANK)
-        return image(27 * side, 29 * side, numbers)
+        return image(27 * side, 29 * side, numbers, bitpix=self.bitpix)
 
     def tile_of(self, level, order, npix):
         """The tile of a cell, of the values of the cells that are its pixels."""
         first = npix * self.width * self.width
         numbers = [level.get(first + z, BLANK) for z in places(self.width)]
-        return image(self.width, self.width, numbers, ("ORDER", order), ("NPIX", npix))
+        return self.tile_file(numbers, order, npix)
 
     def tile(self, leaves, order, npix):
         """The tile of a cell, where a leaf lies at or under it."""

@@ -26,9 +26,9 @@ program() {
     (cd "crates/$1" && { [ ! -f stdin ] || exec <stdin; } && rt try --seconds 300 -- "${args[@]}" >"$work/$1.stdout") &&
         cmp "$work/$1.stdout" "crates/$1/stdout"
 }
-# check SCRIPT WORD ..: a script that needs no built program.
+# check NAME: one that needs no built program.
 check() {
-    "scripts/$1" "${@:2}"
+    scripts/run_checks.py "$1"
 }
 # one KIND NAME WORD ..: does one of these, and says in a line how it went; if it failed, what it said stands below.
 one() {
@@ -44,8 +44,7 @@ export -f tests program check one
 {
     for crate in hipsd board_tests; do echo "program $crate"; done
     grep -l '#\[test\]' crates/*/src/*.rt | cut -d / -f 2 | sort -u | sed 's/^/tests /'
-    printf 'check %s\n' 'made-survey.py --check' 'made-summary.py --check' 'size-values.py --check' check-docs.py 'quote-headline.py --check'
-    ! /usr/bin/python3 -c 'import healpy' 2>/dev/null || printf 'check %s\n' 'healpix-values.py --check' 'pyramid-values.py --check'
+    printf 'check %s\n' values refusals docs headline
 } | xargs -P "$jobs" -I{} bash -c 'one {}' || echo "FAILED xargs: a check was stopped" | tee -a "$work/verdicts"
 
 failed=$(grep -c '^FAILED' "$work/verdicts")

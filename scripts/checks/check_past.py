@@ -1,25 +1,15 @@
-#!/usr/bin/python3
 """Compares what `hipsd past` answers with what the edits make, which is computed here cell by cell, with nothing of the program, by
 survey_files.py and docs/FORMATS.md, "Past records".
-
-    scripts/past-values.py [PROGRAM]         crates/hipsd/out/hipsd if none is named
-
-Histories that look random, over a survey with leaves and over one without, where one, three and eight states are held: batches
-of which some are refused, and files of states in any order. Inputs that are cut at places that look random, and lines that are
-none. Then what takes long: 65,536 records and one more, 65,536 edits and one more, and the greatest charge. The status is 1
-where an output or a status differs, and the records before it are written.
 """
 
 import os
 import random
 import subprocess
-import sys
-import tempfile
-from pathlib import Path
 
+from checks.cases import Case
+from checks.servers import PROGRAM
 from survey_files import Survey, image, tile_path
 
-PROGRAM = Path(__file__).parent.parent / "crates/hipsd/out/hipsd"
 SMALL = Survey("past", "Survey past", top=5, low=2, width=4)
 TINY = Survey("tiny", "Survey tiny", top=4, low=3, width=2)
 FULL = Survey("full", "Survey full", top=3, low=3, width=512)
@@ -156,130 +146,7 @@ def some_records(chance, survey, opening, count):
             yield b"read %d %s\n" % (edits, path.encode()), history.read_answer(edits, path)
 
 
-# ---- the program
-
-
-class Folder:
-    """A survey in a folder, over which `hipsd past` is run."""
-
-    def __init__(self, program, survey, opening):
-        self.program, self.survey = program, survey
-        self.home = tempfile.TemporaryDirectory()
-        home = Path(self.home.name)
-        (home / "survey.conf").write_bytes(survey.description())
-        for leaf, numbers in opening.items():
-            path = home / tile_path(survey.top, leaf)
-            path.parent.mkdir(parents=True, exist_ok=True)
-            path.write_bytes(file_of(survey, numbers))
-
-    def begin(self, held, **ends):
-        environment = {**os.environ, "HIPSD_LOG": "off"}
-        return subprocess.Popen([self.program, "past", str(held)], cwd=self.home.name, env=environment, **ends)
-
-    def ends(self, held, records, output, status):
-        """Whether these bytes have that output, and the run that status."""
-        past = self.begin(held, stdin=subprocess.PIPE, stdout=subprocess.PIPE)
-        got, _ = past.communicate(records)
-        return got == output and past.returncode == status
-
-    def ends_at_once(self, held, records, status):
-        """Whether these bytes end the run with that status, though the input goes on."""
-        past = self.begin(held, stdin=subprocess.PIPE, stdout=subprocess.DEVNULL)
-        past.stdin.write(records)
-        past.stdin.flush()
-        try:
-            return past.wait(timeout=20) == status
-        except subprocess.TimeoutExpired:
-            past.kill()
-            return False
-
-    def answers(self, held, records, status=0):
-        """Whether records, one after another, have their answers; each is compared once it is there."""
-        past = self.begin(held, stdin=subprocess.PIPE, stdout=subprocess.PIPE)
-        for number, (record, answer) in enumerate(records):
-            past.stdin.write(record)
-            past.stdin.flush()
-            got = past.stdout.read(len(answer))
-            if got != answer:
-                past.kill()
-                print(f"past-values: record {number}, {record[:60]}: {got[:60]} in place of {answer[:60]}")
-                return False
-        past.stdin.close()
-        rest = past.stdout.read()
-        return past.wait() == status and rest == b""
-
-
-wrong = []
-
-
-def check(what, is_right):
-    if not is_right:
-        print(f"past-values: {what}")
-        wrong.append(what)
-
-
-def check_histories(program):
-    for seed in range(6):
-        chance = random.Random(seed)
-        opening = {leaf: [leaf % 7] * SMALL.width**2 for leaf in range(seed % 2 * 40)}
-        held = (1, 3, 8)[seed // 2]
-        folder = Folder(program, SMALL, opening)
-        records = list(some_records(chance, SMALL, opening, 150))
-        check(f"history {seed}, {held} held", folder.answers(held, records))
-        inputs = [record for record, _ in records]
-        ends = [sum(len(record) for record in inputs[:count]) for count in range(len(inputs) + 1)]
-        whole = b"".join(inputs)
-        for at in sorted(chance.sample(range(len(whole)), 10)):
-            count = max(i for i, end in enumerate(ends) if end <= at)
-            output = b"".join(answer for _, answer in records[:count])
-            check(f"history {seed} cut at {at}", folder.ends(held, whole[:at], output, 0 if at in ends else 4))
-
-
-LINES = (
-    (b"look\n", 17),
-    (b"look", 4),
-    (b"\n", 17),
-    (b"read 1\n", 17),
-    (b"read  properties\n", 17),
-    (b"read 00 properties\n", 17),
-    (b"read +0 properties\n", 17),
-    (b"read 4294967296 properties\n", 17),
-    (b"read 18446744073709551616 properties\n", 17),
-    (b" read 0 properties\n", 17),
-    (b"Read 0 properties\n", 17),
-    (b"batch\n", 17),
-    (b"batch 5 \nremov", 17),
-    (b"batch 05\nremov", 17),
-    (b"batch %d\nremov" % (room(TINY) + 1), 17),
-    (b"batch %d\nremov" % room(TINY), 4),
-    (b"read 0 " + b"x" * 121 + b"\n", 17),
-    (b"read 0 " + b"x" * 121, 17),
-    (b"read 0 " + b"x" * 120, 4),
-    (b"sing a song" * 11, 4),
-    (b"sing a song" * 12, 17),
-)
-
-
-def check_lines(program):
-    folder = Folder(program, TINY, {})
-    first, absent = b"read 0 \nread 0 " + b"x" * 120 + b"\nread 4294967295 \n", b"absent\nabsent\nfuture 0\n"
-    for line, status in LINES:
-        check(f"{line[:40]}", folder.ends(1, first + line, absent, status) and folder.ends(8, line, b"", status))
-    check("a wrong line is answered at once", folder.ends_at_once(1, b"read 0 \nread 1\n", 17))
-    check("batch 0", folder.ends(1, b"batch 0\n", b"refused 0 line\n", 0))
-    many = batch(b"remove 0\n" * 1025)
-    check("1,025 entries", folder.ends(1, many, b"refused 1024 many\n", 0))
-
-
-def check_limits(program):
-    folder = Folder(program, TINY, {})
-    record, answer = b"read 0 x\n", b"absent\n"
-    whole = record * MOST_RECORDS, answer * MOST_RECORDS
-    check("65,536 records", folder.ends(1, *whole, 0))
-    check("65,537 records", folder.ends(1, whole[0] + record, whole[1], 12))
-    check("65,536 records and a byte", folder.ends(1, whole[0] + b"r", whole[1], 12))
-    check("edits at their limit", folder.answers(1, edits_at_their_limit()))
-    check("bytes at their limit", Folder(program, FULL, {}).answers(1, bytes_at_their_limit()))
+# ---- limits
 
 
 def edits_at_their_limit():
@@ -315,16 +182,114 @@ def bytes_at_their_limit():
         yield batch(*entries), history.batch_answer(edits)
 
 
-def main():
-    program = os.path.realpath(sys.argv[1] if len(sys.argv) > 1 else PROGRAM)
-    if not os.access(program, os.X_OK):
-        sys.exit("past-values: there is no built hipsd")
-    check_lines(program)
-    check_histories(program)
-    check_limits(program)
-    if wrong:
-        sys.exit(1)
-    print("past-values: the answers of `hipsd past` are what the edits make")
+# ---- the program
+
+LINES = (
+    (b"look\n", 17),
+    (b"look", 4),
+    (b"\n", 17),
+    (b"read 1\n", 17),
+    (b"read  properties\n", 17),
+    (b"read 00 properties\n", 17),
+    (b"read +0 properties\n", 17),
+    (b"read 4294967296 properties\n", 17),
+    (b"read 18446744073709551616 properties\n", 17),
+    (b" read 0 properties\n", 17),
+    (b"Read 0 properties\n", 17),
+    (b"batch\n", 17),
+    (b"batch 5 \nremov", 17),
+    (b"batch 05\nremov", 17),
+    (b"batch %d\nremov" % (room(TINY) + 1), 17),
+    (b"batch %d\nremov" % room(TINY), 4),
+    (b"read 0 " + b"x" * 121 + b"\n", 17),
+    (b"read 0 " + b"x" * 121, 17),
+    (b"read 0 " + b"x" * 120, 4),
+    (b"sing a song" * 11, 4),
+    (b"sing a song" * 12, 17),
+)
 
 
-main()
+class Past(Case):
+    """Runs of `hipsd past` over a survey in a folder."""
+
+    def start(self, held, **ends):
+        environment = {**os.environ, "HIPSD_LOG": "off"}
+        past = subprocess.Popen([PROGRAM, "past", str(held)], cwd=self.survey, env=environment, stdin=subprocess.PIPE, **ends)
+        self.addCleanup(past.communicate)
+        self.addCleanup(past.kill)
+        return past
+
+    def over(self, survey, opening=()):
+        """The survey with these leaves is that of the runs that follow."""
+        self.survey = survey.write(self.folder / f"survey{len(list(self.folder.iterdir()))}", opening)
+
+    def ends(self, held, records, output, status):
+        """These bytes have that output, and the run that status."""
+        past = self.start(held, stdout=subprocess.PIPE)
+        got, _ = past.communicate(records)
+        self.assertEqual(past.returncode, status, records[:60])
+        self.assertTrue(got == output, f"{records[:60]}: {len(got)} bytes in place of {len(output)}, or others")
+
+    def answers(self, held, records):
+        """Records, one after another, have their answers; each is compared once it is there."""
+        past = self.start(held, stdout=subprocess.PIPE)
+        for number, (record, answer) in enumerate(records):
+            past.stdin.write(record)
+            past.stdin.flush()
+            got = past.stdout.read(len(answer))
+            self.assertTrue(got == answer, f"record {number}, {record[:60]}: {got[:60]} in place of {answer[:60]}")
+        past.stdin.close()
+        self.assertEqual((past.stdout.read(), past.wait()), (b"", 0))
+        past.stdin = None
+
+    def test_lines(self):
+        self.over(TINY)
+        first, absent = b"read 0 \nread 0 " + b"x" * 120 + b"\nread 4294967295 \n", b"absent\nabsent\nfuture 0\n"
+        for line, status in LINES:
+            with self.subTest(line=line[:40]):
+                self.ends(1, first + line, absent, status)
+                self.ends(8, line, b"", status)
+        self.ends(1, b"batch 0\n", b"refused 0 line\n", 0)
+        self.ends(1, batch(b"remove 0\n" * 1025), b"refused 1024 many\n", 0)
+
+    def test_a_wrong_line_is_answered_at_once(self):
+        """Though the input goes on."""
+        self.over(TINY)
+        past = self.start(1, stdout=subprocess.DEVNULL)
+        past.stdin.write(b"read 0 \nread 1\n")
+        past.stdin.flush()
+        self.assertEqual(past.wait(20), 17)
+
+    def test_histories(self):
+        """Histories that look random, over a survey with leaves and over one without, where one, three and eight states are held: batches of which
+        some are refused, and files of states in any order. Then the same inputs, cut at places that look random."""
+        for seed in range(6):
+            chance = random.Random(seed)
+            opening = {leaf: [leaf % 7] * SMALL.width**2 for leaf in range(seed % 2 * 40)}
+            held = (1, 3, 8)[seed // 2]
+            self.over(SMALL, opening)
+            records = list(some_records(chance, SMALL, opening, 150))
+            with self.subTest(seed=seed, held=held):
+                self.answers(held, records)
+            inputs = [record for record, _ in records]
+            ends = [sum(len(record) for record in inputs[:count]) for count in range(len(inputs) + 1)]
+            whole = b"".join(inputs)
+            for at in sorted(chance.sample(range(len(whole)), 10)):
+                count = max(i for i, end in enumerate(ends) if end <= at)
+                with self.subTest(seed=seed, at=at):
+                    self.ends(held, whole[:at], b"".join(answer for _, answer in records[:count]), 0 if at in ends else 4)
+
+    def test_records_up_to_their_number(self):
+        self.over(TINY)
+        records, answers = b"read 0 x\n" * MOST_RECORDS, b"absent\n" * MOST_RECORDS
+        self.ends(1, records, answers, 0)
+        self.ends(1, records + b"read 0 x\n", answers, 12)
+        self.ends(1, records + b"r", answers, 12)
+
+    def test_edits_up_to_their_limit(self):
+        self.over(TINY)
+        self.answers(1, edits_at_their_limit())
+
+    def test_bytes_up_to_their_limit(self):
+        self.over(FULL)
+        self.answers(1, bytes_at_their_limit())

@@ -1,30 +1,25 @@
-#!/usr/bin/python3
-"""Tries edit.sh and look-back.sh on a bad day: check_edits.py [PROGRAM].
-
-A server that has started again, one that has edits of others, one over a copy, one that isn't there yet or is busy; refusals in words;
-earlier states by their times, and as a folder. PROGRAM is crates/hipsd/out/hipsd if none is named. What it starts it ends, and nothing
-is written outside a folder of its own.
+"""Tries edit.sh and look-back.sh: what they refuse, the journal, and a bad day. A server that has started again, one that has edits of
+others, one over a copy, one that isn't there yet or is busy; refusals in words; earlier states by their times, and as a folder.
 """
 
 import os
 import re
 import shutil
-import subprocess
-import sys
 import tempfile
 import threading
 import time
-import unittest
+from functools import partial
 from http.server import BaseHTTPRequestHandler, HTTPServer
 from pathlib import Path
-from urllib.error import HTTPError
-from urllib.request import Request, urlopen
 
-import check_attacks
-from check_attacks import EXAMPLES, Server, free_port
-from survey_files import image
+from checks.cases import Case, together
+from checks.servers import EXAMPLES, Server, ask, free_port
+from survey_files import Survey
 
-TILES = [image(8, 8, range(i, i + 64), ("ORDER", 5), ("NPIX", 7)) for i in range(4)]
+SURVEY = Survey("edited", "Survey edited", top=5, low=3, width=8)
+TILES = [SURVEY.leaf(7, range(i, i + 64)) for i in range(4)]
+# A batch that puts leaf 9, and removes leaf 8.
+BATCH = b"put 9 %d\n" % len(TILES[0]) + TILES[0] + b"remove 8\n"
 
 
 def path_of(leaf):
@@ -60,61 +55,233 @@ class Replies(BaseHTTPRequestHandler):
         pass
 
 
-class Day(unittest.TestCase):
+class Day(Case):
     """A server and a journal for each test."""
 
     def setUp(self):
-        self.folder = Path(tempfile.mkdtemp())
-        self.addCleanup(shutil.rmtree, self.folder)
+        super().setUp()
         self.journal = self.folder / "journal"
         for number, tile in enumerate(TILES):
             (self.folder / f"tile{number}").write_bytes(tile)
 
-    def serve(self, port=None, survey=None):
-        self.server = Server(self.folder, survey, port)
-        self.addCleanup(self.server.end)
-        self.base = f"http://{self.server.address}"
+    def serve(self, address=None, survey=None):
+        self.server = super().serve(survey or SURVEY.write(self.folder / "survey"), address=address)
+        self.base = self.server.base
 
     def again(self):
         """The server ends, and begins anew over its folder."""
         self.server.end()
         self.serve()
 
-    def run_script(self, name, *words, body=b"", **environment):
-        told = {"HIPSD": self.base, "HIPSD_PROGRAM": str(check_attacks.PROGRAM), "HIPSD_TRIES": "1", "HIPSD_LOG": "warn", **environment}
-        return subprocess.run(
-            [EXAMPLES / name, *map(str, words)], cwd=self.folder if name == "edit.sh" else self.server.folder, env={**os.environ, **told},
-            input=body, capture_output=True, timeout=60,
-        )
+    def script(self, status, text, name, *words, **more):
+        known = {"HIPSD": self.base, "HIPSD_TRIES": "1", "HIPSD_LOG": "warn"}
+        return self.runs(status, text, EXAMPLES / name, *words, **{**known, **more})
 
-    def edit(self, *words, status=0, text="", **environment):
-        """edit.sh with the journal: its status, and a text that it says."""
-        answer = self.run_script("edit.sh", *words, **{"HIPSD_JOURNAL": str(self.journal), **environment})
-        self.assertEqual(answer.returncode, status, answer)
-        self.assertIn(text.encode(), answer.stdout + answer.stderr)
-        return answer
+    def edit(self, *words, status=0, text="", **more):
+        """What edit.sh with the journal says, where it ends with this status."""
+        return self.script(status, text, "edit.sh", *words, **{"HIPSD_JOURNAL": str(self.journal), **more})[1]
 
     def put(self, leaf, tile=0, **more):
         return self.edit("put", leaf, self.folder / f"tile{tile}", **more)
 
-    def look(self, *words, status=0, text=""):
-        """look-back.sh: its status, a text that it says, and what it writes."""
-        answer = self.run_script("look-back.sh", self.journal, *words)
-        self.assertEqual(answer.returncode, status, answer)
-        self.assertIn(text.encode(), answer.stdout + answer.stderr)
-        return answer.stdout
+    def look(self, *words, status=0, text="", journal=None):
+        """What look-back.sh writes."""
+        return self.script(status, text, "look-back.sh", journal or self.journal, *words, cwd=self.server.folder)[0]
 
-    def served(self, path, base=None):
+    def served(self, path, address=None):
         """A file of the newest generation; None where there is none."""
-        try:
-            with urlopen(f"{base or self.base}/{path}", timeout=20) as reply:
-                return reply.read()
-        except HTTPError as fault:
-            self.assertEqual(fault.code, 404)
-            return None
+        status, _, body = ask(address or self.server.address, "GET", path)
+        self.assertIn(status, (200, 404), path)
+        return body if status == 200 else None
+
+    def other(self, leaf, tile):
+        """An edit of somebody without a journal."""
+        self.assertIn(ask(self.server.address, "PUT", path_of(leaf), TILES[tile])[0], (201, 204))
+
+    def behind(self, handler, **more):
+        """The address of a server of this handler, which ends with the test."""
+        server = HTTPServer(("127.0.0.1", 0), handler)
+        vars(server).update(more)
+        threading.Thread(target=server.serve_forever, args=(0.02,), daemon=True).start()
+        self.addCleanup(server.server_close)
+        self.addCleanup(server.shutdown)
+        return server
 
     def entries(self):
         return sorted(path.name for path in self.journal.glob("*.edit"))
+
+    def answers(self):
+        return [path.read_text().rstrip("\n") for path in sorted(self.journal.glob("*.answer"))]
+
+
+class Words(Day):
+    """Each command, without a journal."""
+
+    def edit(self, *words, **more):
+        return super().edit(*words, **{"HIPSD_JOURNAL": "", **more})
+
+    def test_refused_words(self):
+        """What is wrong is said before anything is sent."""
+        self.serve()
+        tile, nothing = self.folder / "tile0", self.folder / "nothing"
+        for text, *words in (
+            ("put LEAF FILE",), ("'sing' is no command", "sing"), ("put wants LEAF FILE, and has no LEAF FILE", "put"),
+            ("put wants LEAF FILE, and has no FILE", "put", 7), ("remove wants LEAF, and has no LEAF", "remove"), ("publish takes 0 words", "publish", "now"),
+            ("at least one PATH", "read"), (f"there is no file {nothing}", "put", 7, nothing), ("is no FITS file", "put", 7, self.folder / "survey/survey.conf"),
+            ("'7.5' is no number of a leaf", "put", 7.5, tile), ("'07' is no number of a leaf", "remove", "07"),
+            ("12288 is no leaf: leaves are of order 5, 0 to 12287", "put", 12288, tile), ("'../properties' is no path", "read", "../properties"),
+            ("there are none", "batch"),
+        ):
+            with self.subTest(words=words):
+                self.edit(*words, status=2, text=text)
+        status, fields, _ = ask(self.server.address, "DELETE", path_of(7))
+        self.assertEqual((status, fields["Survey-Edits"]), (404, "0"))
+
+    def test_commands(self):
+        self.serve()
+        self.put(8, text="Survey-Edits: 1")
+        self.edit("add", 8, self.folder / "tile0", status=1, text="412")
+        self.edit("replace", 8, self.folder / "tile0", text="Survey-Edits: 2")
+        self.edit("publish", text="published 2")
+        self.edit("get", "properties", text="survey_leaves = 1")
+        self.assertRegex(self.edit("batch", given=BATCH), "(?m)^accepted 2$")
+        self.edit("publish", text="published 4")
+
+    def test_files_of_one_generation(self):
+        """At their paths, all or none."""
+        self.serve()
+        self.put(9)
+        self.edit("publish")
+        where = self.folder / "read"
+        where.mkdir()
+        paths = ["properties", "Norder3/Dir0/Npix0.fits", "Norder4/Dir0/Npix2.fits", "Moc.fits", "Norder4/Dir0/Npix2.fits"]
+        self.edit("read", *paths, cwd=where)
+        for path in paths:
+            self.assertEqual((where / path).read_bytes(), self.served(path), path)
+        where = self.folder / "none"
+        where.mkdir()
+        self.edit("read", "properties", "Norder3/Dir0/Npix5.fits", "Moc.fits", cwd=where, status=1, text="Norder3/Dir0/Npix5.fits is answered 404")
+        self.assertEqual(list(where.iterdir()), [])
+
+
+class Silent(BaseHTTPRequestHandler):
+    """Hands on GET and POST, takes a PUT to the server's own port, and ends the connection without a word."""
+
+    def pass_on(self):
+        status, fields, body = ask(self.server.behind, self.command, self.path[1:], self.rfile.read(int(self.headers["Content-Length"] or 0)))
+        if self.command == "PUT":
+            self.close_connection = True
+            return
+        self.send_response(status)
+        self.send_header("Content-Length", str(len(body)))
+        if "Survey-Edits" in fields:
+            self.send_header("Survey-Edits", fields["Survey-Edits"])
+        self.end_headers()
+        self.wfile.write(body)
+
+    do_GET = do_POST = do_PUT = pass_on
+
+    def log_message(self, *words):
+        pass
+
+
+class Journal(Day):
+    """Edits outlive the server's end, also one that was accepted and not answered, and one that was never sent isn't made up."""
+
+    SHOWN = "properties", path_of(7), "Norder3/Dir0/Npix0.fits"
+
+    def filled(self):
+        """A journal of six entries and a refused one, which end with a publication; the files that are served then."""
+        self.serve()
+        self.put(8, text="201")
+        self.edit("add", 7, self.folder / "tile0", text="201")
+        self.edit("add", 7, self.folder / "tile1", status=1, text="412")
+        self.edit("batch", given=BATCH)
+        self.edit("publish", text="published 4")
+        self.put(7, tile=1, text="204")
+        self.edit("publish", text="published 5")
+        return [self.served(path) for path in self.SHOWN]
+
+    def test_what_is_written(self):
+        self.filled()
+        self.assertEqual((self.journal / "00000002.body").read_bytes(), TILES[0])
+        self.assertEqual((self.journal / "00000004.body").read_bytes(), BATCH)
+        self.assertRegex((self.journal / "00000002.edit").read_text(), rf"^add {path_of(7)} \S*Z\n$")
+        self.assertEqual((self.journal / "00000002.answer").read_text(), "201 2\n")
+        # What can't be written there isn't sent.
+        edit = [EXAMPLES / "edit.sh", "put", "11", self.folder / "tile0"]
+        self.runs(153, "", "bash", "-c", 'ulimit -f 2; exec "$@"', "bash", *edit, HIPSD=self.base, HIPSD_JOURNAL=str(self.journal), HIPSD_TRIES="1")
+        status, fields, _ = ask(self.server.address, "DELETE", path_of(11))
+        self.assertEqual((status, fields["Survey-Edits"]), (404, "5"))
+
+    def test_it_is_on_the_disk_before_it_is_sent(self):
+        """What is called of these two, in order."""
+        calls, called = self.folder / "calls", self.folder / "called"
+        calls.mkdir()
+        for tool in ("sync", "curl"):
+            (calls / tool).write_text(f'#!/bin/sh\necho "{tool} $*" >>"{called}"\nexec "{shutil.which(tool)}" "$@"\n')
+            (calls / tool).chmod(0o755)
+        self.base, self.journal = "http://127.0.0.1:1", self.folder / "traced"
+        self.edit("publish", status=1, PATH=f"{calls}:{os.environ['PATH']}")
+        self.assertEqual(self.answers(), ["unsent"])
+        words = [re.sub("^curl .*", "curl", line.replace(f"{self.folder}/", "")).replace(str(self.folder), ".") for line in called.read_text().splitlines()]
+        self.assertEqual(words, ["sync .", "sync traced/00000001.edit.new", "sync traced", "curl", "sync traced/00000001.answer.new", "sync traced"])
+
+    def test_earlier_states(self):
+        """Files of earlier states, by the journal."""
+        before = self.filled()
+        listed = re.sub(r"(?m) \S*Z ", " ", self.look().decode()).splitlines()
+        self.assertEqual(listed, [f"1 put {path_of(8)}", f"2 add {path_of(7)}", "4 batch", "4 published", f"5 put {path_of(7)}", "5 published"])
+        self.look(1, path_of(7), status=1, text=f"after 1 edits there was no {path_of(7)}")
+        for edits, tile in ((2, 0), (4, 0), (5, 1)):
+            self.assertEqual(self.look(edits, path_of(7)), TILES[tile], f"after {edits} edits")
+        self.assertIn(b"survey_leaves = 0\n", self.look(0, "properties"))
+        self.assertIn(b"survey_leaves = 1\n", self.look(1, "properties"))
+        self.assertEqual([self.look(5, path) for path in self.SHOWN], before)
+        self.look(3, "properties", status=1, text="there was no state of 3 edits")
+        self.look(6, "properties", status=1, text="fewer than 6 edits")
+        self.look("05", "properties", status=2, text="is no number of edits")
+        self.look(5, "../properties", status=2, text="is no path")
+        self.look(5, status=2, text="JOURNAL EDITS PATH")
+        self.look(journal=self.folder / "nothing", status=2, text="there is no folder")
+        # An edit whose answer is missing was accepted where the numbers say so, and not where they don't. One that is missing itself is told.
+        for number in (2, 3, 7):
+            (self.journal / f"{number:08}.answer").unlink()
+        self.assertEqual(self.look(4, path_of(7)), TILES[0], "with an answer missing")
+        (self.journal / "00000006.answer").unlink()
+        self.look(text="nobody knows whether the server took them: 00000006")
+        (self.journal / "00000001.edit").unlink()
+        self.look(4, path_of(7), status=1, text="00000004: the server had 4 edits")
+
+    def test_a_replay(self):
+        """The server that has these edits takes none; a fresh one has them again."""
+        before = self.filled()
+        self.edit("replay", self.journal, self.base, status=1, text="is no fresh one: it has accepted 5 edits")
+        self.again()
+        self.edit("replay", self.journal, self.base, text="7 entries: 6 sent again")
+        self.assertEqual([self.served(path) for path in self.SHOWN], before)
+        # An edit that is accepted, whose reply never comes: a server that takes it and says nothing.
+        silent = self.behind(Silent, behind=self.server.address)
+        self.base = f"http://127.0.0.1:{silent.server_port}"
+        self.put(100, status=1, text=f"it stands in {self.journal}/00000008.edit")
+        silent.shutdown()
+        silent.server_close()
+        self.put(101, status=1)
+        self.again()
+        said = self.edit("replay", self.journal, self.base, status=1, text=f"put {path_of(100)}: was never answered, is 201 6")
+        self.assertRegex(said, "(?m)^[89] entries: 7 sent again, .* 1 answered otherwise")
+
+    def test_several_editors(self):
+        """The journal has their edits in the server's order. Where the folder has changed the answers of a replay differ, and that is said."""
+        self.serve()
+        together(*(partial(self.put, leaf) for leaf in range(20, 26)))
+        self.assertEqual(self.answers(), [f"201 {number}" for number in range(1, 7)])
+        self.journal = self.folder / "small"
+        self.put(9)
+        self.edit("add", 7, self.folder / "tile0", text="Survey-Edits: 8")
+        self.server.end()
+        self.serve(survey=SURVEY.write(self.folder / "changed", {7: range(64)}))
+        self.edit("replay", self.journal, self.base, status=1, text=f"add {path_of(7)}: was 201 8, is 412 1")
 
 
 class Anew(Day):
@@ -141,9 +308,9 @@ class Anew(Day):
         self.put(1, tile=1)
         self.put(2, tile=2)
         self.again()
-        urlopen(Request(f"{self.base}/{path_of(2)}", TILES[0], method="PUT"), timeout=20)
+        self.other(2, 0)
         answer = self.edit("replay", self.journal, self.base, status=1, text="it has accepted 1 edits")
-        self.assertIn(f"edit.sh replay {self.journal} {self.base} 1".encode(), answer.stderr)
+        self.assertIn(f"edit.sh replay {self.journal} {self.base} 1", answer)
         self.edit("replay", self.journal, self.base, 2, status=1, text="it has accepted 1 edits")
         self.edit("replay", self.journal, self.base, 1, status=1, text=f"put {path_of(2)}: was 201 2, is 204 3")
         self.edit("publish", text="published 3")
@@ -178,19 +345,14 @@ class Copied(Day):
     def copy(self):
         """A copy of what is published: its folder, and the number of its edits as an operator reads it in the log."""
         link = self.folder / "kept"
-        answer = self.run_script("backup.sh", self.server.address, link, HIPSD_LOG="info", HIPSD_SERVERS=str(self.folder), HIPSD_UNITS=str(self.folder))
-        self.assertEqual(answer.returncode, 0, answer)
-        prefix, = re.findall(rb"copied: the peer's Survey-Prefix (\d+)", answer.stderr)
+        environment = {"HIPSD_LOG": "info", "HIPSD_SERVERS": str(self.folder), "HIPSD_UNITS": str(self.folder)}
+        prefix, = re.findall(r"copied: the peer's Survey-Prefix (\d+)", self.script(0, "", "backup.sh", self.server.address, link, **environment)[1])
         return link.resolve(), int(prefix)
 
     def lost(self, copy):
         """The server ends, and one begins over the copy."""
         self.server.end()
         self.serve(survey=copy)
-
-    def other(self, leaf, tile):
-        """An edit of somebody without a journal."""
-        urlopen(Request(f"{self.base}/{path_of(leaf)}", TILES[tile], method="PUT"), timeout=20)
 
     def tiles(self):
         """The tiles of all leaves that are edited here, as published."""
@@ -237,7 +399,7 @@ class Copied(Day):
         self.put(2)
         self.edit("publish")
         copy, edits = self.copy()
-        self.edit("batch", body=b"add 3 %d\n" % len(TILES[1]) + TILES[1] + b"remove 1\nreplace 2 %d\n" % len(TILES[2]) + TILES[2], text="accepted 3")
+        self.edit("batch", given=b"add 3 %d\n" % len(TILES[1]) + TILES[1] + b"remove 1\nreplace 2 %d\n" % len(TILES[2]) + TILES[2], text="accepted 3")
         self.edit("add", 3, self.folder / "tile0", status=1)
         self.edit("add", 1, self.folder / "tile3")
         then = self.tiles()
@@ -349,18 +511,14 @@ class Again(Day):
     """An edit that changed nothing is sent again, and no other."""
 
     def stub(self, *replies):
-        server = HTTPServer(("127.0.0.1", free_port()), Replies)
-        server.replies, server.seen = list(replies), []
-        threading.Thread(target=server.serve_forever, args=(0.02,), daemon=True).start()
-        self.addCleanup(server.server_close)
-        self.addCleanup(server.shutdown)
+        server = self.behind(Replies, replies=list(replies), seen=[])
         self.base = f"http://127.0.0.1:{server.server_port}"
         return server
 
     def test_a_server_that_comes(self):
-        port = free_port()
-        self.base = f"http://127.0.0.1:{port}"
-        late = threading.Timer(1.5, self.serve, (port,))
+        address = f"127.0.0.1:{free_port()}"
+        self.base = f"http://{address}"
+        late = threading.Timer(1.5, self.serve, (address,))
         self.addCleanup(late.join)
         late.start()
         self.put(1, text="Survey-Edits: 1", HIPSD_TRIES="6")
@@ -413,7 +571,7 @@ class Again(Day):
         card = f"{'BLANK':8}= {-32768:>20}"
         real.write_bytes(TILES[0].replace(card.encode(), f"{'BLANK':8}= {'-32768.0':>20}".encode()))
         answer = self.put(1, tile=9, status=1, text="card 8 has no value of its kind: BLANK   =             -32768.0")
-        self.assertIn(b"import-hipsgen.py", answer.stderr)
+        self.assertIn("hipsctl import", answer)
         self.edit("replace", 1, self.folder / "tile0", status=1, text="the leaf has no tile")
         self.edit("remove", 1, status=1, text="the leaf has no tile")
         self.put(1)
@@ -462,14 +620,9 @@ class Back(Day):
         self.assertNotEqual([self.served(path) for path in paths], then)
         past = self.folder / "past"
         self.look(6, "--folder", past, text="6 leaf tiles")
-        other = Server(self.folder / "beside", survey=past)
-        self.addCleanup(other.end)
-        self.assertEqual([self.served(path, f"http://{other.address}") for path in paths], then)
+        other = self.enterContext(Server(past))
+        self.assertEqual([self.served(path, other.address) for path in paths], then)
         self.look(6, "--folder", past, status=2, text="is there already")
         self.look(99, "--folder", self.folder / "none", status=1, text="fewer than 99 edits")
         self.assertFalse(list(self.folder.glob("none*")), "something of a state that there wasn't is left")
         self.look(0, "--folder", self.folder / "begin", text="0 leaf tiles")
-
-
-if __name__ == "__main__":
-    check_attacks.main()
