@@ -24,8 +24,8 @@ FOLDER = Path(__file__).resolve().parent
 SCRIPTS = {"atlas": ["./check-atlas.sh"], "headline": ["./quote-headline.py", "--check"], "docs": ["./check-docs.py"]}
 # What needs no built program.
 UNBUILT = {"headline", "docs", "fits", "refusals", "values"}
-# Those that measure how long an answer takes run alone.
-ALONE = ["attacks"]
+# Those that measure how long an answer or a picture takes run alone.
+ALONE = ["attacks", "atlas"]
 # What takes longest begins first.
 LONGEST = ["atlas", "size", "log", "renewal", "edits", "values", "units", "mirror", "catalog", "serve"]
 MOST_SECONDS = 1200
